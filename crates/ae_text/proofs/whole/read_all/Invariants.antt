@@ -1,0 +1,13 @@
+use Rattle.std.proofs.Common.{length, ◌-◌, ◌≤◌}
+use Rattle.std.specs.Io.KnownBytes.{Consumes}
+use Rattle.ae_text.proofs.whole.read_all.Given as goal
+
+abbrev pub invariant-loop-piece : goal.invariant-loop-piece
+invariant-loop-piece g l = record {
+  within : length l.bytes.items ≤ 1048577;
+  bytes : Consumes (g.S.Source.left l.initial.src) (g.S.Source.left l.src) l.bytes.items;
+  later : g.S.Source.faults l.initial.src ≤ g.S.Source.faults l.src;
+}
+
+abbrev pub decreases-loop-piece : goal.decreases-loop-piece
+decreases-loop-piece g l = 1048577 - length l.bytes.items

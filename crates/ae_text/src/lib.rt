@@ -1,0 +1,19 @@
+//! What a run reads from and writes to, and the tokens of a source.
+#![tactic(auto)]
+
+mod memory;
+mod outside;
+mod refusal;
+mod standard;
+mod sure;
+mod token;
+mod whole;
+
+pub use memory::{MemSink, MemSource};
+pub use outside::{Failed, Gate, NoGate, Sink, Source};
+pub use refusal::{Deny, Edge, Refusal, Rule, Spot};
+pub use sqlite_items::{Boxed, Items};
+pub use standard::{StdSink, StdSource};
+pub use sure::SureSource;
+pub use token::{Keyword, Sign, Token, TokenKind};
+pub use whole::{Memory, ReadEnd, WriteFault, read_all, write_all};
