@@ -1,0 +1,15 @@
+//! A program as a tree, and the rules of the language as definitions.
+#![tactic(auto)]
+
+mod form;
+mod lexeme;
+mod table;
+mod tree;
+
+pub use form::{Form, Kind, Perm};
+pub use lexeme::{Lexeme, Lexical};
+pub use table::{ClassTable, Member};
+pub use tree::{
+    Block, Call, Class, Decl, Expr, Field, GroupNeed, KindAt, Me, Method, Name, NameAt, Need, Op,
+    Param, Path, PermAt, Program, Rhs, Stmt, StmtAt, StmtKind, Ty,
+};
