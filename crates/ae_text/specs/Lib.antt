@@ -1,3 +1,4 @@
 pub mod Causes
 pub mod Whole
 pub mod Rules
+pub mod Tokens

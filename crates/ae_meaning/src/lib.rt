@@ -1,0 +1,6 @@
+//! The meaning of a program, in source order.
+#![tactic(auto)]
+
+mod report;
+
+pub use report::{Ending, Meant, RunReport};
