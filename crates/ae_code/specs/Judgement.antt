@@ -1,7 +1,6 @@
 -- Which programs are accepted, and which rule another one breaks first.
 -- Each form has its premises in order; the forms that are not built yet have none.
-use Rattle.std.specs.Prelude.{◌≡◌, ℕ, Bool, true, false, nat_eq, ◌||◌, if◌then◌else◌, List, [], ◌∷◌, Option, None, Some}
-use Rattle.std.specs.List.{IsDistinct}
+use Rattle.std.specs.Prelude.{◌≡◌, ℕ, Bool, true, false, nat_eq, ◌||◌, ◌&&◌, not, IsTrue, if◌then◌else◌, List, [], ◌∷◌, Option, None, Some}
 use Rattle.ae_text.specs.declared.refusal.Spot.{Spot}
 use Rattle.ae_text.specs.declared.refusal.Rule.{Rule}
 use Rattle.ae_text.specs.declared.refusal.Rule.TheVariants as rule
@@ -84,15 +83,19 @@ Breaks p rule at = judge_methods p.methods ≡ Broken rule at
 
 -- ---- what a small source has besides
 
-abbrev pub declares : Action → List ℕ → List ℕ
-declares (Declares ty x e) more = x.name ∷ more
-declares _ more = more
+abbrev pub is_new : Action → Scope → Bool
+is_new (Declares ty x e) old = not (old x.name)
+is_new _ old = true
 
--- the names that the statements declare, in order
-abbrev pub declared_names : Lines → List ℕ
-declared_names End = []
-declared_names (Next at a rest) = declares a (declared_names rest)
+abbrev pub with_declared : Action → Scope → Scope
+with_declared (Declares ty x e) old = and_also x.name old
+with_declared _ old = old
+
+-- each `let` declares a name that is new
+abbrev pub all_new : Lines → Scope → Bool
+all_new End old = true
+all_new (Next at a rest) old = is_new a old && all_new rest (with_declared a old)
 
 -- no name is declared twice, and none is `io`
 abbrev pub DeclaresOnce : Lines → Type 0
-DeclaresOnce b = IsDistinct nat_eq (io ∷ declared_names b)
+DeclaresOnce b = IsTrue (all_new b (and_also io nobody))

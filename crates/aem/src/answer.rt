@@ -1,0 +1,32 @@
+// What the top call answers.
+use ae_meaning::RunReport;
+use ae_text::Refusal;
+
+/// What is wrong with the command words.
+#[derive(Clone, Copy, Debug, PartialEq, Eq)]
+pub enum UsageKind {
+    /// There is no word.
+    NoMode,
+    /// The first word is no mode.
+    UnknownMode,
+    /// The words behind the mode are not those that it takes.
+    Words,
+}
+
+/// What was done.
+#[derive(Debug, Drop)]
+pub enum What {
+    Usage(UsageKind),
+    ReadFault,
+    Refused(Refusal),
+    Ran(RunReport),
+    Memory,
+}
+
+/// The status of the process, what was done, and how many bytes of the text were written where the sink failed.
+#[derive(Debug, Drop)]
+pub struct Answer {
+    pub status: u8,
+    pub what: What,
+    pub cut: Option<u64>,
+}
