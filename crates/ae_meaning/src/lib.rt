@@ -1,6 +1,8 @@
 //! The meaning of a program, in source order.
 #![tactic(auto)]
 
+mod locals;
 mod report;
+mod value;
 
 pub use report::{Ending, Meant, RunReport};
