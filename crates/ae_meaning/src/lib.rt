@@ -3,6 +3,8 @@
 
 mod locals;
 mod report;
+mod run;
 mod value;
 
 pub use report::{Ending, Meant, RunReport};
+pub use run::evaluate;

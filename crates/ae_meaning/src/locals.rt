@@ -1,5 +1,5 @@
 // The values of a method's names.
-ghost use Rattle.std.specs.Prelude.{◌≡◌, OnOk};
+ghost use Rattle.std.specs.Prelude.{◌≡◌, ◌<◌, length, OnOk};
 ghost use Rattle.ae_meaning.specs.Values.{empty, with};
 ghost use Rattle.ae_meaning.specs.Running.{env_of};
 
@@ -31,15 +31,24 @@ impl Locals {
         }
     }
 
+    // Names up to this one have a place.
+    fn make_room(&mut self, name: Name) -> Result<(), AllocError>
+        ensures within { OnOk result (name < length self.new.values.items) }
+        ensures same { OnOk result (env_of self.new ≡ env_of self.old) }
+    {
+        let least = name as usize + 1;
+        if self.values.len() < least {
+            self.values.resize(least, None)?;
+        }
+        Ok(())
+    }
+
     /// Gives a name its value, in place of an older one.
     pub fn put(&mut self, name: Name, value: i64) -> Result<(), AllocError>
         ensures { OnOk result (env_of self.new ≡ with name value (env_of self.old)) }
     {
-        let at = name as usize;
-        if at >= self.values.len() {
-            self.values.resize(at + 1, None)?;
-        }
-        self.values[at] = Some(value);
+        self.make_room(name)?;
+        self.values[name as usize] = Some(value);
         Ok(())
     }
 }

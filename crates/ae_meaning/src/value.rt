@@ -15,6 +15,7 @@ pub enum Fault {
 }
 
 const OVERFLOW: Fault = Fault::Trap(1);
+
 const ZERO_DIVISOR: Fault = Fault::Trap(2);
 
 // Cut towards zero. The least number divided by -1 does not fit.
