@@ -1,2 +1,3 @@
 pub mod Values
 pub mod Meaning
+pub mod Running

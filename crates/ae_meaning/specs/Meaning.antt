@@ -1,12 +1,12 @@
 -- The meaning of a program: its statements in source order, up to the first ending.
-use Rattle.std.specs.Prelude.{◌≡◌, ℕ, nat_eq, if◌then◌else◌, ℤ, List, [], ◌∷◌, ◌++◌, Option, None, Some, is_some}
+use Rattle.std.specs.Prelude.{ℕ, nat_eq, if◌then◌else◌, ℤ, List, [], ◌∷◌, ◌++◌, Option, None, Some, is_some}
 use Rattle.std.specs.Fmt.{signed_decimal}
 use Rattle.ae_text.specs.declared.refusal.Spot.{Spot}
 use Rattle.ae_code.specs.Plain.{RightSide, Value, Taken, Zeros, Made, Returned, Lines, End, Next, Definition, Code}
 use Rattle.ae_code.specs.Plain.{Action, Declares, Assigns, Stores, StoresAt, Calls, Chooses, ChoosesElse, Repeats, Groups, Splits, Locks, Freezes, Shares, Prints, PrintsText, Asserts, Returns}
 use Rattle.ae_code.specs.Names.{main}
 use Rattle.ae_meaning.specs.declared.report.Ending.{Ending}
-use Rattle.ae_meaning.specs.declared.report.Ending.TheVariants.{Done, Trap, Fuel}
+use Rattle.ae_meaning.specs.declared.report.Ending.TheVariants.{Done, Trap}
 use Rattle.ae_meaning.specs.Values.{Env, empty, with, Outcome, Fine, Traps, Lacks, value}
 
 -- what statements find and leave: the locals, and the bytes printed

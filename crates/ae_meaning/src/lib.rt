@@ -1,6 +1,10 @@
 //! The meaning of a program, in source order.
 #![tactic(auto)]
 
+mod locals;
 mod report;
+mod run;
+mod value;
 
 pub use report::{Ending, Meant, RunReport};
+pub use run::evaluate;

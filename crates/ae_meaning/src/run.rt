@@ -1,0 +1,165 @@
+// Runs a program in source order.
+ghost use Rattle.std.specs.Prelude.{◌≡◌, ◌++◌, ◌∷◌, [], map, IfOk, OnOk, IsSome, MatchOption};
+ghost use Rattle.std.specs.Fmt.{signed_decimal};
+ghost use Rattle.ae_code.specs.Plain.{End};
+ghost use Rattle.ae_code.specs.Shown.{expression, right_side, action, braced, definition, code};
+ghost use Rattle.ae_code.specs.Judgement.{Accepted};
+ghost use Rattle.ae_meaning.specs.Values.{value};
+ghost use Rattle.ae_meaning.specs.Meaning.{one, many, main_body, begin, ended, seq};
+ghost use Rattle.ae_meaning.specs.Running.{env_of, held, Found, sought, Answers};
+
+use crate::locals::Locals;
+use crate::report::{Ending, Meant};
+use crate::value::{Fault, value_of};
+use ae_code::{Block, Expr, Method, Program, Rhs, Stmt, StmtKind};
+use ae_text::{Items, Memory, Spot};
+use std::alloc::{AllocError, Global};
+
+// `main` is the second name of every program.
+const MAIN: u32 = 1;
+
+// The locals, and the bytes printed so far.
+#[derive(Drop)]
+pub struct Running {
+    pub locals: Locals,
+    pub log: Vec<u8>,
+}
+
+// Why the rest is not run: the run ended, or it came to a form that does not run yet, or memory was refused.
+#[derive(Clone, Copy, Debug, PartialEq, Eq)]
+pub enum Stop {
+    Ended(Ending),
+    Lack,
+    Memory,
+}
+
+impl From<AllocError> for Stop {
+    ghost use Rattle.ae_meaning.specs.declared.run.Stop.{Stop};
+
+    ghost from_gives = { λ _ e. e ≡ Stop.Memory };
+
+    fn from(_error: AllocError) -> Stop {
+        Stop::Memory
+    }
+}
+
+// The value of an expression of the statement at this place.
+fn found(expr: &Expr, locals: &Locals, at: Spot) -> Result<i64, Stop>
+    ensures { Found (value (expression expr.now) (env_of locals.now)) at result }
+{
+    match value_of(expr, locals) {
+        Ok(value) => Ok(value),
+        Err(Fault::Trap(code)) => Err(Stop::Ended(Ending::Trap { code, at })),
+        Err(Fault::Lack) => Err(Stop::Lack),
+    }
+}
+
+// The value of a right side.
+fn right(rhs: &Rhs, locals: &Locals, at: Spot) -> Result<i64, Stop>
+    ensures { Found (sought (right_side rhs.now) (env_of locals.now)) at result }
+{
+    match rhs {
+        Rhs::Expr(expr) => found(expr, locals, at),
+        Rhs::Take(..) | Rhs::Ints(..) | Rhs::New(..) | Rhs::Call(_) => Err(Stop::Lack),
+    }
+}
+
+// The number and a line feed.
+fn print(alloc: Global, log: &mut Vec<u8>, value: i64) -> Result<(), AllocError>
+    ensures { OnOk result (log.new.items ≡ log.old.items ++ (signed_decimal value ++ 10 ∷ [])) }
+{
+    let text = format!(in alloc; "{value}\n")?;
+    log.extend_from_slice(text.as_bytes())
+}
+
+// One statement.
+#[tactic(auto, using(crate::proofs::Rules::forms))]
+fn run_stmt(alloc: Global, stmt: &Stmt, state: &mut Running) -> Result<(), Stop>
+    ensures { Answers (one stmt.now.at (action stmt.now.kind) (held state.old)) result (held state.new) }
+{
+    let at = stmt.at;
+    match &stmt.kind {
+        StmtKind::Let(_, name, rhs) | StmtKind::Assign(name, rhs) => {
+            let value = right(rhs, &state.locals, at)?;
+            state.locals.put(name.name, value)?;
+            Ok(())
+        }
+        StmtKind::PrintExpr(expr) => {
+            let value = found(expr, &state.locals, at)?;
+            print(alloc, &mut state.log, value)?;
+            Ok(())
+        }
+        StmtKind::Field(..)
+        | StmtKind::Index(..)
+        | StmtKind::Call(_)
+        | StmtKind::If(..)
+        | StmtKind::While(..)
+        | StmtKind::Group(_)
+        | StmtKind::Split(..)
+        | StmtKind::Atomic(..)
+        | StmtKind::Freeze(_)
+        | StmtKind::Share(..)
+        | StmtKind::PrintText(_)
+        | StmtKind::Assert(_)
+        | StmtKind::Return(_) => Err(Stop::Lack),
+    }
+}
+
+// The statements of a block, up to the first that does not go through.
+#[tactic(auto, using(crate::proofs::Rules::forms))]
+fn run_block(alloc: Global, block: &Block, state: &mut Running) -> Result<(), Stop>
+    ensures { Answers (many (braced block.now).lines (held state.old)) result (held state.new) }
+{
+    for stmt in block.stmts.as_slice() {
+        run_stmt(alloc, stmt, state)?;
+    }
+    Ok(())
+}
+
+// The first top-level method named main.
+#[tactic(auto, using(crate::proofs::Rules::forms))]
+fn main_method(program: &Program) -> Option<&Method>
+    ensures { MatchOption result (main_body (map definition program.now.methods) ≡ End) (λ m. main_body (map definition program.now.methods) ≡ (braced m.now.body).lines) }
+{
+    for method in program.methods.as_slice() {
+        if method.class.is_none() && method.name.name == MAIN {
+            return Some(method);
+        }
+    }
+    None
+}
+
+// Runs the method main from no locals and nothing printed.
+#[tactic(auto, using(crate::proofs::Rules::forms))]
+fn run_main(alloc: Global, program: &Program) -> Result<Meant, Memory>
+    ensures ending { IfOk result (λ m. m.ending ≡ (ended (many (main_body (map definition program.now.methods)) begin)).ending) }
+    ensures out { IfOk result (λ m. m.out ≡ (ended (many (main_body (map definition program.now.methods)) begin)).out) }
+{
+    let mut state = Running {
+        locals: Locals::new(alloc),
+        log: Vec::new(alloc),
+    };
+    let answer = match main_method(program) {
+        Some(main) => run_block(alloc, &main.body, &mut state),
+        None => Ok(()),
+    };
+    let ending = match answer {
+        Ok(()) => Some(Ending::Done),
+        Err(Stop::Ended(ending)) => Some(ending),
+        Err(Stop::Lack) => None,
+        Err(Stop::Memory) => return Err(Memory),
+    };
+    let out = Items::from_vec(state.log);
+    Ok(Meant { ending, out })
+}
+
+/// Runs an accepted program in source order, up to its first ending. No program uses `ints` and `fuel` yet.
+#[tactic(auto, using(crate::proofs::Rules::forms))]
+pub fn evaluate(alloc: Global, program: &Program, ints: &[i64], fuel: u32) -> Result<Meant, Memory>
+    requires accepted { Accepted (code program.now) }
+    ensures ending { IfOk result (λ m. m.ending ≡ (seq (code program.now) ints.now fuel).ending) }
+    ensures out { IfOk result (λ m. m.out ≡ (seq (code program.now) ints.now fuel).out) }
+    ensures ends { IfOk result (λ m. IsSome m.ending) }
+{
+    run_main(alloc, program)
+}
