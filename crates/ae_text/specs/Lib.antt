@@ -2,3 +2,4 @@ pub mod Causes
 pub mod Whole
 pub mod Rules
 pub mod Tokens
+pub mod Scan

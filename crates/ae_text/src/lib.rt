@@ -1,17 +1,22 @@
 //! What a run reads from and writes to, and the tokens of a source.
 #![tactic(auto)]
 
+mod bytes;
 mod memory;
 mod outside;
 mod refusal;
+mod scan;
+mod signs;
 mod standard;
 mod sure;
 mod token;
 mod whole;
+mod words;
 
 pub use memory::{MemSink, MemSource};
 pub use outside::{Failed, Gate, NoGate, Sink, Source};
 pub use refusal::{Deny, Edge, Refusal, Rule, Spot};
+pub use scan::{lex, tokens_are_unique};
 pub use sqlite_items::{Boxed, Items};
 pub use standard::{StdSink, StdSource};
 pub use sure::SureSource;

@@ -1,5 +1,5 @@
 // A whole text, read to the source's end and written to the sink.
-ghost use Rattle.std.specs.Prelude.{◌≡◌, ◌≤◌, ◌<◌, ◌↔◌, List, ℕ, length, take, Ok, Err, MatchResult, OnOk, IfErr, IfOk, IsErrOf, ⊤};
+ghost use Rattle.std.specs.Prelude.{◌≡◌, ◌≤◌, ◌<◌, ◌↔◌, List, ℕ, length, take, Ok, Err, MatchResult, OnOk, IfErr, IfOk, IsErrOf, IsOk, []};
 ghost use Rattle.std.specs.Io.KnownBytes.{Consumes, IsAtEnd, Appends};
 ghost use Rattle.ae_text.specs.Causes.{Rose};
 ghost use Rattle.ae_text.specs.Whole.{ReadsWhole, WritesWhole};
@@ -62,6 +62,7 @@ pub fn write_all<K: Sink>(sink: &mut K, text: &[u8]) -> Result<(), WriteFault>
     ensures bytes { WritesWhole (K.taken sink.old) (K.taken sink.new) text.now result }
     ensures later { K.faults sink.old ≤ K.faults sink.new }
     ensures cause { IfErr result (λ _. Rose (K.faults sink.old) (K.faults sink.new)) }
+    ensures nothing { text.now ≡ [] → OnOk result (sink.new ≡ sink.old) × IsOk result }
 {
     let mut done = 0;
     while done < text.len() {

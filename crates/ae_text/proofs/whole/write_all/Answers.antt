@@ -8,4 +8,5 @@ loop-done-preserved g c = record {
   within = search rules;
   bytes = rw (take-add c.loop-done.done c.in-Ok.count c.args.text.now, ← c.split_at.ensures.back) (Appends-trans _ _ _ _ _ c.loop-done.invariant.bytes c.in-Ok.ensures.bytes);
   later = omega (arith, c.in-Ok.ensures.cause.later);
+  unwritten = λ e. absurd (omega (arith, c.in-Ok.ensures.some));
 }

@@ -1,4 +1,4 @@
-use Rattle.std.proofs.Common.{length, ◌-◌, ◌≤◌, take}
+use Rattle.std.proofs.Common.{length, ◌≡◌, ◌-◌, ◌≤◌, take}
 use Rattle.std.specs.Io.KnownBytes.{Appends}
 use Rattle.ae_text.proofs.whole.write_all.Given as goal
 
@@ -7,6 +7,7 @@ invariant-loop-done g l = record {
   within : l.done ≤ length l.text;
   bytes : Appends (g.K.Sink.taken l.initial.sink) (g.K.Sink.taken l.sink) (take l.done l.text);
   later : g.K.Sink.faults l.initial.sink ≤ g.K.Sink.faults l.sink;
+  unwritten : l.done ≡ 0 → l.sink ≡ l.initial.sink;
 }
 
 abbrev pub decreases-loop-done : goal.decreases-loop-done

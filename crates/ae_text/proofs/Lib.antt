@@ -1,0 +1,4 @@
+pub mod ScanLemmas
+pub mod SpellingLemmas
+pub mod LexLemmas
+pub mod CutLemmas
