@@ -5,3 +5,4 @@ pub mod Grammar
 pub mod Limits
 pub mod Built
 pub mod Judgement
+pub mod Uses

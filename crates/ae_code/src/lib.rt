@@ -5,6 +5,7 @@ mod form;
 mod lexeme;
 mod table;
 mod tree;
+mod uses;
 
 pub use form::{Form, Kind, Perm};
 pub use lexeme::{Lexeme, Lexical};
@@ -13,3 +14,4 @@ pub use tree::{
     Block, Call, Class, Decl, Expr, Field, GroupNeed, KindAt, Me, Method, Name, NameAt, Need, Op,
     Param, Path, PermAt, Program, Rhs, Stmt, StmtAt, StmtKind, Ty,
 };
+pub use uses::{Footprint, Mode, Resource, Use};
