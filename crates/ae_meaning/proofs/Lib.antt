@@ -1,3 +1,5 @@
 pub mod Rules
 pub mod Names
 pub mod Fits
+pub mod Effects
+pub mod Laws

@@ -1,3 +1,5 @@
 pub mod Values
 pub mod Meaning
 pub mod Running
+pub mod Uses
+pub mod Frame

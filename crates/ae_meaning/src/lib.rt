@@ -1,10 +1,14 @@
 //! The meaning of a program, in source order.
 #![tactic(auto)]
 
+mod law;
 mod locals;
 mod report;
 mod run;
 mod value;
 
+pub use law::{
+    statements_apart_commute, statements_change_what_they_write, statements_read_what_they_use,
+};
 pub use report::{Ending, Meant, RunReport};
 pub use run::evaluate;

@@ -1,0 +1,102 @@
+-- The laws on what statements use, from their effects.
+use Rattle.std.proofs.Common.{◌≡◌, ℕ, ℤ, Bool, true, false, ◌&&◌, if◌then◌else◌, nat_eq, ◌++◌, Option, Some, refl, ap, sym, ◌∙◌, subst, arith}
+use Rattle.std.proofs.lemmas.Bool.Decides.{nat_tests}
+use Rattle.ae_text.specs.declared.refusal.Spot.{Spot}
+use Rattle.ae_code.specs.Plain.{Action}
+use Rattle.ae_meaning.specs.Values.{Env, with}
+use Rattle.ae_meaning.specs.Meaning.{State, Run, Went, bound, one}
+use Rattle.ae_meaning.specs.Uses.{uses_by_read, uses_by_write, uses_log, uses, Apart}
+use Rattle.ae_meaning.specs.Frame.{View, Agree, AgreeAfter, ReadsItsUses, Keeps, ChangesItsWrites, Commute, ApartCommute}
+use Rattle.ae_meaning.proofs.Names.{same}
+use Rattle.ae_meaning.proofs.Effects.{SameOn, Effect, Binds, Adds, Fails, Halts, added, perform, effect, performs, effect_same, Allowed, allowed, or_left, or_right, not_both, one_of, nat_eq_self}
+
+-- one effect on two states that agree
+with_agrees : (u : ℕ → Bool) (x : ℕ) (v : ℤ) (e f : Env) → SameOn u e f → SameOn u (with x v e) (with x v f)
+with_agrees u x v e f h = λ y t. ap (λ o. if nat_eq x y then Some v else o) (h y t)
+
+perform_agrees : (at : Spot) (k : Effect) (v : View) (s t : State) → Agree v s t → AgreeAfter v (perform at k s) (perform at k t)
+perform_agrees at (Binds x n) v s t h = record { local = with_agrees v.local x n s.env t.env h.local; log = h.log }
+perform_agrees at (Adds bytes) v s t h = record { local = h.local; log = λ e. ap (λ l. l ++ bytes) (h.log e) }
+perform_agrees at (Fails code) v s t h = (refl, h.log)
+perform_agrees at Halts v s t h = h.log
+
+pub reads_its_uses : ReadsItsUses
+reads_its_uses at a v w s t h =
+    let e : effect a s.env ≡ effect a t.env = effect_same a s.env t.env (λ y r. h.local y (w y r)) in
+    rw (performs at a s, performs at a t, e) (perform_agrees at (effect a t.env) v s t h)
+
+unchanged : (b : Bool) (v : ℤ) (o : Option ℤ) → b ≡ false → (if b then Some v else o) ≡ o
+unchanged true v o h = cc
+unchanged false v o h = refl
+
+perform_keeps : (at : Spot) (a : Action) (k : Effect) → Allowed a k → (s : State) → Keeps a s (perform at k s)
+perform_keeps at a (Binds x v) w s = (λ y h. unchanged (nat_eq x y) v (s.env y) (sym (w y) ∙ h), λ h. refl)
+perform_keeps at a (Adds bytes) w s = (λ y h. refl, λ h. absurd (cc))
+perform_keeps at a (Fails code) w s = refl
+perform_keeps at a Halts w s = refl
+
+pub changes_its_writes : ChangesItsWrites
+changes_its_writes at a s = rw (performs at a s) (perform_keeps at a (effect a s.env) (allowed a s.env) s)
+
+flipped : (b c : Bool) → (b && c) ≡ false → (c && b) ≡ false
+flipped true true h = cc
+flipped true false h = refl
+flipped false true h = refl
+flipped false false h = refl
+
+apart-flip : (a b : Action) → Apart a b → Apart b a
+apart-flip a b p = record { first = p.second; second = p.first; log = flipped (uses_log a) (uses_log b) p.log }
+
+-- a statement that went through leaves the other's effect as it was
+after_other : (at1 at2 : Spot) (a b : Action) → Apart a b → (s t : State) → one at1 a s ≡ Went t → one at2 b t ≡ perform at2 (effect b s.env) t
+after_other at1 at2 a b p s t e =
+    let k : Keeps a s (Went t) = subst (λ (r : Run). Keeps a s r) e (changes_its_writes at1 a s) in
+    let unwritten : (y : ℕ) → uses_by_read b y ≡ true → uses_by_write a y ≡ false =
+    λ y r. one_of (uses_by_write a y) (λ w. not_both (uses b y) (or_left (uses_by_read b y) (uses_by_write b y) r) (p.first y w)) in
+    performs at2 b t ∙ ap (λ k. perform at2 k t) (effect_same b t.env s.env (λ y r. k.0 y (unwritten y r)))
+
+with_swaps : (x y : ℕ) (v w : ℤ) (e : Env) → nat_eq x y ≡ false → (z : ℕ) → with x v (with y w e) z ≡ with y w (with x v e) z
+with_swaps x y v w e h z = grind (arith, nat_tests)
+
+two_names : (a b : Action) → Apart a b → (x y : ℕ) → ((z : ℕ) → uses_by_write a z ≡ nat_eq x z) → ((z : ℕ) → uses_by_write b z ≡ nat_eq y z) → nat_eq x y ≡ false
+two_names a b p x y k l =
+    let w : uses_by_write b y ≡ true = l y ∙ nat_eq_self y in
+    sym (k y) ∙ one_of (uses_by_write a y) (λ t. not_both (uses a y) (or_right (uses_by_read a y) (uses_by_write a y) t) (p.second y w))
+
+both_logs : (b c : Bool) → b ≡ true → c ≡ true → (b && c) ≡ false → ⊥
+both_logs true true p q h = cc
+both_logs true false p q h = cc
+both_logs false c p q h = cc
+
+effects_commute : (at1 at2 : Spot) (a b : Action) → Apart a b → (k l : Effect) → Allowed a k → Allowed b l → (s : State) (f g : State → Run)
+    → ((t : State) → perform at1 k s ≡ Went t → g t ≡ perform at2 l t) → ((t : State) → perform at2 l s ≡ Went t → f t ≡ perform at1 k t)
+    → Commute f g (perform at1 k s) (perform at2 l s)
+effects_commute at1 at2 a b p (Binds x v) (Binds y w) k l s f g m n = (
+  bound y w (bound x v s),
+  m (bound x v s) refl,
+  n (bound y w s) refl ∙ ap (λ (e : Env). Went (record { env = e; log = s.log })) (same (with x v (with y w s.env)) (with y w (with x v s.env)) (with_swaps x y v w s.env (two_names a b p x y k l))),
+)
+effects_commute at1 at2 a b p (Binds x v) (Adds more) k l s f g m n = (added more (bound x v s), m (bound x v s) refl, n (added more s) refl)
+effects_commute at1 at2 a b p (Binds x v) (Fails code) k l s f g m n = m (bound x v s) refl
+effects_commute at1 at2 a b p (Binds x v) Halts k l s f g m n = m (bound x v s) refl
+effects_commute at1 at2 a b p (Adds bytes) (Binds y w) k l s f g m n = (bound y w (added bytes s), m (added bytes s) refl, n (bound y w s) refl)
+effects_commute at1 at2 a b p (Adds bytes) (Adds more) k l s f g m n = absurd (both_logs (uses_log a) (uses_log b) k l p.log)
+effects_commute at1 at2 a b p (Adds bytes) (Fails code) k l s f g m n = m (added bytes s) refl
+effects_commute at1 at2 a b p (Adds bytes) Halts k l s f g m n = m (added bytes s) refl
+effects_commute at1 at2 a b p (Fails c) (Binds y w) k l s f g m n = n (bound y w s) refl
+effects_commute at1 at2 a b p (Fails c) (Adds more) k l s f g m n = n (added more s) refl
+effects_commute at1 at2 a b p (Fails c) (Fails code) k l s f g m n = tt
+effects_commute at1 at2 a b p (Fails c) Halts k l s f g m n = tt
+effects_commute at1 at2 a b p Halts (Binds y w) k l s f g m n = n (bound y w s) refl
+effects_commute at1 at2 a b p Halts (Adds more) k l s f g m n = n (added more s) refl
+effects_commute at1 at2 a b p Halts (Fails code) k l s f g m n = tt
+effects_commute at1 at2 a b p Halts Halts k l s f g m n = tt
+
+pub apart_commute : ApartCommute
+apart_commute at1 at2 a b p s =
+    let e : one at1 a s ≡ perform at1 (effect a s.env) s = performs at1 a s in
+    let f : one at2 b s ≡ perform at2 (effect b s.env) s = performs at2 b s in
+    rw (e, f)
+    (effects_commute at1 at2 a b p (effect a s.env) (effect b s.env) (allowed a s.env) (allowed b s.env) s (one at1 a) (one at2 b)
+    (λ t h. after_other at1 at2 a b p s t (e ∙ h))
+    (λ t h. after_other at2 at1 b a (apart-flip a b p) s t (f ∙ h)))
