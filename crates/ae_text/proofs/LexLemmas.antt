@@ -1,13 +1,12 @@
 -- What begins a text is one piece.
-use Rattle.std.proofs.Common.{◌≡◌, ◌≢◌, ℕ, zero, suc, ◌+◌, ◌-◌, ◌*◌, ◌^◌, ◌<◌, ◌≤◌, pos, Bool, true, false, ◌||◌, ◌&&◌, nat_le, ◌==◌, if◌then◌else◌, IsTrue, List, [], ◌∷◌, ◌++◌, length, take, drop, Option, Some, None, ◌⊎◌, inl, inr, refl, sym, ap, ◌∙◌, subst, append_assoc, append-nil, length-append, arith, rules, tests}
-use Rattle.ae_text.specs.declared.token.Keyword.{Keyword}
+use Rattle.std.proofs.Common.{◌≡◌, ℕ, ◌^◌, ◌<◌, ◌≤◌, pos, Bool, true, false, IsTrue, [], ◌∷◌, ◌++◌, Some, None, ◌⊎◌, inl, inr, refl, sym, ap, ◌∙◌, subst, append-nil, arith, rules, tests}
 use Rattle.ae_text.specs.declared.token.Sign.{Sign}
 use Rattle.ae_text.specs.declared.token.TokenKind.{TokenKind}
 use Rattle.ae_text.specs.declared.token.TokenKind.TheVariants as t
 use Rattle.ae_text.specs.declared.refusal.Rule.{Rule}
 use Rattle.ae_text.specs.declared.refusal.Rule.TheVariants as rule
-use Rattle.ae_text.specs.Tokens.{Text, Each, Stops, is_white, is_digit, is_letter, is_word, keyword_text, sign_text, IsWord, IsNumber, value, Spells, IsLongest, NoComment, IsInRange, IsToken, Piece, White, Tok, spelling, IsPiece, text_of, IsFault}
-use Rattle.ae_text.specs.Scan.{Spans, Cuts, NoSign, SignThen}
+use Rattle.ae_text.specs.Tokens.{Text, Each, Stops, is_white, is_digit, is_letter, is_word, sign_text, IsWord, IsNumber, value, Spells, IsLongest, NoComment, IsInRange, Piece, White, Tok, spelling, IsPiece, IsFault}
+use Rattle.ae_text.specs.Scan.{Spans, Cuts, SignThen}
 use Rattle.ae_text.proofs.SpellingLemmas.{keyword_is_word, keyword_unique, sign_unique, sign_first, signs_start}
 
 -- ---- bytes

@@ -1,6 +1,6 @@
 -- Spans of a class, and the spellings that begin with a byte.
-use Rattle.std.proofs.Common.{◌≡◌, ◌≢◌, ℕ, zero, suc, ◌+◌, ◌-◌, ◌*◌, ◌^◌, ◌<◌, ◌≤◌, Bool, true, false, IsTrue, List, [], ◌∷◌, ◌++◌, length, take, drop, get_or, Option, Some, None, refl, sym, ap, ◌∙◌, subst, append_assoc, append-nil, length-append, arith, rules, tests}
-use Rattle.ae_text.specs.Tokens.{Text, Each, Stops, is_digit, value, value_from}
+use Rattle.std.proofs.Common.{◌≡◌, ℕ, zero, suc, ◌+◌, ◌-◌, ◌*◌, ◌<◌, ◌≤◌, Bool, true, false, IsTrue, [], ◌∷◌, length, take, drop, get_or, subst, arith, rules, tests}
+use Rattle.ae_text.specs.Tokens.{Text, Each, Stops, is_digit, value_from}
 
 pub each_more : (c : ℕ → Bool) (text : Text) (i : ℕ) → i < length text → Each c (take i text) → c (get_or text i 0) ≡ true → Each c (take (i + 1) text)
 each_more c text i h e t = let P : ℕ → Type 0 = λ n. Each c (take n text) in let s : suc i ≡ i + 1 = omega arith in subst P s (go text i h e t)

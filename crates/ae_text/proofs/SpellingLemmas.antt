@@ -1,10 +1,10 @@
 -- Keywords and signs: each is told from the others by its text.
-use Rattle.std.proofs.Common.{◌≡◌, ◌≢◌, ◌==◌, if◌then◌else◌, ℕ, zero, suc, ◌+◌, ◌<◌, ◌≤◌, take, get_or, Bool, true, false, ◌||◌, ◌&&◌, nat_le, IsTrue, List, [], ◌∷◌, ◌++◌, length, Option, Some, None, refl, sym, ap, ◌∙◌, subst, arith}
+use Rattle.std.proofs.Common.{◌≡◌, ◌≢◌, ◌==◌, if◌then◌else◌, ℕ, zero, suc, ◌+◌, ◌<◌, take, get_or, Bool, true, false, ◌||◌, ◌&&◌, nat_le, IsTrue, List, [], ◌∷◌, length, Option, Some, None, refl, sym, ap, ◌∙◌, subst, arith}
 use Rattle.ae_text.specs.declared.token.Keyword.{Keyword}
 use Rattle.ae_text.specs.declared.token.Keyword.TheVariants as word
 use Rattle.ae_text.specs.declared.token.Sign.{Sign}
 use Rattle.ae_text.specs.declared.token.Sign.TheVariants as sign
-use Rattle.ae_text.specs.Tokens.{Text, Each, is_white, is_digit, is_letter, is_word, keyword_text, sign_text, IsWord}
+use Rattle.ae_text.specs.Tokens.{Text, Each, is_digit, is_letter, is_word, keyword_text, sign_text, IsWord}
 
 abbrev pub keywords : List Keyword
 keywords = word.Ints ∷ word.Assert ∷ word.Atomic ∷ word.Bool ∷ word.Class ∷ word.Else ∷ word.Exclusive ∷ word.False ∷ word.Freeze ∷ word.Group ∷ word.If ∷ word.Immutable ∷ word.Int ∷ word.Into ∷ word.Len ∷ word.Lent ∷ word.Let ∷ word.Method ∷ word.New ∷ word.None ∷ word.Null ∷ word.Open ∷ word.Print ∷ word.Protected ∷ word.Return ∷ word.Share ∷ word.Shared ∷ word.Split ∷ word.Take ∷ word.This ∷ word.True ∷ word.Unique ∷ word.Void ∷ word.While ∷ word.With ∷ []

@@ -1,5 +1,5 @@
 -- What is taken of a source that is read to its end, and what a sink has of a text that is written to it.
-use Rattle.std.specs.Prelude.{◌≡◌, ℕ, ◌+◌, ◌≤◌, List, length, take, Result, Ok, Err, MatchResult, Option}
+use Rattle.std.specs.Prelude.{◌≡◌, ℕ, ◌+◌, ◌≤◌, List, length, take, Result, Ok, Err, Option}
 use Rattle.std.specs.Io.KnownBytes.{Consumes, IsAtEnd, Appends}
 use Rattle.ae_text.specs.declared.whole.ReadEnd.{ReadEnd}
 use Rattle.ae_text.specs.declared.whole.ReadEnd.TheVariants.{ReadFault, TooLong, Memory}

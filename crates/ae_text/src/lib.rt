@@ -9,6 +9,8 @@ mod scan;
 mod signs;
 mod standard;
 mod sure;
+#[cfg(test)]
+mod tests;
 mod token;
 mod whole;
 mod words;
@@ -19,6 +21,6 @@ pub use refusal::{Deny, Edge, Refusal, Rule, Spot};
 pub use scan::{lex, tokens_are_unique};
 pub use sqlite_items::{Boxed, Items};
 pub use standard::{StdSink, StdSource};
-pub use sure::SureSource;
+pub use sure::{SureSink, SureSource};
 pub use token::{Keyword, Sign, Token, TokenKind};
 pub use whole::{Memory, ReadEnd, WriteFault, read_all, write_all};

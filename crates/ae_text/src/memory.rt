@@ -81,6 +81,11 @@ pub struct MemSink {
 impl MemSink {
     pub fn new(alloc: Global, most: usize, fail: Items<u64>) -> MemSink
         requires { 0 < most }
+        ensures bytes { result.bytes.items ≡ [] }
+        ensures most { result.most ≡ most }
+        ensures fail { result.fail ≡ fail }
+        ensures calls { result.calls ≡ 0 }
+        ensures faults { result.faults ≡ 0 }
     {
         MemSink {
             bytes: Vec::new(alloc),

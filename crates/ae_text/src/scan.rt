@@ -146,13 +146,7 @@ pub fn lex(alloc: Global, text: &[u8]) -> Result<Items<Token>, Deny>
             Ok((kind, after)) => {
                 let begin = text.len() - rest.len();
                 let len = rest.len() - after.len();
-                push_token(
-                    &mut tokens,
-                    kind,
-                    begin as u64,
-                    (begin + len) as u64,
-                    spot,
-                )?;
+                push_token(&mut tokens, kind, begin as u64, (begin + len) as u64, spot)?;
                 spot = advance(spot, &rest[..len]);
                 rest = after;
             }
@@ -172,5 +166,4 @@ pub fn lex(alloc: Global, text: &[u8]) -> Result<Items<Token>, Deny>
 /// No text has two lists of tokens.
 pub fn tokens_are_unique()
     ensures { (text : Text) (a b : List Token) → Lexes text a → Lexes text b → a ≡ b }
-{
-}
+{}

@@ -1,2 +1,5 @@
 pub mod Names
 pub mod Words
+pub mod Small
+pub mod Texts
+pub mod Top

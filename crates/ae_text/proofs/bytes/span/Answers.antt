@@ -1,4 +1,4 @@
-use Rattle.std.proofs.Common.{◌≡◌, List, ℕ, ◌++◌, length, take, drop, sym, ap, ◌∙◌, subst, take-append-drop, arith}
+use Rattle.std.proofs.Common.{List, ℕ, ◌++◌, drop, sym, ap, ◌∙◌, subst, take-append-drop, arith}
 use Rattle.ae_text.specs.Tokens.{Each, Stops}
 use Rattle.ae_text.specs.Scan.{in_class}
 use Rattle.ae_text.proofs.ScanLemmas.{each_more, stops_at, stops_end}

@@ -1,10 +1,9 @@
-use Rattle.std.proofs.Common.{◌≡◌, ◌-◌, List, refl, sym, ap, ◌∙◌, subst, arith, length}
+use Rattle.std.proofs.Common.{◌-◌, List, sym, ◌∙◌, subst, arith, length}
 use Rattle.std.proofs.lemmas.List.{length-take}
-use Rattle.ae_text.specs.declared.refusal.Spot.{Spot}
 use Rattle.ae_text.specs.declared.token.Token.{Token}
 use Rattle.ae_text.specs.declared.refusal.Deny.{Deny}
 use Rattle.ae_text.specs.Tokens.{Lexes}
-use Rattle.ae_text.specs.Scan.{Scanned, IsDenied}
+use Rattle.ae_text.specs.Scan.{IsDenied}
 use Rattle.ae_text.proofs.CutLemmas.{lexes_unique, lexes_whole, lexes_few, scanned_end, scanned_next, scanned_place, scanned_denied, scanned_refused}
 use Rattle.ae_text.proofs.scan.lex.Goals as goal
 

@@ -1,4 +1,4 @@
-use Rattle.std.proofs.Common.{◌≡◌, sym, arith}
+use Rattle.std.proofs.Common.{sym, arith}
 use Rattle.std.proofs.lemmas.Int.{ints}
 use Rattle.ae_text.proofs.LexLemmas.{cuts_white, cuts_word, cuts_number, cuts_sign}
 use Rattle.ae_text.proofs.scan.piece.Goals as goal

@@ -1,4 +1,4 @@
-use Rattle.std.proofs.Common.{◌≡◌, ◌++◌, arith, take, length, length-append}
+use Rattle.std.proofs.Common.{◌++◌, arith, take}
 use Rattle.std.proofs.lemmas.Grind.{common_steps}
 use Rattle.std.proofs.KnownBytes.{Consumes-trans}
 use Rattle.ae_text.proofs.whole.read_all.Goals as goal

@@ -1,6 +1,4 @@
-use Rattle.std.proofs.Common.{◌≡◌, ◌≢◌, ◌+◌, ℕ, List, take, refl, sym, ap, ◌∙◌, subst, arith, rules}
-use Rattle.ae_text.specs.declared.token.Keyword.{Keyword}
-use Rattle.ae_text.specs.Tokens.{keyword_text}
+use Rattle.std.proofs.Common.{◌≡◌, ◌≢◌, ℕ, take, sym, ◌∙◌, subst, arith, rules}
 use Rattle.ae_text.proofs.SpellingLemmas.{NoneIs, none_of, none_more, keywords}
 use Rattle.ae_text.proofs.words.keyword.Goals as goal
 

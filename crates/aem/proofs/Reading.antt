@@ -1,0 +1,55 @@
+-- From texts and tokens to programs.
+use Rattle.std.proofs.Common.{◌≡◌, ℕ, zero, suc, List, [], ◌∷◌, refl, sym, ap, subst, ◌∙◌, IsTrue, true, false, arith, map, length, get_or, Bool}
+use Rattle.std.specs.Prelude.{All}
+use Rattle.ae_text.specs.declared.refusal.Deny.{Deny}
+use Rattle.ae_text.specs.declared.refusal.Deny.TheVariants as d
+use Rattle.ae_code.specs.declared.tree.Method.{Method}
+use Rattle.ae_code.specs.declared.tree.Stmt.{Stmt}
+use Rattle.ae_code.specs.declared.tree.Block.{out-Block}
+use Rattle.ae_code.specs.Plain.{Code, Definition, Lines}
+use Rattle.ae_code.specs.Shown.{definition, lines_from, lines-out}
+use Rattle.ae_code.specs.Names.{io}
+use Rattle.ae_code.specs.Judgement.{nobody, and_also, all_new, DeclaresOnce}
+use Rattle.aem.specs.Small.{IsSource}
+use Rattle.std.proofs.Common.{Option, None}
+use Rattle.ae_text.specs.declared.refusal.Spot.{Spot}
+use Rattle.ae_text.specs.declared.refusal.Rule.{Rule}
+use Rattle.ae_text.specs.declared.refusal.Rule.TheVariants.{TooLong}
+use Rattle.aem.specs.declared.answer.What.{What}
+use Rattle.aem.specs.declared.answer.What.TheVariants as w
+use Rattle.aem.specs.Words.{usage_of}
+use Rattle.aem.specs.Top.{unread_of, IsUnread, HasBody, IsWholeText, IsBroken, IsFirstBroken, IsAnswer, Caused}
+
+-- a call that answers nothing but want of memory to a source has refused no source
+pub unread : (text : List ℕ) (e : Deny) → ((p : Code) → IsSource text p → e ≡ d.Memory) → IsUnread text (unread_of e)
+unread text (d.Refused r) h = (refl, λ p s. let e : d.Refused r ≡ d.Memory = h p s in cc)
+unread text d.Memory h = tt
+
+-- the body of the one method
+pub one_body : (ms : List Method) (m : Method) (ls : List Stmt) → length ms ≡ 1 → m ≡ get_or ms 0 m → ls ≡ (out-Block m.body).stmts
+    → (x : Definition) × (map definition ms ≡ x ∷ []) × (x.body ≡ lines_from ls)
+one_body [] m ls n e b = absurd (omega arith)
+one_body (x ∷ []) m ls n e b = (definition x, refl, lines-out x.body ∙ ap (λ (y : Method). lines_from (out-Block y.body).stmts) (sym e) ∙ ap lines_from (sym b))
+one_body (x ∷ y ∷ ms) m ls n e b = absurd (omega arith)
+
+-- a program with a name declared again is not one that declares each once
+pub not_once : (q p : Code) (b : Lines) (h : HasBody q b) → q ≡ p → false ≡ all_new b (and_also io nobody) → All (λ m. DeclaresOnce m.body) p.methods → ⊥
+not_once q p b h e n a =
+    let ms : p.methods ≡ h.0 ∷ [] = ap (λ (c : Code). c.methods) (sym e) ∙ h.1 in
+    let P : List Definition → Type 0 = λ l. All (λ m. DeclaresOnce m.body) l in
+    let once : IsTrue (all_new h.0.body (and_also io nobody)) = subst P ms a 0 h.0 (omega arith) in
+    let new : false ≡ true = n ∙ ap (λ l. all_new l (and_also io nobody)) (sym h.2) ∙ once in
+    cc
+
+-- a rule that a whole text breaks first
+first_broken : (r : Rule) (at : Spot) (taken : List ℕ) (left : Option (List ℕ)) → IsWholeText taken left → IsBroken r at taken → IsFirstBroken r at taken left
+first_broken TooLong at taken left whole b = absurd b
+first_broken r at taken left whole b = (whole, b)
+
+-- an answer to a whole text has its cause
+pub caused : (words : List (List ℕ)) (taken : List ℕ) (left : Option (List ℕ)) (what : What) → usage_of words ≡ None → IsWholeText taken left → IsAnswer taken what → Caused words taken left what
+caused words taken left (w.Usage kind) u t a = absurd a
+caused words taken left w.ReadFault u t a = absurd a
+caused words taken left (w.Refused r) u t a = (u, first_broken r.rule r.at taken left t a)
+caused words taken left (w.Ran report) u t a = (u, t, a)
+caused words taken left w.Memory u t a = tt

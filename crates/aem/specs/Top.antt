@@ -1,0 +1,82 @@
+-- What the top call answers, and why.
+use Rattle.std.specs.Prelude.{◌≡◌, ℕ, ◌+◌, ◌≤◌, List, [], ◌∷◌, length, take, Option, None, Some}
+use Rattle.std.specs.Io.KnownBytes.{Consumes, IsAtEnd, Appends}
+use Rattle.ae_text.specs.declared.refusal.Spot.{Spot}
+use Rattle.ae_text.specs.declared.refusal.Rule.{Rule}
+use Rattle.ae_text.specs.declared.refusal.Rule.TheVariants.{TooLong, Unexpected, UnknownName}
+use Rattle.ae_text.specs.Whole.{most}
+use Rattle.ae_text.specs.declared.refusal.Deny.{Deny}
+use Rattle.ae_text.specs.declared.refusal.Deny.TheVariants as d
+use Rattle.ae_code.specs.Plain.{Code, Definition, Lines}
+use Rattle.ae_code.specs.Judgement.{Accepted, Breaks}
+use Rattle.ae_meaning.specs.declared.report.RunReport.{RunReport}
+use Rattle.ae_meaning.specs.Meaning.{seq}
+use Rattle.aem.specs.declared.answer.What.{What}
+use Rattle.aem.specs.declared.answer.What.TheVariants as w
+use Rattle.aem.specs.Small.{IsSource, NoSource}
+use Rattle.aem.specs.Words.{usage_of}
+
+abbrev pub first_spot : Spot
+first_spot = record { line = 1; col = 1 }
+
+-- the text was read to the end of the source
+abbrev pub IsWholeText : List ℕ → Option (List ℕ) → Type 0
+IsWholeText taken left = (length taken ≤ most) × IsAtEnd left
+
+-- why a rule is the first that a whole text breaks, and where
+abbrev pub IsBroken : Rule → Spot → List ℕ → Type 0
+IsBroken Unexpected at text = (at ≡ first_spot) × NoSource text
+IsBroken UnknownName at text = (program : Code) × IsSource text program × Breaks program UnknownName at
+IsBroken _ at text = ⊥
+
+-- a source with a byte too many breaks no other rule, and otherwise it was read to its end
+abbrev pub IsFirstBroken : Rule → Spot → List ℕ → Option (List ℕ) → Type 0
+IsFirstBroken TooLong at taken left = (at ≡ first_spot) × (length taken ≡ most + 1)
+IsFirstBroken rule at taken left = IsWholeText taken left × IsBroken rule at taken
+
+-- the body of the one method
+abbrev pub HasBody : Code → Lines → Type 0
+HasBody program b = (m : Definition) × (program.methods ≡ m ∷ []) × (m.body ≡ b)
+
+-- whatever a text was refused for, it is refused at its beginning
+abbrev pub unread_of : Deny → Deny
+unread_of (d.Refused r) = d.Refused (record { rule = Unexpected; at = first_spot })
+unread_of d.Memory = d.Memory
+
+-- why a text gives no program
+abbrev pub IsUnread : List ℕ → Deny → Type 0
+IsUnread text (d.Refused r) = (r ≡ record { rule = Unexpected; at = first_spot }) × NoSource text
+IsUnread text d.Memory = Unit {0}
+
+-- the report is that of the source's meaning, with no integers and a fuel of 100,000
+abbrev pub IsMeant : RunReport → Code → Type 0
+IsMeant report program = (Some report.ending ≡ (seq program [] 100000).ending) × (report.out ≡ (seq program [] 100000).out)
+
+-- why this is the answer to a text
+abbrev pub IsAnswer : List ℕ → What → Type 0
+IsAnswer text (w.Usage kind) = ⊥
+IsAnswer text w.ReadFault = ⊥
+IsAnswer text (w.Refused r) = IsBroken r.rule r.at text
+IsAnswer text (w.Ran report) = (program : Code) × IsSource text program × Accepted program × IsMeant report program
+IsAnswer text w.Memory = Unit {0}
+
+-- why this is the answer, where these bytes were taken and this is left
+abbrev pub Caused : List (List ℕ) → List ℕ → Option (List ℕ) → What → Type 0
+Caused words taken left (w.Usage kind) = (usage_of words ≡ Some kind) × (taken ≡ [])
+Caused words taken left w.ReadFault = (usage_of words ≡ None) × (length taken ≤ most)
+Caused words taken left (w.Refused r) = (usage_of words ≡ None) × IsFirstBroken r.rule r.at taken left
+Caused words taken left (w.Ran report) = (usage_of words ≡ None) × IsWholeText taken left × IsAnswer taken (w.Ran report)
+Caused words taken left w.Memory = Unit {0}
+
+-- some bytes were taken, and the answer has its cause in them
+abbrev pub Answers : List (List ℕ) → Option (List ℕ) → Option (List ℕ) → What → Type 0
+Answers words before after what = (taken : List ℕ) × Consumes before after taken × Caused words taken after what
+
+-- the sink took the whole text, or its first bytes where the answer was cut
+abbrev pub Wrote : Option (List ℕ) → Option (List ℕ) → List ℕ → Option ℕ → Type 0
+Wrote before after text None = Appends before after text
+Wrote before after text (Some done) = (done ≤ length text) × Appends before after (take done text)
+
+abbrev pub IsUsage : What → Type 0
+IsUsage (w.Usage kind) = Unit {0}
+IsUsage _ = ⊥

@@ -1,0 +1,215 @@
+// From words and bytes to bytes and a status, over sources and sinks in memory.
+use crate::answer::{UsageKind, What};
+use crate::top::aeminium;
+use ae_text::{Items, MemSink, MemSource, NoGate};
+
+use std::alloc::{AllocError, Global};
+use std::test::Fail;
+
+const USAGE: &str = "usage: aem check | aem graph | aem run [--workers N] [--fuel N] [--trace] [--] [INT]... | aem make N\n";
+
+const SUM: &str = "method void main() with exclusive io {\nlet int a = 2;\nlet int b = 3;\nprint a + b;\n}\n";
+
+// Words, a source, the text that is wanted and its status.
+struct Case {
+    words: &'static [&'static str],
+    source: &'static str,
+    text: &'static str,
+    status: u8,
+}
+
+fn words_of(alloc: Global, words: &[&str]) -> Result<Vec<String>, AllocError> {
+    let mut all = Vec::new(alloc);
+    for word in words {
+        all.push(String::from_str(alloc, word)?)?;
+    }
+    Ok(all)
+}
+
+fn source_of(alloc: Global, bytes: &[u8], most: usize, fail: &[u64]) -> Result<MemSource, AllocError>
+    requires { 0 < most }
+{
+    let bytes = Items::from_slice(alloc, bytes)?;
+    Ok(MemSource::new(bytes, most, Items::from_slice(alloc, fail)?))
+}
+
+const CASES: [Case; 14] = [
+    Case {
+        words: &["run"],
+        source: SUM,
+        text: "5\n== done\n",
+        status: 0,
+    },
+    Case {
+        words: &["run"],
+        source: "method void main() with exclusive io { }",
+        text: "== done\n",
+        status: 0,
+    },
+    Case {
+        words: &["run"],
+        source: "method void main() with exclusive io { let int a = 9223372036854775807; print a + 1; }",
+        text: "== trap 1 at 1:73\n",
+        status: 1,
+    },
+    Case {
+        words: &["run"],
+        source: "method void main() with exclusive io { print b; }",
+        text: "refused N5 UnknownName at 1:46\n",
+        status: 2,
+    },
+    Case {
+        words: &["run"],
+        source: "method void main() with exclusive io {\nprint 7;\nlet int z = 1 / 0;\nlet int w = 9223372036854775807 + 1;\n}\n",
+        text: "7\n== trap 2 at 3:1\n",
+        status: 1,
+    },
+    Case {
+        words: &["run"],
+        source: "method void main() with exclusive io { print 2 + 3 * 4 - 10 / 4 % 3; }",
+        text: "12\n== done\n",
+        status: 0,
+    },
+    Case {
+        words: &["run"],
+        source: "method void main() with exclusive io { let int a = 7; a = 0 - a; print a / 2; print a % 2; }",
+        text: "-3\n-1\n== done\n",
+        status: 0,
+    },
+    Case {
+        words: &["run"],
+        source: "method void main() with exclusive io { let int a = 0 - 9223372036854775807 - 1; print a % (0 - 1); }",
+        text: "refused S1 Unexpected at 1:1\n",
+        status: 2,
+    },
+    Case {
+        words: &["run"],
+        source: "method void main() with exclusive io { let int m = 0 - 1; let int a = m - 9223372036854775807; print a % m; print a / m; }",
+        text: "0\n== trap 1 at 1:110\n",
+        status: 1,
+    },
+    Case {
+        words: &["run"],
+        source: "method void main() with exclusive io { let int a = 1; let int a = 2; }",
+        text: "refused S1 Unexpected at 1:1\n",
+        status: 2,
+    },
+    Case {
+        words: &["run"],
+        source: "method void main() with exclusive io { let int io = 1; }",
+        text: "refused S1 Unexpected at 1:1\n",
+        status: 2,
+    },
+    Case {
+        words: &[],
+        source: SUM,
+        text: USAGE,
+        status: 3,
+    },
+    Case {
+        words: &["run", "run"],
+        source: SUM,
+        text: USAGE,
+        status: 3,
+    },
+    Case {
+        words: &["walk"],
+        source: SUM,
+        text: USAGE,
+        status: 3,
+    },
+];
+
+#[test]
+fn sources(rt: HostRuntime) -> Result<(), Fail> {
+    let alloc = rt.alloc();
+    for case in &CASES {
+        let words = words_of(alloc, case.words)?;
+        let mut source = source_of(alloc, case.source.as_bytes(), 7, &[])?;
+        let mut sink = MemSink::new(alloc, 3, Items::new(alloc));
+        let answer = aeminium(&rt, alloc, words.as_slice(), &mut source, &mut sink, &NoGate);
+        assert_eq!(rt; answer.status, case.status, "{}", case.source);
+        assert_eq!(rt; sink.taken(), case.text.as_bytes(), "{}", case.source);
+    }
+    Ok(())
+}
+
+// Each read in turn fails: nothing is written.
+#[test]
+fn failing_reads(rt: HostRuntime) -> Result<(), Fail> {
+    let alloc = rt.alloc();
+    let words = words_of(alloc, &["run"])?;
+    for call in 0..13 {
+        let mut source = source_of(alloc, SUM.as_bytes(), 7, &[call])?;
+        let mut sink = MemSink::new(alloc, 3, Items::new(alloc));
+        let answer = aeminium(&rt, alloc, words.as_slice(), &mut source, &mut sink, &NoGate);
+        assert_eq!(rt; answer.status, 4, "read {call}");
+        assert!(rt; matches!(&answer.what, What::ReadFault));
+        assert_eq!(rt; sink.taken().len(), 0);
+    }
+    Ok(())
+}
+
+// Each write in turn fails: the first bytes of the text were taken.
+#[test]
+fn failing_writes(rt: HostRuntime) -> Result<(), Fail> {
+    let alloc = rt.alloc();
+    let words = words_of(alloc, &["run"])?;
+    let text = b"5\n== done\n";
+    for call in 0..4 {
+        let mut source = source_of(alloc, SUM.as_bytes(), 4096, &[])?;
+        let mut sink = MemSink::new(alloc, 3, Items::from_slice(alloc, &[call])?);
+        let answer = aeminium(&rt, alloc, words.as_slice(), &mut source, &mut sink, &NoGate);
+        assert_eq!(rt; answer.status, 5, "write {call}");
+        assert_eq!(rt; answer.cut, Some(call * 3));
+        assert!(rt; matches!(&answer.what, What::Ran(_)));
+        assert_eq!(rt; sink.taken(), text.split_at(call as usize * 3).0);
+    }
+    Ok(())
+}
+
+// One piece of four bytes was taken.
+#[test]
+fn cut(rt: HostRuntime) -> Result<(), Fail> {
+    let alloc = rt.alloc();
+    let words = words_of(alloc, &["run"])?;
+    let mut source = source_of(alloc, SUM.as_bytes(), 4096, &[])?;
+    let mut sink = MemSink::new(alloc, 4, Items::from_slice(alloc, &[1])?);
+    let answer = aeminium(&rt, alloc, words.as_slice(), &mut source, &mut sink, &NoGate);
+    assert_eq!(rt; answer.status, 5);
+    assert_eq!(rt; answer.cut, Some(4));
+    assert_eq!(rt; sink.taken(), b"5\n==".as_slice());
+    Ok(())
+}
+
+// A byte too many, and as many as there may be.
+#[test]
+fn long_texts(rt: HostRuntime) -> Result<(), Fail> {
+    let alloc = rt.alloc();
+    let words = words_of(alloc, &["run"])?;
+    for (len, text) in [
+        (1_048_577, "refused K1 TooLong at 1:1\n"),
+        (1_048_576, "refused S1 Unexpected at 1:1\n"),
+    ] {
+        let spaces = vec![in alloc; b' '; len]?;
+        let mut source = source_of(alloc, spaces.as_slice(), 1_048_576, &[])?;
+        let mut sink = MemSink::new(alloc, 4096, Items::new(alloc));
+        let answer = aeminium(&rt, alloc, words.as_slice(), &mut source, &mut sink, &NoGate);
+        assert_eq!(rt; answer.status, 2);
+        assert_eq!(rt; sink.taken(), text.as_bytes());
+    }
+    Ok(())
+}
+
+// Wrong words are answered before anything is read.
+#[test]
+fn unread(rt: HostRuntime) -> Result<(), Fail> {
+    let alloc = rt.alloc();
+    let words = words_of(alloc, &["run", "fast"])?;
+    let mut source = source_of(alloc, SUM.as_bytes(), 4096, &[0])?;
+    let mut sink = MemSink::new(alloc, 4096, Items::new(alloc));
+    let answer = aeminium(&rt, alloc, words.as_slice(), &mut source, &mut sink, &NoGate);
+    assert!(rt; matches!(&answer.what, What::Usage(UsageKind::Words)));
+    assert_eq!(rt; answer.status, 3);
+    Ok(())
+}
