@@ -3,3 +3,4 @@ pub mod Names
 pub mod Fits
 pub mod Effects
 pub mod Laws
+pub mod Orders

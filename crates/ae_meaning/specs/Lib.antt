@@ -3,3 +3,4 @@ pub mod Meaning
 pub mod Running
 pub mod Uses
 pub mod Frame
+pub mod Order

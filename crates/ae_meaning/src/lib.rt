@@ -8,7 +8,8 @@ mod run;
 mod value;
 
 pub use law::{
-    statements_apart_commute, statements_change_what_they_write, statements_read_what_they_use,
+    order_is_free, statements_apart_commute, statements_change_what_they_write,
+    statements_read_what_they_use, taking_keeps_ending,
 };
 pub use report::{Ending, Meant, RunReport};
 pub use run::evaluate;
