@@ -1,0 +1,4 @@
+//! Reads a program from its tokens.
+#![tactic(auto)]
+
+mod numbers;
