@@ -1,1 +1,5 @@
 pub mod NumberLemmas
+pub mod ReadsLemmas
+pub mod ProductionLemmas
+pub mod ChainLemmas
+pub mod StatementLemmas

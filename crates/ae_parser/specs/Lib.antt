@@ -1,1 +1,3 @@
 pub mod Slices
+pub mod Reads
+pub mod Productions
