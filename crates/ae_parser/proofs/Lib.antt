@@ -3,3 +3,4 @@ pub mod ReadsLemmas
 pub mod ProductionLemmas
 pub mod ChainLemmas
 pub mod StatementLemmas
+pub mod ProgramLemmas

@@ -1,5 +1,5 @@
 -- The productions as the functions read them, with the tokens that may follow.
-use Rattle.std.specs.Prelude.{◌≡◌, ◌≢◌, ◌≤◌, ◌<◌, ℕ, ◌+◌, ◌++◌, List, [], ◌∷◌, Option, Some, None}
+use Rattle.std.specs.Prelude.{◌≡◌, ◌≢◌, ◌≤◌, ◌<◌, ℕ, ◌+◌, ◌++◌, List, [], ◌∷◌, Option, Some, None, Result, Ok, Err}
 use Rattle.ae_text.specs.declared.refusal.Spot.{Spot}
 use Rattle.ae_text.specs.declared.token.Sign.{Sign}
 use Rattle.ae_text.specs.declared.token.Sign.TheVariants as sign
@@ -13,14 +13,16 @@ use Rattle.ae_code.specs.declared.tree.Op.TheVariants as op
 use Rattle.ae_code.specs.declared.tree.Ty.{Ty}
 use Rattle.ae_code.specs.declared.tree.Stmt.{Stmt}
 use Rattle.ae_parser.specs.declared.expressions.Counted.{Counted}
-use Rattle.ae_code.specs.Plain.{Expression, RightSide, Action, Declares, Assigns, Prints}
+use Rattle.ae_code.specs.Plain.{Expression, RightSide, Definition, Action, Declares, Assigns, Prints}
 use Rattle.ae_code.specs.Shown as shown
 use Rattle.ae_code.specs.Grammar.{Tokens, Then, ◌⨾◌, one_at, one, a_sign, level, sign_of, name, type_, right_side, sum, statement}
 use Rattle.ae_code.specs.Grammar as grammar
 use Rattle.ae_parser.specs.declared.fail.Why.{Why}
 use Rattle.ae_parser.specs.declared.fail.Why.TheVariants.{Unexpected, Over}
-use Rattle.ae_parser.specs.Reads.{head}
-use Rattle.ae_code.specs.Limits.{operators, HasShort}
+use Rattle.ae_parser.specs.declared.fail.Fail.{Fail}
+use Rattle.ae_parser.specs.Reads.{head, Always, Is, Took, Failed}
+use Rattle.ae_code.specs.declared.tree.Method.{Method}
+use Rattle.ae_code.specs.Limits.{operators, HasShort, IsWithin}
 
 -- ---- tokens
 
@@ -114,3 +116,21 @@ pub record Starts (ts : Tokens) : Type 0 where
 abbrev pub Further : Tokens → Why → Type 0
 Further ts Over = Starts ts
 Further ts Unexpected = (y : Spot × Action) (us r : Tokens) → stmt y us → head (us ++ r) ≡ head ts → ⊥
+
+-- ---- methods and programs
+
+-- a method whose body is within the limits
+abbrev pub HasWithin : Definition → Type 0
+HasWithin m = IsWithin m.body
+
+-- a method, and then the end
+abbrev pub whole : Definition × Unit {0} → Tokens → Type 0
+whole q = grammar.method q.0 ⨾ Mark tok.End q.1
+
+abbrev pub IsWholeWithin : Definition × Unit {0} → Type 0
+IsWholeWithin q = HasWithin q.0 × Unit {0}
+
+-- the method before the end
+abbrev pub ReadsAll : Tokens → Result Method Fail → Type 0
+ReadsAll ts (Ok m) = (rest : Tokens) × Took grammar.method HasWithin Always ts (shown.definition m) rest × Is tok.End (head rest)
+ReadsAll ts (Err e) = Failed whole IsWholeWithin Always ts e

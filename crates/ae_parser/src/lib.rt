@@ -3,6 +3,10 @@
 
 mod expressions;
 mod fail;
+mod methods;
 mod numbers;
+mod program;
 mod statements;
 mod terminals;
+
+pub use program::parse;
