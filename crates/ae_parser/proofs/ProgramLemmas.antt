@@ -1,6 +1,8 @@
 -- Methods and whole programs.
 use Rattle.std.proofs.Common.{◌≡◌, ◌≢◌, ℕ, zero, suc, ◌+◌, ◌≤◌, ◌<◌, ◌++◌, List, [], ◌∷◌, length, Option, Some, None, refl, sym, ap, ◌∙◌, append_assoc, append-nil, subst, arith, length-append, pos, map, Result, Ok, Err, IsErrAnd}
-use Rattle.std.specs.Prelude.{All}
+use Rattle.std.specs.Prelude.{All, MatchResult}
+use Rattle.ae_code.specs.declared.tree.Program.{Program}
+use Rattle.ae_code.specs.Shown.{code}
 use Rattle.ae_text.specs.Tokens as t
 use Rattle.ae_text.specs.Tokens.{IsWhole}
 use Rattle.ae_text.specs.declared.token.Token.{Token as SourceToken}
@@ -268,8 +270,12 @@ program_derives tokens m rest w t is = record {
   derives = record { front = t.taken; back = rest; parts = t.whole; first = t.derives; second = the_end (names_of tokens) tokens t.taken rest w t.whole t.no_end is };
 }
 
+all_one : (m : Definition) → IsWithin m.body → All (λ (d : Definition). IsWithin d.body) (m ∷ [])
+all_one m w zero d less = w
+all_one m w (suc k) d less = absurd (omega (arith, less))
+
 pub program_within : (ts : Tokens) (names : List (List ℕ)) (m : Definition) (rest : Tokens) → Took method HasWithin Always ts m rest → Within (code_of names m)
-program_within ts names m rest t = (t.within, tt)
+program_within ts names m rest t = all_one m t.within
 
 pub program_built : (ts : Tokens) (names : List (List ℕ)) (m : Definition) (rest : Tokens) → Took method HasWithin Always ts m rest → Built (code_of names m)
 program_built ts names m rest t = record { method = m; methods = refl; is_main = t.derives.0; body = method_built m t.taken t.derives }
@@ -285,7 +291,7 @@ lexemes_derive : (p : Code) (tokens : List SourceToken) (d : Derives tokens p) �
 lexemes_derive p tokens d = let P : List (List ℕ) → Type 0 = λ n. whole (d.method_, tt) (numbered n tokens) in subst P d.names d.derives
 
 method_within : (p : Code) (m : Definition) → p.methods ≡ m ∷ [] → Within p → HasWithin m
-method_within p m e w = let P : List Definition → Type 0 = λ ms. All (λ m. IsWithin m.body) ms in (subst P e w).0
+method_within p m e w = let P : List Definition → Type 0 = λ ms. All (λ m. IsWithin m.body) ms in subst P e w 0 m (omega arith)
 
 pub program_only : (tokens : List SourceToken) (m : Definition) (rest : Tokens) → Took method HasWithin Always (numbered (names_of tokens) tokens) m rest → (p : Code) → Derives tokens p → code_of (names_of tokens) m ≡ p
 program_only tokens m rest t p d =
@@ -294,7 +300,7 @@ program_only tokens m rest t p d =
     ap (code_of (names_of tokens)) (sym o.0) ∙ code_is p tokens d
 
 -- a program within the limits is refused for want of memory alone
-pub program_refused : (tokens : List SourceToken) (e : Fail) → Failed whole IsWholeWithin Always (numbered (names_of tokens) tokens) e → (p : Code) → Derives tokens p → Within p → e ≡ Memory
+program_refused : (tokens : List SourceToken) (e : Fail) → Failed whole IsWholeWithin Always (numbered (names_of tokens) tokens) e → (p : Code) → Derives tokens p → Within p → e ≡ Memory
 program_refused tokens (Refused why left) f p d w =
     let l = lexemes_derive p tokens d in
     absurd (f.why.stuck (d.method_, tt) (numbered (names_of tokens) tokens) [] f.why.rest l (append-nil (numbered (names_of tokens) tokens) ∙ f.why.whole) refl tt (counts why _ (method_within p d.method_ d.methods w, tt)))
@@ -303,3 +309,10 @@ program_refused tokens (Refused why left) f p d w =
     counts Unexpected v x = tt
     counts Over v x = x
 program_refused tokens Memory f p d w = refl
+
+pub program_refused_at : (tokens : List SourceToken) (ts : Tokens) (e : Fail) → ts ≡ numbered (names_of tokens) tokens → Failed whole IsWholeWithin Always ts e → (p : Code) → Derives tokens p → Within p → e ≡ Memory
+program_refused_at tokens ts e same f = let F : Tokens → Type 0 = λ l. Failed whole IsWholeWithin Always l e in program_refused tokens e (subst F same f)
+
+pub leaves_program : (p : Code) (r : Result Program Fail) (e : Fail) → e ≡ Memory → IsErrAnd r (λ y. y ≡ e) → MatchResult r (λ q. code q ≡ p) (λ y. y ≡ Memory)
+leaves_program p (Ok q) e m h = absurd h
+leaves_program p (Err y) e m h = h ∙ m
