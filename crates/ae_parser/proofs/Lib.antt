@@ -1,0 +1,6 @@
+pub mod NumberLemmas
+pub mod ReadsLemmas
+pub mod ProductionLemmas
+pub mod ChainLemmas
+pub mod StatementLemmas
+pub mod ProgramLemmas

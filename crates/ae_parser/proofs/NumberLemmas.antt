@@ -1,0 +1,70 @@
+-- Names as numbers.
+use Rattle.std.proofs.Common.{◌≡◌, ℕ, zero, suc, ◌+◌, ◌≤◌, ◌<◌, ◌++◌, List, [], ◌∷◌, length, map, refl, sym, ap, ap₂, ◌∙◌, append_assoc, subst, arith, length-append, drop, Bool, true, false, not, Some, None, inl, inr, lt-ltb}
+use Rattle.std.proofs.lemmas.Bool.{cases_lt}
+use Rattle.std.proofs.lemmas.Bool.Decides.{nat_tests}
+use Rattle.std.proofs.lemmas.List.{map-append}
+use Rattle.std.proofs.lemmas.Grind.{common_steps}
+use Rattle.std.specs.Prelude.{bytes_eq, cond, nat_lt, ◌||◌, Option, unwrap_or}
+use Rattle.std.specs.Borrow.{Bor}
+use Rattle.std.specs.List.{list_any, position, position_or_len}
+use Rattle.indexmap.specs.IndexSet.{insert_key, insert_all}
+use Rattle.ae_text.specs.declared.token.TokenKind.{TokenKind}
+use Rattle.ae_text.specs.declared.token.TokenKind.TheVariants as k
+use Rattle.ae_text.specs.declared.token.Token.{Token}
+use Rattle.ae_code.specs.Names.{spelled, spellings, number_of}
+use Rattle.ae_parser.specs.Slices.{bytes_of}
+
+abbrev Slices : Type 0
+Slices = List (Bor (List ℕ))
+
+abbrev Same : (Bor (List ℕ) → Bor (List ℕ) → Bool) → Type 0
+Same eq = (a b : Bor (List ℕ)) → eq a b ≡ bytes_eq a.now b.now
+
+any_same : (eq : Bor (List ℕ) → Bor (List ℕ) → Bool) → Same eq → (s : Bor (List ℕ)) (ks : Slices) → list_any (eq s) ks ≡ list_any (bytes_eq s.now) (bytes_of ks)
+any_same eq same s [] = refl
+any_same eq same s (x ∷ ks) = ap₂ (λ a b. a || b) (same s x) (any_same eq same s ks)
+
+bytes_cond : (b : Bool) (ks more : Slices) → bytes_of (cond b ks more) ≡ cond b (bytes_of ks) (bytes_of more)
+bytes_cond true ks more = refl
+bytes_cond false ks more = refl
+
+pub inserted : (eq : Bor (List ℕ) → Bor (List ℕ) → Bool) → Same eq → (old new : Slices) (s : Bor (List ℕ)) → new ≡ insert_key eq old s → bytes_of new ≡ insert_key bytes_eq (bytes_of old) s.now
+inserted eq same old new s e =
+    ap bytes_of e ∙ bytes_cond (list_any (eq s) old) old (old ++ s ∷ [])
+    ∙ ap₂ (λ b l. cond b (bytes_of old) l) (any_same eq same s old) (map-append (λ (slice : Bor (List ℕ)). slice.now) old (s ∷ []))
+
+-- one token more
+pub spelled_first : (names : List (List ℕ)) (kind : TokenKind) (rest : List (List ℕ)) → insert_all bytes_eq (insert_all bytes_eq names (spelled kind [])) rest ≡ insert_all bytes_eq names (spelled kind rest)
+spelled_first names (k.Name s) rest = refl
+spelled_first names (k.Int n) rest = refl
+spelled_first names (k.Text s) rest = refl
+spelled_first names (k.Word w) rest = refl
+spelled_first names (k.Sign g) rest = refl
+spelled_first names k.End rest = refl
+
+pub spelled_next : (old new : Slices) (t : Token) (rest all : List Token) → rest ≡ t ∷ all → bytes_of new ≡ insert_all bytes_eq (bytes_of old) (spelled t.kind []) →
+    insert_all bytes_eq (bytes_of new) (spellings all) ≡ insert_all bytes_eq (bytes_of old) (spellings rest)
+spelled_next old new t rest all e n =
+    ap (λ names. insert_all bytes_eq names (spellings all)) n ∙ spelled_first (bytes_of old) t.kind (spellings all)
+    ∙ ap (λ l. insert_all bytes_eq (bytes_of old) (spellings l)) (sym e)
+
+pub position_same : (eq : Bor (List ℕ) → Bool) (s : List ℕ) → ((b : Bor (List ℕ)) → eq b ≡ bytes_eq s b.now) → (ks : Slices) → position_or_len eq ks ≡ number_of (bytes_of ks) s
+position_same eq s same [] = refl
+position_same eq s same (x ∷ ks) = ap₂ (λ b n. cond (not b) (1 + n) 0) (same x) (position_same eq s same ks)
+
+position_within : (eq : Bor (List ℕ) → Bool) (ks : Slices) → position_or_len eq ks ≤ length ks
+position_within eq [] = omega arith
+position_within eq (x ∷ ks) = bounded (not (eq x)) (position_or_len eq ks) (position_within eq ks)
+  where
+    bounded : (b : Bool) (n : ℕ) → n ≤ length ks → cond b (1 + n) 0 ≤ suc (length ks)
+    bounded true n h = omega arith
+    bounded false n h = omega arith
+
+found : (p n : ℕ) → p ≤ n → unwrap_or (cond (nat_lt p n) (Some p) None) n ≡ p
+found p n h = elim (cases_lt p n) [
+    inl less ↦ rw (lt-ltb p n less)
+  | inr other ↦ let e : p ≡ n = omega arith in let t : nat_lt p n ≡ false = grind (arith, nat_tests) in rw t (sym e)
+]
+
+pub position_found : (eq : Bor (List ℕ) → Bool) (ks : Slices) → unwrap_or (position eq ks) (length ks) ≡ position_or_len eq ks
+position_found eq ks = found (position_or_len eq ks) (length ks) (position_within eq ks)

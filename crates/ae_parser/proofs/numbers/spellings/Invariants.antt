@@ -1,0 +1,12 @@
+use Rattle.std.proofs.Common.{◌≡◌, ℕ, ◌≤◌, ◌+◌, length, drop}
+use Rattle.std.specs.Prelude.{bytes_eq}
+use Rattle.indexmap.specs.IndexSet.{insert_all}
+use Rattle.ae_code.specs.Names.{names_of, spellings}
+use Rattle.ae_parser.specs.Slices.{bytes_of}
+use Rattle.ae_parser.proofs.numbers.spellings.Given as goal
+
+abbrev pub invariant-loop-token : goal.invariant-loop-token
+invariant-loop-token l = record {
+  names : insert_all bytes_eq (bytes_of l.names.keys) (spellings (drop l.token-index l.tokens)) ≡ names_of l.tokens;
+  few : length l.names.keys ≤ l.token-index + 3;
+}

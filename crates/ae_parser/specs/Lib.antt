@@ -1,0 +1,4 @@
+pub mod Slices
+pub mod Reads
+pub mod Productions
+pub mod Denied
