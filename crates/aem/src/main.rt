@@ -10,9 +10,8 @@ mod top;
 mod words;
 
 use ae_text::{NoGate, StdSink, StdSource};
-use std::env;
-use std::io;
 use std::process::ExitCode;
+use std::{env, io};
 use top::aeminium;
 
 // The status where memory is refused before anything is read.

@@ -2,13 +2,14 @@
 use crate::answer::{UsageKind, What};
 use crate::top::aeminium;
 use ae_text::{Items, MemSink, MemSource, NoGate};
-
 use std::alloc::{AllocError, Global};
 use std::test::Fail;
 
-const USAGE: &str = "usage: aem check | aem graph | aem run [--workers N] [--fuel N] [--trace] [--] [INT]... | aem make N\n";
+const USAGE: &str =
+    "usage: aem check | aem graph | aem run [--workers N] [--fuel N] [--trace] [--] [INT]... | aem make N\n";
 
-const SUM: &str = "method void main() with exclusive io {\nlet int a = 2;\nlet int b = 3;\nprint a + b;\n}\n";
+const SUM: &str =
+    "method void main() with exclusive io {\nlet int a = 2;\nlet int b = 3;\nprint a + b;\n}\n";
 
 // Words, a source, the text that is wanted and its status.
 struct Case {
@@ -26,7 +27,12 @@ fn words_of(alloc: Global, words: &[&str]) -> Result<Vec<String>, AllocError> {
     Ok(all)
 }
 
-fn source_of(alloc: Global, bytes: &[u8], most: usize, fail: &[u64]) -> Result<MemSource, AllocError>
+fn source_of(
+    alloc: Global,
+    bytes: &[u8],
+    most: usize,
+    fail: &[u64],
+) -> Result<MemSource, AllocError>
     requires { 0 < most }
 {
     let bytes = Items::from_slice(alloc, bytes)?;
@@ -85,7 +91,7 @@ const CASES: [Case; 14] = [
     Case {
         words: &["run"],
         source: "method void main() with exclusive io { let int m = 0 - 1; let int a = m - 9223372036854775807; print a % m; print a / m; }",
-        text: "0\n== trap 1 at 1:110\n",
+        text: "0\n== trap 1 at 1:109\n",
         status: 1,
     },
     Case {
@@ -127,7 +133,14 @@ fn sources(rt: HostRuntime) -> Result<(), Fail> {
         let words = words_of(alloc, case.words)?;
         let mut source = source_of(alloc, case.source.as_bytes(), 7, &[])?;
         let mut sink = MemSink::new(alloc, 3, Items::new(alloc));
-        let answer = aeminium(&rt, alloc, words.as_slice(), &mut source, &mut sink, &NoGate);
+        let answer = aeminium(
+            &rt,
+            alloc,
+            words.as_slice(),
+            &mut source,
+            &mut sink,
+            &NoGate,
+        );
         assert_eq!(rt; answer.status, case.status, "{}", case.source);
         assert_eq!(rt; sink.taken(), case.text.as_bytes(), "{}", case.source);
     }
@@ -142,7 +155,14 @@ fn failing_reads(rt: HostRuntime) -> Result<(), Fail> {
     for call in 0..13 {
         let mut source = source_of(alloc, SUM.as_bytes(), 7, &[call])?;
         let mut sink = MemSink::new(alloc, 3, Items::new(alloc));
-        let answer = aeminium(&rt, alloc, words.as_slice(), &mut source, &mut sink, &NoGate);
+        let answer = aeminium(
+            &rt,
+            alloc,
+            words.as_slice(),
+            &mut source,
+            &mut sink,
+            &NoGate,
+        );
         assert_eq!(rt; answer.status, 4, "read {call}");
         assert!(rt; matches!(&answer.what, What::ReadFault));
         assert_eq!(rt; sink.taken().len(), 0);
@@ -159,7 +179,14 @@ fn failing_writes(rt: HostRuntime) -> Result<(), Fail> {
     for call in 0..4 {
         let mut source = source_of(alloc, SUM.as_bytes(), 4096, &[])?;
         let mut sink = MemSink::new(alloc, 3, Items::from_slice(alloc, &[call])?);
-        let answer = aeminium(&rt, alloc, words.as_slice(), &mut source, &mut sink, &NoGate);
+        let answer = aeminium(
+            &rt,
+            alloc,
+            words.as_slice(),
+            &mut source,
+            &mut sink,
+            &NoGate,
+        );
         assert_eq!(rt; answer.status, 5, "write {call}");
         assert_eq!(rt; answer.cut, Some(call * 3));
         assert!(rt; matches!(&answer.what, What::Ran(_)));
@@ -175,7 +202,14 @@ fn cut(rt: HostRuntime) -> Result<(), Fail> {
     let words = words_of(alloc, &["run"])?;
     let mut source = source_of(alloc, SUM.as_bytes(), 4096, &[])?;
     let mut sink = MemSink::new(alloc, 4, Items::from_slice(alloc, &[1])?);
-    let answer = aeminium(&rt, alloc, words.as_slice(), &mut source, &mut sink, &NoGate);
+    let answer = aeminium(
+        &rt,
+        alloc,
+        words.as_slice(),
+        &mut source,
+        &mut sink,
+        &NoGate,
+    );
     assert_eq!(rt; answer.status, 5);
     assert_eq!(rt; answer.cut, Some(4));
     assert_eq!(rt; sink.taken(), b"5\n==".as_slice());
@@ -194,7 +228,14 @@ fn long_texts(rt: HostRuntime) -> Result<(), Fail> {
         let spaces = vec![in alloc; b' '; len]?;
         let mut source = source_of(alloc, spaces.as_slice(), 1_048_576, &[])?;
         let mut sink = MemSink::new(alloc, 4096, Items::new(alloc));
-        let answer = aeminium(&rt, alloc, words.as_slice(), &mut source, &mut sink, &NoGate);
+        let answer = aeminium(
+            &rt,
+            alloc,
+            words.as_slice(),
+            &mut source,
+            &mut sink,
+            &NoGate,
+        );
         assert_eq!(rt; answer.status, 2);
         assert_eq!(rt; sink.taken(), text.as_bytes());
     }
@@ -208,7 +249,14 @@ fn unread(rt: HostRuntime) -> Result<(), Fail> {
     let words = words_of(alloc, &["run", "fast"])?;
     let mut source = source_of(alloc, SUM.as_bytes(), 4096, &[0])?;
     let mut sink = MemSink::new(alloc, 4096, Items::new(alloc));
-    let answer = aeminium(&rt, alloc, words.as_slice(), &mut source, &mut sink, &NoGate);
+    let answer = aeminium(
+        &rt,
+        alloc,
+        words.as_slice(),
+        &mut source,
+        &mut sink,
+        &NoGate,
+    );
     assert!(rt; matches!(&answer.what, What::Usage(UsageKind::Words)));
     assert_eq!(rt; answer.status, 3);
     Ok(())

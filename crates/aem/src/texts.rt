@@ -9,14 +9,10 @@ use ae_meaning::{Ending, RunReport};
 use ae_text::{Items, Refusal};
 use std::alloc::{AllocError, Global};
 
-const USAGE: &[u8] = b"usage: aem check | aem graph | aem run [--workers N] [--fuel N] [--trace] [--] [INT]... | aem make N\n";
+const USAGE: &[u8] =
+    b"usage: aem check | aem graph | aem run [--workers N] [--fuel N] [--trace] [--] [INT]... | aem make N\n";
 
-fn refused_line(
-    alloc: Global,
-    rule: &str,
-    line: u32,
-    col: u32,
-) -> Result<String, AllocError>
+fn refused_line(alloc: Global, rule: &str, line: u32, col: u32) -> Result<String, AllocError>
     ensures { IfOk result (λ t. string_bytes t ≡ codes "refused " ++ rule.now ++ codes " at " ++ decimal line ++ codes ":" ++ decimal col ++ codes "\n") }
 {
     format!(in alloc; "refused {rule} at {line}:{col}\n")
@@ -37,7 +33,12 @@ fn fuel_line(alloc: Global, line: u32, col: u32) -> Result<String, AllocError>
 fn refusal_line(alloc: Global, refusal: Refusal) -> Result<String, AllocError>
     ensures { IfOk result (λ t. string_bytes t ≡ refusal_text refusal) }
 {
-    refused_line(alloc, refusal.rule.printed(), refusal.at.line, refusal.at.col)
+    refused_line(
+        alloc,
+        refusal.rule.printed(),
+        refusal.at.line,
+        refusal.at.col,
+    )
 }
 
 fn ending_line(alloc: Global, ending: Ending) -> Result<String, AllocError>
