@@ -1,29 +1,38 @@
--- Whole texts.
-use Rattle.std.proofs.Common.{◌≡◌, ◌==◌, if◌then◌else◌, Bool, true, false, ℕ, ◌+◌, ◌-◌, ◌<◌, ◌≤◌, List, [], ◌∷◌, ◌++◌, length, take, Option, ◌⊎◌, inl, inr, refl, sym, ap, ◌∙◌, subst, append_assoc, append-nil, length-append, arith}
+-- Whole texts: one cutting, one fault's place, and the loop that cuts.
+use Rattle.std.proofs.Common.{◌≡◌, ◌≢◌, ◌==◌, if◌then◌else◌, Bool, true, false, ℕ, zero, suc, ◌+◌, ◌-◌, ◌^◌, ◌<◌, ◌≤◌, List, [], ◌∷◌, ◌++◌, length, take, drop, Option, Some, None, ◌⊎◌, inl, inr, refl, sym, ap, ◌∙◌, subst, append_assoc, append-nil, length-append, arith}
 use Rattle.std.proofs.Math.Seq.{take-append_seam, take-length}
+use Rattle.std.specs.Str.{encode_utf8_all, chars, IsUtf8, IsValidUpTo}
+use Rattle.std.proofs.lemmas.Str.{encodes-append, encodes_same, encodes-chars}
+use Rattle.std.proofs.lemmas.Str.{length-le-encodes}
 use Rattle.ae_text.specs.declared.refusal.Spot.{Spot}
 use Rattle.ae_text.specs.declared.token.Token.{Token}
 use Rattle.ae_text.specs.declared.token.TokenKind.{TokenKind}
 use Rattle.ae_text.specs.declared.token.TokenKind.TheVariants as t
 use Rattle.ae_text.specs.declared.refusal.Rule.{Rule}
 use Rattle.ae_text.specs.declared.refusal.Rule.TheVariants as rule
-use Rattle.ae_text.specs.Tokens.{Text, Piece, White, Tok, spelling, Spells, IsNumber, start, NoEnd, IsWhole, IsPiece, text_of, ArePieces, IsFault, step, moved, place, tokens_from, end_of, Lexes, LexFault}
-use Rattle.ae_text.specs.declared.scan.Fault.{Fault}
-use Rattle.ae_text.specs.declared.scan.Fault.TheVariants as fault
+use Rattle.ae_text.specs.declared.refusal.Deny.{Deny}
 use Rattle.ae_text.specs.declared.refusal.Deny.TheVariants as deny
-use Rattle.ae_text.specs.Scan.{Cuts, Scanned, Faults, IsDenied, denied, kind_in, token_of}
-use Rattle.ae_text.proofs.LexLemmas.{piece_unique, no_piece, spells_first}
+use Rattle.ae_text.specs.declared.faults.Fault.{Fault}
+use Rattle.ae_text.specs.declared.faults.Fault.TheVariants as fault
+use Rattle.ae_text.specs.Tokens.{Text, width, spelled, Piece, White, Comment, Tok, spelling, Spells, IsNumber, IsPiece, text_of, ArePieces, IsNothing, IsTooLarge, IsOpen, IsBadEscape, IsFault, step, start, moved, place, token_at, tokens_from, end_of, Lexes, CutFault, LexFault, NoEnd, IsWhole}
+use Rattle.ae_text.specs.Scan.{Front, Cuts, FaultAfter, Faults, Scanned, IsDenied, IsWithin, denied, kind_in, token_of}
+use Rattle.ae_text.proofs.ScanLemmas.{front_nil, front_then, front_as, front_length, front_take, front_smaller, front_utf8}
+use Rattle.ae_text.proofs.QuoteLemmas.{open_no_quoted, bad_no_quoted}
+use Rattle.ae_text.proofs.LexLemmas.{piece_unique, spells_first, nothing_no_piece, large_no_piece, quote_piece}
+
+-- ---- one cutting
 
 -- no piece is empty
 spelling_some : (p : Piece) (x : Text) → IsPiece p x → (b : ℕ) × (r : Text) × (spelling p ≡ b ∷ r)
 spelling_some (White b) x m = (b, [], refl)
-spelling_some (Tok k s) x m = let f = spells_first k s m.0.spells in (f.0, f.1, f.2)
+spelling_some (Comment c) x m = (_, _, refl)
+spelling_some (Tok k s) x m = let f = spells_first k s m.spells in (f.0, f.1, f.2)
 
 -- of two cuttings of one text one goes on where the other ends
-abbrev GoesOn : List Piece → List Piece → Text → Text → Type 0
+abbrev pub GoesOn : List Piece → List Piece → Text → Text → Type 0
 GoesOn ps qs x y = (zs : List Piece) × (qs ≡ ps ++ zs) × (x ≡ text_of zs ++ y) × ArePieces zs y
 
-abbrev OneGoesOn : List Piece → List Piece → Text → Text → Type 0
+abbrev pub OneGoesOn : List Piece → List Piece → Text → Text → Type 0
 OneGoesOn ps qs x y = GoesOn ps qs x y ⊎ GoesOn qs ps y x
 
 after_one : (p : Piece) (ps qs : List Piece) (x y : Text) → OneGoesOn ps qs x y → OneGoesOn (p ∷ ps) (p ∷ qs) x y
@@ -32,7 +41,7 @@ after_one p ps qs x y e = elim e as (λ _. OneGoesOn (p ∷ ps) (p ∷ qs) x y) 
   | inr g ↦ inr (g.0, ap (λ l. p ∷ l) g.1, g.2, g.3)
 ]
 
-cuttings : (ps qs : List Piece) (x y : Text) → ArePieces ps x → ArePieces qs y → text_of ps ++ x ≡ text_of qs ++ y → OneGoesOn ps qs x y
+pub cuttings : (ps qs : List Piece) (x y : Text) → ArePieces ps x → ArePieces qs y → text_of ps ++ x ≡ text_of qs ++ y → OneGoesOn ps qs x y
 cuttings [] qs x y m n e = inl (qs, refl, e, n)
 cuttings (p ∷ ps) [] x y m n e = inr (p ∷ ps, refl, sym e, m)
 cuttings (p ∷ ps) (q ∷ qs) x y m n e =
@@ -54,37 +63,68 @@ cut_unique ps qs m n e =
       | inr g ↦ g.1 ∙ ap (λ l. qs ++ l) (nothing_left g.0 [] g.3 g.2) ∙ append-nil qs
     ]
 
-fault_some : (r : Rule) → IsFault r [] → ⊥
-fault_some rule.BadChar f = f
-fault_some rule.IntTooLarge f = no_number f.0 f.1 f.2 f.3
+pub lexes_unique : (bytes : Text) (ts us : List Token) → Lexes bytes ts → Lexes bytes us → ts ≡ us
+lexes_unique bytes ts us a b =
+    let texts : text_of a.pieces ≡ text_of b.pieces = encodes_same _ _ (sym a.whole ∙ b.whole) in
+    let same : a.pieces ≡ b.pieces = cut_unique a.pieces b.pieces a.each b.each texts in
+    a.are ∙ ap (λ l. tokens_from bytes 0 l ++ end_of bytes ∷ []) same ∙ sym b.are
+
+-- ---- where a fault stands, no piece begins
+
+abbrev pub NoPiece : Text → Type 0
+NoPiece text = (p : Piece) (x : Text) → IsPiece p x → text ≡ spelling p ++ x → ⊥
+
+open_no_piece : (text : Text) → IsOpen text → NoPiece text
+open_no_piece text o p x m e =
+    let q = quote_piece p _ x m (sym o.parts ∙ e) in
+    open_no_quoted text q.0 (34 ∷ q.1) x o q.3 (e ∙ ap (λ w. spelling w ++ x) q.2)
+
+bad_no_piece : (before rest : Text) → IsBadEscape before rest → NoPiece (before ++ rest)
+bad_no_piece before rest o p x m e =
+    let q = quote_piece p _ x m (ap (λ w. w ++ rest) (sym o.front) ∙ e) in
+    bad_no_quoted before rest q.0 (34 ∷ q.1) x o q.3 (e ∙ ap (λ w. spelling w ++ x) q.2)
+
+pub fault_no_piece : (r : Rule) (before rest : Text) → IsFault r before rest → NoPiece (before ++ rest)
+fault_no_piece rule.BadChar before rest (inl f) p x m e = nothing_no_piece p rest x f.1 m (ap (λ w. w ++ rest) (sym f.0) ∙ e)
+fault_no_piece rule.BadChar before rest (inr f) p x m e = bad_no_piece before rest f p x m e
+fault_no_piece rule.IntTooLarge before rest f p x m e = large_no_piece p rest x f.1 m (ap (λ w. w ++ rest) (sym f.0) ∙ e)
+fault_no_piece rule.OpenText before rest f p x m e = open_no_piece rest f.1 p x m (ap (λ w. w ++ rest) (sym f.0) ∙ e)
+fault_no_piece _ before rest f p x m e = absurd f
+
+large_some : (text : Text) → IsTooLarge text → text ≡ [] → ⊥
+large_some text f e = no_number f.digits f.after (sym e ∙ f.parts) f.number
   where
     no_number : (s after : Text) → [] ≡ s ++ after → IsNumber s → ⊥
     no_number [] after e n = n
     no_number (d ∷ s) after e n = let no_way : [] ≡ d ∷ (s ++ after) = e in cc
-fault_some _ f = absurd f
 
-goes_past : (r : Rule) (zs : List Piece) (x : Text) → IsFault r x → x ≡ text_of zs ++ [] → ArePieces zs [] → ⊥
-goes_past r [] x f e m = let P : Text → Type 0 = IsFault r in fault_some r (subst P e f)
-goes_past r (z ∷ zs) x f e m = no_piece r z x (text_of zs ++ []) f m.0 (e ∙ append_assoc (spelling z) (text_of zs) [])
+fault_some : (r : Rule) (before rest : Text) → IsFault r before rest → before ++ rest ≡ [] → ⊥
+fault_some rule.BadChar before rest (inl f) e = let P : Text → Type 0 = IsNothing in subst P (ap (λ w. w ++ rest) (sym f.0) ∙ e) f.1
+fault_some rule.BadChar before rest (inr f) e = let no_way : [] ≡ 34 ∷ (spelled f.inner ++ rest) = sym e ∙ ap (λ w. w ++ rest) f.front in cc
+fault_some rule.IntTooLarge before rest f e = large_some rest f.1 (ap (λ w. w ++ rest) (sym f.0) ∙ e)
+fault_some rule.OpenText before rest f e = let no_way : [] ≡ 34 ∷ (spelled f.1.inner ++ f.1.after) = sym e ∙ ap (λ w. w ++ rest) f.0 ∙ f.1.parts in cc
+fault_some _ before rest f e = absurd f
 
-fault_stops : (r : Rule) (ps qs : List Piece) (x : Text) → ArePieces ps x → ArePieces qs [] → IsFault r x → text_of ps ++ x ≡ text_of qs → ⊥
-fault_stops r ps qs x m n f e =
+goes_past : (zs : List Piece) (x : Text) → NoPiece x → (x ≡ [] → ⊥) → x ≡ text_of zs ++ [] → ArePieces zs [] → ⊥
+goes_past [] x f s e m = s e
+goes_past (z ∷ zs) x f s e m = f z (text_of zs ++ []) m.0 (e ∙ append_assoc (spelling z) (text_of zs) [])
+
+fault_stops : (ps qs : List Piece) (x : Text) → ArePieces ps x → ArePieces qs [] → NoPiece x → (x ≡ [] → ⊥) → text_of ps ++ x ≡ text_of qs → ⊥
+fault_stops ps qs x m n f s e =
     elim (cuttings ps qs x [] m n (e ∙ sym (append-nil (text_of qs)))) as (λ _. ⊥) [
-      | inl g ↦ goes_past r g.0 x f g.2 g.3
-      | inr g ↦ let P : Text → Type 0 = IsFault r in
-          let zs_none : g.0 ≡ [] = nothing_left g.0 x g.3 g.2 in
-          fault_some r (subst P (sym (g.2 ∙ ap (λ l. text_of l ++ x) zs_none)) f)
+      | inl g ↦ goes_past g.0 x f s g.2 g.3
+      | inr g ↦ let zs_none : g.0 ≡ [] = nothing_left g.0 x g.3 g.2 in s (sym (g.2 ∙ ap (λ l. text_of l ++ x) zs_none))
     ]
 
-pub lexes_unique : (bytes : Text) (ts us : List Token) → Lexes bytes ts → Lexes bytes us → ts ≡ us
-lexes_unique bytes ts us a b =
-    let same : a.pieces ≡ b.pieces = cut_unique a.pieces b.pieces a.each b.each (sym a.whole ∙ b.whole) in
-    a.are ∙ ap (λ l. tokens_from bytes 0 l ++ end_of bytes ∷ []) same ∙ sym b.are
-
-pub fault_refuses : (bytes : Text) (r : Rule) (at : ℕ) (us : List Token) → LexFault bytes r at → Lexes bytes us → ⊥
-fault_refuses bytes r at us f b = fault_stops r f.pieces b.pieces f.rest f.each b.each f.fault (sym f.whole ∙ b.whole)
+pub fault_refuses : (bytes : Text) (r : Rule) (at : ℕ) (us : List Token) → CutFault bytes r at → Lexes bytes us → ⊥
+fault_refuses bytes r at us f b =
+    let texts : text_of f.pieces ++ (f.before ++ f.rest) ≡ text_of b.pieces = encodes_same _ _ (sym f.whole ∙ b.whole) in
+    fault_stops f.pieces b.pieces (f.before ++ f.rest) f.each b.each (fault_no_piece r f.before f.rest f.fault) (fault_some r f.before f.rest f.fault) texts
 
 -- ---- one more piece
+
+width-append : (a b : Text) → width (a ++ b) ≡ width a + width b
+width-append a b = ap length (encodes-append a b) ∙ length-append (encode_utf8_all a) (encode_utf8_all b)
 
 text_of-push : (ps : List Piece) (p : Piece) → text_of (ps ++ p ∷ []) ≡ text_of ps ++ spelling p
 text_of-push [] p = append-nil (spelling p)
@@ -100,83 +140,118 @@ moved-append : (p : Spot) (a b : Text) → moved p (a ++ b) ≡ moved (moved p a
 moved-append p [] b = refl
 moved-append p (x ∷ a) b = moved-append (step p x) a b
 
-tokens-append : (bytes : Text) (at : ℕ) (ps qs : List Piece) → tokens_from bytes at (ps ++ qs) ≡ tokens_from bytes at ps ++ tokens_from bytes (at + length (text_of ps)) qs
-tokens-append bytes at [] qs = ap (λ n. tokens_from bytes n qs) (omega arith)
-tokens-append bytes at (White b ∷ ps) qs =
-    tokens-append bytes (at + 1) ps qs ∙ ap (λ n. tokens_from bytes (at + 1) ps ++ tokens_from bytes n qs) (omega arith)
-tokens-append bytes at (Tok k s ∷ ps) qs =
-    ap (λ l. record { kind = k; begin = at; end = at + length s; at = place bytes at } ∷ l)
-    (tokens-append bytes (at + length s) ps qs ∙ ap (λ n. tokens_from bytes (at + length s) ps ++ tokens_from bytes n qs) (omega (arith, length-append s (text_of ps))))
+moved-characters : (a b : Text) → moved (moved start (encode_utf8_all a)) (encode_utf8_all b) ≡ moved start (encode_utf8_all (a ++ b))
+moved-characters a b = sym (moved-append start (encode_utf8_all a) (encode_utf8_all b)) ∙ ap (moved start) (sym (encodes-append a b))
 
-token_of_piece : (bytes : Text) (at : ℕ) (p : Piece) → tokens_from bytes at (p ∷ []) ≡ token_of (kind_in p) at (at + length (spelling p)) (place bytes at)
+tokens-append : (bytes : Text) (at : ℕ) (ps qs : List Piece) → tokens_from bytes at (ps ++ qs) ≡ tokens_from bytes at ps ++ tokens_from bytes (at + width (text_of ps)) qs
+tokens-append bytes at [] qs = ap (λ n. tokens_from bytes n qs) (omega arith)
+tokens-append bytes at (p ∷ ps) qs =
+    let w : ℕ = width (spelling p) in
+    let size : at + w + width (text_of ps) ≡ at + width (spelling p ++ text_of ps) = omega (arith, width-append (spelling p) (text_of ps)) in
+    ap (λ l. token_at bytes at p ++ l) (tokens-append bytes (at + w) ps qs ∙ ap (λ n. tokens_from bytes (at + w) ps ++ tokens_from bytes n qs) size)
+    ∙ sym (append_assoc (token_at bytes at p) (tokens_from bytes (at + w) ps) (tokens_from bytes (at + width (spelling p ++ text_of ps)) qs))
+
+token_of_piece : (bytes : Text) (at : ℕ) (p : Piece) → tokens_from bytes at (p ∷ []) ≡ token_of (kind_in p) at (at + width (spelling p)) (place bytes at)
 token_of_piece bytes at (White b) = refl
+token_of_piece bytes at (Comment c) = refl
 token_of_piece bytes at (Tok k s) = refl
 
--- a place by the pieces before it
-place_of : (bytes x : Text) (ps : List Piece) → bytes ≡ text_of ps ++ x → place bytes (length (text_of ps)) ≡ moved start (text_of ps)
-place_of bytes x ps e = ap (λ l. moved start (take (length (text_of ps)) l)) e ∙ ap (moved start) (take-append_seam (text_of ps) x)
+-- the place behind the characters of a front
+place_of : (bytes x s : Text) → Front bytes s x → place bytes (width s) ≡ moved start (encode_utf8_all s)
+place_of bytes x s f = ap (moved start) (front_take bytes x s (width s) f refl)
 
-pub scanned_start : (bytes : Text) → Scanned bytes bytes start []
-scanned_start bytes = record { pieces = []; whole = refl; each = tt; spot_is = refl; tokens_are = refl }
+pub scanned_start : (bytes : Text) → IsUtf8 bytes → Scanned bytes bytes start []
+scanned_start bytes u = record { pieces = []; utf8 = u; front = front_nil bytes; each = tt; spot_is = refl; tokens_are = refl }
 
-pub scanned_more : (bytes rest after : Text) (spot : Spot) (tokens : List Token) (kind : Option TokenKind) → Scanned bytes rest spot tokens → Cuts rest kind after →
+scanned_more : (bytes rest after : Text) (spot : Spot) (tokens : List Token) (kind : Option TokenKind) → Scanned bytes rest spot tokens → Cuts rest kind after →
     Scanned bytes after (moved spot (take (length rest - length after) rest))
     (tokens ++ token_of kind (length bytes - length rest) (length bytes - length rest + (length rest - length after)) spot)
 scanned_more bytes rest after spot tokens kind s c =
     let ps = s.pieces in
-    let n : ℕ = length (text_of ps) in
-    let rest_len : length rest ≡ length (spelling c.piece) + length after = ap length c.parts ∙ length-append (spelling c.piece) after in
-    let bytes_len : length bytes ≡ n + length rest = ap length s.whole ∙ length-append (text_of ps) rest in
-    let size : length rest - length after ≡ length (spelling c.piece) = omega arith in
+    let n : ℕ = width (text_of ps) in
+    let w : ℕ = width (spelling c.piece) in
+    let rest_len : length rest ≡ w + length after = front_length rest after (spelling c.piece) c.front in
+    let bytes_len : length bytes ≡ n + length rest = front_length bytes rest (text_of ps) s.front in
+    let size : length rest - length after ≡ w = omega arith in
     let begin : length bytes - length rest ≡ n = omega arith in
-    let taken : take (length rest - length after) rest ≡ spelling c.piece =
-    ap (λ k. take k rest) size ∙ ap (λ l. take (length (spelling c.piece)) l) c.parts ∙ take-append_seam (spelling c.piece) after in
-    let here : spot ≡ place bytes n = s.spot_is ∙ sym (place_of bytes rest ps s.whole) in
+    let taken : take (length rest - length after) rest ≡ encode_utf8_all (spelling c.piece) = front_take rest after (spelling c.piece) _ c.front size in
+    let here : spot ≡ place bytes n = s.spot_is ∙ sym (place_of bytes rest (text_of ps) s.front) in
     let zero_plus : n ≡ 0 + n = omega arith in
     let P : Text → Type 0 = ArePieces ps in
     record {
       pieces = ps ++ c.piece ∷ [];
-      whole = s.whole ∙ ap (λ l. text_of ps ++ l) c.parts ∙ sym (append_assoc (text_of ps) (spelling c.piece) after) ∙ ap (λ l. l ++ after) (sym (text_of-push ps c.piece));
-      each = ArePieces-push ps c.piece after (subst P c.parts s.each) c.is;
-      spot_is = ap (moved spot) taken ∙ ap (λ p. moved p (spelling c.piece)) s.spot_is ∙ sym (moved-append start (text_of ps) (spelling c.piece)) ∙ ap (moved start) (sym (text_of-push ps c.piece));
+      utf8 = s.utf8;
+      front = front_as bytes after _ _ (sym (text_of-push ps c.piece)) (front_then bytes rest after (text_of ps) (spelling c.piece) s.front c.front);
+      each = ArePieces-push ps c.piece (chars after) (subst P c.front.characters s.each) c.is;
+      spot_is = ap (moved spot) taken ∙ ap (λ p. moved p (encode_utf8_all (spelling c.piece))) s.spot_is ∙ moved-characters (text_of ps) (spelling c.piece) ∙ ap (λ l. moved start (encode_utf8_all l)) (sym (text_of-push ps c.piece));
       tokens_are =
           ap (λ l. l ++ token_of kind (length bytes - length rest) (length bytes - length rest + (length rest - length after)) spot) s.tokens_are
           ∙ ap (λ l. tokens_from bytes 0 ps ++ l)
           (ap (λ k. token_of k (length bytes - length rest) (length bytes - length rest + (length rest - length after)) spot) c.kind_is
           ∙ ap (λ k. token_of (kind_in c.piece) k (k + (length rest - length after)) spot) begin
           ∙ ap (λ k. token_of (kind_in c.piece) n (n + k) spot) size
-          ∙ ap (λ p. token_of (kind_in c.piece) n (n + length (spelling c.piece)) p) here
+          ∙ ap (λ p. token_of (kind_in c.piece) n (n + w) p) here
           ∙ sym (token_of_piece bytes n c.piece))
           ∙ ap (λ k. tokens_from bytes 0 ps ++ tokens_from bytes k (c.piece ∷ [])) zero_plus
           ∙ sym (tokens-append bytes 0 ps (c.piece ∷ []));
     }
 
-pub scanned_smaller : (rest after : Text) (kind : Option TokenKind) → Cuts rest kind after → (length after < length rest) × (length rest - length after ≤ length rest)
-scanned_smaller rest after kind c =
-    let f = spelling_some c.piece after c.is in
-    (omega (arith, ap length c.parts, length-append (spelling c.piece) after, ap length f.2), omega arith)
+pub scanned_next : (bytes rest after : Text) (spot spot' : Spot) (tokens tokens' : List Token) (kind : Option TokenKind) → Scanned bytes rest spot tokens → Cuts rest kind after →
+    spot' ≡ moved spot (take (length rest - length after) rest) → tokens' ≡ tokens ++ token_of kind (length bytes - length rest) (length bytes - length rest + (length rest - length after)) spot →
+    Scanned bytes after spot' tokens'
+scanned_next bytes rest after spot spot' tokens tokens' kind s c e d =
+    let P : Spot → Type 0 = λ p. Scanned bytes after p tokens' in
+    let Q : List Token → Type 0 = λ l. Scanned bytes after (moved spot (take (length rest - length after) rest)) l in
+    subst P (sym e) (subst Q (sym d) (scanned_more bytes rest after spot tokens kind s c))
+
+pub cuts_smaller : (rest after : Text) (kind : Option TokenKind) → Cuts rest kind after → length after < length rest
+cuts_smaller rest after kind c =
+    let f = spelling_some c.piece (chars after) c.is in
+    front_smaller rest after f.0 f.1 (front_as rest after _ _ f.2 c.front)
+
+pub cuts_utf8 : (rest after : Text) (kind : Option TokenKind) → Cuts rest kind after → IsUtf8 rest → IsUtf8 after
+cuts_utf8 rest after kind c u = front_utf8 rest after (spelling c.piece) c.front u
 
 pub scanned_within : (bytes rest : Text) (spot : Spot) (tokens : List Token) → Scanned bytes rest spot tokens → length rest ≤ length bytes
-scanned_within bytes rest spot tokens s = omega (arith, ap length s.whole, length-append (text_of s.pieces) rest)
+scanned_within bytes rest spot tokens s = omega (arith, front_length bytes rest (text_of s.pieces) s.front)
 
-pub scanned_end : (bytes rest : Text) (spot : Spot) (tokens : List Token) → Scanned bytes rest spot tokens → rest ≡ [] → Lexes bytes (tokens ++ record { kind = (end_of bytes).kind; begin = length bytes; end = length bytes; at = spot } ∷ [])
+pub scanned_end : (bytes rest : Text) (spot : Spot) (tokens : List Token) → Scanned bytes rest spot tokens → chars rest ≡ [] → Lexes bytes (tokens ++ record { kind = (end_of bytes).kind; begin = length bytes; end = length bytes; at = spot } ∷ [])
 scanned_end bytes rest spot tokens s e =
-    let all : bytes ≡ text_of s.pieces = s.whole ∙ ap (λ l. text_of s.pieces ++ l) e ∙ append-nil (text_of s.pieces) in
+    let all : bytes ≡ encode_utf8_all (text_of s.pieces) =
+    sym (encodes-chars bytes s.utf8) ∙ ap encode_utf8_all (s.front.characters ∙ ap (λ l. text_of s.pieces ++ l) e ∙ append-nil (text_of s.pieces)) in
     let here : spot ≡ place bytes (length bytes) = s.spot_is ∙ ap (moved start) (sym all ∙ sym (take-length bytes)) in
     let P : Text → Type 0 = ArePieces s.pieces in
     record {
       pieces = s.pieces;
+      utf8 = s.utf8;
       whole = all;
       each = subst P e s.each;
       are = ap (λ l. l ++ record { kind = (end_of bytes).kind; begin = length bytes; end = length bytes; at = spot } ∷ []) s.tokens_are
           ∙ ap (λ p. tokens_from bytes 0 s.pieces ++ record { kind = (end_of bytes).kind; begin = length bytes; end = length bytes; at = p } ∷ []) here;
     }
 
-pub scanned_fault : (bytes rest : Text) (spot : Spot) (tokens : List Token) (r : Rule) → Scanned bytes rest spot tokens → IsFault r rest → (at : ℕ) × LexFault bytes r at × (spot ≡ place bytes at)
-scanned_fault bytes rest spot tokens r s f =
-    (length (text_of s.pieces), record { pieces = s.pieces; rest = rest; whole = s.whole; each = s.each; offset = refl; fault = f }, s.spot_is ∙ sym (place_of bytes rest s.pieces s.whole))
+scanned_fault : (bytes rest : Text) (spot : Spot) (tokens : List Token) (r : Rule) (ahead : ℕ) → Scanned bytes rest spot tokens → FaultAfter rest r ahead → (at : ℕ) × CutFault bytes r at × (moved spot (take ahead rest) ≡ place bytes at)
+scanned_fault bytes rest spot tokens r ahead s f =
+    let ps = s.pieces in
+    let both : Front bytes (text_of ps ++ f.before) f.after = front_then bytes rest f.after (text_of ps) f.before s.front f.front in
+    let taken : take ahead rest ≡ encode_utf8_all f.before = front_take rest f.after f.before ahead f.front f.ahead_is in
+    let P : Text → Type 0 = ArePieces ps in (
+      width (text_of ps ++ f.before),
+      record {
+        pieces = ps;
+        before = f.before;
+        rest = chars f.after;
+        utf8 = s.utf8;
+        whole = sym (encodes-chars bytes s.utf8) ∙ ap encode_utf8_all (s.front.characters ∙ ap (λ l. text_of ps ++ l) f.front.characters);
+        each = subst P f.front.characters s.each;
+        offset = refl;
+        fault = f.is;
+      },
+      ap (moved spot) taken ∙ ap (λ p. moved p (encode_utf8_all f.before)) s.spot_is ∙ moved-characters (text_of ps) f.before ∙ sym (place_of bytes f.after (text_of ps ++ f.before) both),
+    )
 
--- places fit
+-- ---- places fit
+
 abbrev chosen : Bool → Spot → Spot
 chosen b p = if b then record { line = p.line + 1; col = 1 } else record { line = p.line; col = p.col + 1 }
 
@@ -193,27 +268,29 @@ moved-bound p (b ∷ bs) h =
 
 pub scanned_place : (bytes rest : Text) (spot : Spot) (tokens : List Token) → Scanned bytes rest spot tokens → (spot.line + length rest ≤ 1 + length bytes) × (spot.col + length rest ≤ 1 + length bytes) × (0 < spot.col)
 scanned_place bytes rest spot tokens s =
-    let b = moved-bound start (text_of s.pieces) (omega arith) in
-    let l : spot.line ≡ (moved start (text_of s.pieces)).line = ap (λ (p : Spot). p.line) s.spot_is in
-    let k : spot.col ≡ (moved start (text_of s.pieces)).col = ap (λ (p : Spot). p.col) s.spot_is in
-    let bytes_len : length bytes ≡ length (text_of s.pieces) + length rest = ap length s.whole ∙ length-append (text_of s.pieces) rest in
+    let b = moved-bound start (encode_utf8_all (text_of s.pieces)) (omega arith) in
+    let l : spot.line ≡ (moved start (encode_utf8_all (text_of s.pieces))).line = ap (λ (p : Spot). p.line) s.spot_is in
+    let k : spot.col ≡ (moved start (encode_utf8_all (text_of s.pieces))).col = ap (λ (p : Spot). p.col) s.spot_is in
+    let bytes_len : length bytes ≡ width (text_of s.pieces) + length rest = front_length bytes rest (text_of s.pieces) s.front in
     (omega (arith, b.0), omega (arith, b.1), omega (arith, b.2))
 
-pub scanned_denied : (bytes rest : Text) (spot : Spot) (tokens : List Token) (f : Fault) → Scanned bytes rest spot tokens → Faults rest f → IsDenied bytes (denied f spot)
-scanned_denied bytes rest spot tokens (fault.Rule r) s f = scanned_fault bytes rest spot tokens r s f
+-- ---- refusals
+
+pub faults_within : (text : Text) (f : Fault) → Faults text f → IsWithin f text
+faults_within text (fault.Rule r ahead) f = omega (arith, f.ahead_is, front_length text f.after f.before f.front)
+faults_within text fault.Memory f = tt
+
+cut_is_fault : (bytes : Text) (r : Rule) (at : ℕ) → CutFault bytes r at → LexFault bytes r at
+cut_is_fault bytes rule.NotText at f = absurd f.fault
+cut_is_fault bytes _ at f = f
+
+pub scanned_denied : (bytes rest : Text) (spot : Spot) (tokens : List Token) (f : Fault) → Scanned bytes rest spot tokens → Faults rest f → IsDenied bytes (denied f rest spot)
+scanned_denied bytes rest spot tokens (fault.Rule r ahead) s f = let q = scanned_fault bytes rest spot tokens r ahead s f in (q.0, cut_is_fault bytes r q.0 q.1, q.2)
 scanned_denied bytes rest spot tokens fault.Memory s f = tt
 
-pub scanned_refused : (bytes rest : Text) (spot : Spot) (tokens us : List Token) (f : Fault) → Scanned bytes rest spot tokens → Faults rest f → Lexes bytes us → denied f spot ≡ deny.Memory
-scanned_refused bytes rest spot tokens us (fault.Rule r) s f l = absurd (let q = scanned_fault bytes rest spot tokens r s f in fault_refuses bytes r q.0 us q.1 l)
+pub scanned_refused : (bytes rest : Text) (spot : Spot) (tokens us : List Token) (f : Fault) → Scanned bytes rest spot tokens → Faults rest f → Lexes bytes us → denied f rest spot ≡ deny.Memory
+scanned_refused bytes rest spot tokens us (fault.Rule r ahead) s f l = absurd (let q = scanned_fault bytes rest spot tokens r ahead s f in fault_refuses bytes r q.0 us q.1 l)
 scanned_refused bytes rest spot tokens us fault.Memory s f l = refl
-
-pub scanned_next : (bytes rest after : Text) (spot spot' : Spot) (tokens tokens' : List Token) (kind : Option TokenKind) → Scanned bytes rest spot tokens → Cuts rest kind after →
-    spot' ≡ moved spot (take (length rest - length after) rest) → tokens' ≡ tokens ++ token_of kind (length bytes - length rest) (length bytes - length rest + (length rest - length after)) spot →
-    Scanned bytes after spot' tokens'
-scanned_next bytes rest after spot spot' tokens tokens' kind s c e d =
-    let P : Spot → Type 0 = λ p. Scanned bytes after p tokens' in
-    let Q : List Token → Type 0 = λ l. Scanned bytes after (moved spot (take (length rest - length after) rest)) l in
-    subst P (sym e) (subst Q (sym d) (scanned_more bytes rest after spot tokens kind s c))
 
 -- ---- the end is last
 
@@ -224,26 +301,35 @@ no_end-append (x ∷ xs) ys m n = (m.0, no_end-append xs ys m.1 n)
 spelled_no_end : (k : TokenKind) (s : Text) → Spells k s → k ≡ t.End → ⊥
 spelled_no_end k s h e = let P : TokenKind → Type 0 = λ w. Spells w s in subst P e h
 
+token_no_end : (bytes x : Text) (at : ℕ) (p : Piece) → IsPiece p x → NoEnd (token_at bytes at p)
+token_no_end bytes x at (White b) m = tt
+token_no_end bytes x at (Comment c) m = tt
+token_no_end bytes x at (Tok k s) m = (spelled_no_end k s m.spells, tt)
+
 tokens_no_end : (bytes x : Text) (at : ℕ) (ps : List Piece) → ArePieces ps x → NoEnd (tokens_from bytes at ps)
 tokens_no_end bytes x at [] m = tt
-tokens_no_end bytes x at (White b ∷ ps) m = tokens_no_end bytes x (at + 1) ps m.1
-tokens_no_end bytes x at (Tok k s ∷ ps) m = (spelled_no_end k s m.0.0.spells, tokens_no_end bytes x (at + length s) ps m.1)
+tokens_no_end bytes x at (p ∷ ps) m =
+    no_end-append (token_at bytes at p) (tokens_from bytes (at + width (spelling p)) ps) (token_no_end bytes (text_of ps ++ x) at p m.0) (tokens_no_end bytes x (at + width (spelling p)) ps m.1)
 
 pub lexes_whole : (bytes : Text) (tokens : List Token) → Lexes bytes tokens → IsWhole tokens
 lexes_whole bytes tokens l = record { front = tokens_from bytes 0 l.pieces; last = end_of bytes; parts = l.are; no_end = tokens_no_end bytes [] 0 l.pieces l.each; end = refl }
 
--- each token has a byte of its own
+-- ---- each token has a character of its own
 
-some_byte : (s r : Text) (b : ℕ) → s ≡ b ∷ r → 0 < length s
-some_byte s r b e = omega (arith, ap length e)
+some_char : (s r : Text) (c : ℕ) → s ≡ c ∷ r → 0 < length s
+some_char s r c e = omega (arith, ap length e)
+
+token_few : (bytes x : Text) (at : ℕ) (p : Piece) → IsPiece p x → length (token_at bytes at p) ≤ length (spelling p)
+token_few bytes x at (White c) m = omega arith
+token_few bytes x at (Comment c) m = omega arith
+token_few bytes x at (Tok k s) m = let f = spells_first k s m.spells in omega (arith, some_char s f.1 f.0 f.2)
 
 tokens_few : (bytes x : Text) (at : ℕ) (ps : List Piece) → ArePieces ps x → length (tokens_from bytes at ps) ≤ length (text_of ps)
 tokens_few bytes x at [] m = omega arith
-tokens_few bytes x at (White b ∷ ps) m = omega (arith, tokens_few bytes x (at + 1) ps m.1)
-tokens_few bytes x at (Tok k s ∷ ps) m =
-    let f = spells_first k s m.0.0.spells in
-    omega (arith, tokens_few bytes x (at + length s) ps m.1, length-append s (text_of ps), some_byte s f.1 f.0 f.2)
+tokens_few bytes x at (p ∷ ps) m =
+    omega (arith, length-append (token_at bytes at p) (tokens_from bytes (at + width (spelling p)) ps), length-append (spelling p) (text_of ps),
+    token_few bytes (text_of ps ++ x) at p m.0, tokens_few bytes x (at + width (spelling p)) ps m.1)
 
 pub lexes_few : (bytes : Text) (tokens : List Token) → Lexes bytes tokens → length tokens ≤ length bytes + 1
 lexes_few bytes tokens l =
-    omega (arith, ap length l.are, length-append (tokens_from bytes 0 l.pieces) (end_of bytes ∷ []), tokens_few bytes [] 0 l.pieces l.each, ap length l.whole)
+    omega (arith, ap length l.are, length-append (tokens_from bytes 0 l.pieces) (end_of bytes ∷ []), tokens_few bytes [] 0 l.pieces l.each, ap length l.whole, length-le-encodes (text_of l.pieces))

@@ -1,10 +1,16 @@
 -- Keywords and signs: each is told from the others by its text.
-use Rattle.std.proofs.Common.{◌≡◌, ◌≢◌, ◌==◌, if◌then◌else◌, ℕ, zero, suc, ◌+◌, ◌<◌, take, get_or, Bool, true, false, ◌||◌, ◌&&◌, nat_le, IsTrue, List, [], ◌∷◌, length, Option, Some, None, refl, sym, ap, ◌∙◌, subst, arith}
+use Rattle.std.proofs.Common.{◌≡◌, ◌≢◌, ◌==◌, if◌then◌else◌, ℕ, zero, suc, ◌+◌, ◌<◌, take, get_or, Bool, true, false, ◌||◌, ◌&&◌, nat_le, IsTrue, ◌⊎◌, inl, inr, List, [], ◌∷◌, ◌++◌, length, Option, Some, None, refl, sym, ap, ◌∙◌, subst, arith, rules, tests}
 use Rattle.ae_text.specs.declared.token.Keyword.{Keyword}
 use Rattle.ae_text.specs.declared.token.Keyword.TheVariants as word
 use Rattle.ae_text.specs.declared.token.Sign.{Sign}
 use Rattle.ae_text.specs.declared.token.Sign.TheVariants as sign
-use Rattle.ae_text.specs.Tokens.{Text, Each, is_digit, is_letter, is_word, keyword_text, sign_text, IsWord}
+use Rattle.ae_text.specs.Tokens.{Text, Each, is_digit, begins_word, goes_on, keyword_text, sign_text, IsWord}
+use Rattle.ae_text.specs.Scan.{NoSign}
+use Rattle.std.specs.Str.{encode_utf8_all}
+use Rattle.std.specs.Char.{is_ascii_alphabetic}
+use Rattle.std.proofs.lemmas.Str.{encode_ascii}
+use Rattle.unicode_ident.specs.Ident.{is_xid_start}
+use Rattle.unicode_ident.proofs.IdentLemmas.{is_xid_start-ascii, is_xid_start-is_xid_continue}
 
 abbrev pub keywords : List Keyword
 keywords = word.Ints ∷ word.Assert ∷ word.Atomic ∷ word.Bool ∷ word.Class ∷ word.Else ∷ word.Exclusive ∷ word.False ∷ word.Freeze ∷ word.Group ∷ word.If ∷ word.Immutable ∷ word.Int ∷ word.Into ∷ word.Len ∷ word.Lent ∷ word.Let ∷ word.Method ∷ word.New ∷ word.None ∷ word.Null ∷ word.Open ∷ word.Print ∷ word.Protected ∷ word.Return ∷ word.Share ∷ word.Shared ∷ word.Split ∷ word.Take ∷ word.This ∷ word.True ∷ word.Unique ∷ word.Void ∷ word.While ∷ word.With ∷ []
@@ -106,9 +112,40 @@ each_by : (c : ℕ → Bool) (s : Text) → each_test c s ≡ true → Each c s
 each_by c [] e = tt
 each_by c (b ∷ s) e = let p = both_true (c b) (each_test c s) e in (p.0, each_by c s p.1)
 
+abbrev pub ascii_letter : ℕ → Bool
+ascii_letter b = (nat_le 97 b && nat_le b 122) || (nat_le 65 b && nat_le b 90)
+
+letter_low : (b : ℕ) → IsTrue (ascii_letter b) → b < 128
+letter_low b h = search (rules, tests)
+
+letter_alphabetic : (b : ℕ) → IsTrue (ascii_letter b) → IsTrue (is_ascii_alphabetic b)
+letter_alphabetic b h = search (rules, tests)
+
+right_true : (a b : Bool) → b ≡ true → (a || b) ≡ true
+right_true true b e = refl
+right_true false b e = e
+
+letter_xid : (b : ℕ) → IsTrue (ascii_letter b) → is_xid_start b ≡ true
+letter_xid b h = is_xid_start-ascii b (letter_low b h) ∙ letter_alphabetic b h
+
+letter_begins : (b : ℕ) → IsTrue (ascii_letter b) → IsTrue (begins_word b)
+letter_begins b h = right_true (b == 95) (is_xid_start b) (letter_xid b h)
+
+letters_go_on : (s : Text) → Each ascii_letter s → Each goes_on s
+letters_go_on [] e = tt
+letters_go_on (b ∷ s) e = (is_xid_start-is_xid_continue b (letter_xid b e.0), letters_go_on s e.1)
+
+letters_same : (s : Text) → Each ascii_letter s → encode_utf8_all s ≡ s
+letters_same [] e = refl
+letters_same (b ∷ s) e = ap (λ x. x ++ encode_utf8_all s) (encode_ascii b (letter_low b e.0)) ∙ ap (λ x. b ∷ x) (letters_same s e.1)
+
+-- a word that begins with an ASCII character begins with a letter or `_`
+pub begins_ascii : (b : ℕ) → b < 128 → IsTrue (begins_word b) → IsTrue (b == 95 || is_ascii_alphabetic b)
+begins_ascii b h w = let P : Bool → Type 0 = λ x. IsTrue (b == 95 || x) in subst P (is_xid_start-ascii b h) w
+
 abbrev word_test : Text → Bool
 word_test [] = false
-word_test (b ∷ s) = is_letter b && each_test is_word s
+word_test (b ∷ s) = ascii_letter b && each_test ascii_letter s
 
 keyword_test : (k : Keyword) → word_test (keyword_text k) ≡ true
 keyword_test word.Ints = refl
@@ -149,14 +186,21 @@ keyword_test word.With = refl
 
 is_word_by : (s : Text) → word_test s ≡ true → IsWord s
 is_word_by [] e = absurd (cc)
-is_word_by (b ∷ s) e = let p = both_true (is_letter b) (each_test is_word s) e in (p.0, each_by is_word s p.1)
+is_word_by (b ∷ s) e = let p = both_true (ascii_letter b) (each_test ascii_letter s) e in (letter_begins b p.0, letters_go_on s (each_by ascii_letter s p.1))
 
 pub keyword_is_word : (k : Keyword) → IsWord (keyword_text k)
 keyword_is_word k = is_word_by (keyword_text k) (keyword_test k)
 
--- a byte that begins a sign begins nothing else
+word_same : (s : Text) → word_test s ≡ true → encode_utf8_all s ≡ s
+word_same [] e = refl
+word_same (b ∷ s) e = let p = both_true (ascii_letter b) (each_test ascii_letter s) e in letters_same (b ∷ s) (p.0, each_by ascii_letter s p.1)
+
+pub keyword_same : (k : Keyword) → encode_utf8_all (keyword_text k) ≡ keyword_text k
+keyword_same k = word_same (keyword_text k) (keyword_test k)
+
+-- a character that begins a sign begins nothing else
 abbrev pub signs_start : ℕ → Bool
-signs_start b = nat_le 33 b && nat_le b 125 && (if is_letter b || is_digit b then false else true) && (if b == 34 then false else true)
+signs_start b = nat_le 33 b && nat_le b 125 && (if ascii_letter b || is_digit b || b == 95 || b == 34 then false else true)
 
 abbrev first_test : Text → Bool
 first_test [] = false
@@ -195,6 +239,98 @@ sign_first_by (b ∷ s) e = (b, s, refl, e)
 
 pub sign_first : (g : Sign) → (b : ℕ) × (r : Text) × (sign_text g ≡ b ∷ r) × IsTrue (signs_start b)
 sign_first g = sign_first_by (sign_text g) (sign_test g)
+
+abbrev short : Text → Bool
+short [] = false
+short (b ∷ []) = true
+short (b ∷ c ∷ []) = true
+short (b ∷ c ∷ d ∷ s) = false
+
+short_sign : (g : Sign) → short (sign_text g) ≡ true
+short_sign sign.OpenBrace = refl
+short_sign sign.CloseBrace = refl
+short_sign sign.OpenParen = refl
+short_sign sign.CloseParen = refl
+short_sign sign.OpenBracket = refl
+short_sign sign.CloseBracket = refl
+short_sign sign.Less = refl
+short_sign sign.Greater = refl
+short_sign sign.Away = refl
+short_sign sign.Comma = refl
+short_sign sign.Semicolon = refl
+short_sign sign.Dot = refl
+short_sign sign.Assign = refl
+short_sign sign.Equal = refl
+short_sign sign.NotEqual = refl
+short_sign sign.LessEqual = refl
+short_sign sign.GreaterEqual = refl
+short_sign sign.Plus = refl
+short_sign sign.Minus = refl
+short_sign sign.Star = refl
+short_sign sign.Slash = refl
+short_sign sign.Percent = refl
+short_sign sign.Not = refl
+short_sign sign.AndAnd = refl
+short_sign sign.OrOr = refl
+
+abbrev Shape : Text → Type 0
+Shape s = ((b : ℕ) × (s ≡ b ∷ [])) ⊎ ((b : ℕ) × (c : ℕ) × (s ≡ b ∷ c ∷ []))
+
+shape_of : (s : Text) → short s ≡ true → Shape s
+shape_of [] e = absurd (cc)
+shape_of (b ∷ []) e = inl (b, refl)
+shape_of (b ∷ c ∷ []) e = inr (b, c, refl)
+shape_of (b ∷ c ∷ d ∷ s) e = absurd (cc)
+
+sign_shape : (g : Sign) → Shape (sign_text g)
+sign_shape g = shape_of (sign_text g) (short_sign g)
+
+-- no sign is spelled by these two characters
+abbrev pub NoDouble : ℕ → Text → Type 0
+NoDouble first rest = (second : ℕ) (r : Text) → rest ≡ second ∷ r → (g : Sign) → sign_text g ≢ first ∷ second ∷ []
+
+pub no_sign_end : (text : Text) → text ≡ [] → NoSign text
+no_sign_end text e = λ g after h. let f = sign_first g in let no_way : [] ≡ f.0 ∷ (f.1 ++ after) = sym e ∙ h ∙ ap (λ x. x ++ after) f.2 in cc
+
+pub no_double_end : (first : ℕ) (rest : Text) → rest ≡ [] → NoDouble first rest
+no_double_end first rest e = λ second r h g. absurd (let no_way : [] ≡ second ∷ r = sym e ∙ h in cc)
+
+pub no_double : (first second : ℕ) (rest r : Text) → rest ≡ second ∷ r → ((g : Sign) → sign_text g ≢ first ∷ second ∷ []) → NoDouble first rest
+no_double first second rest r e n = λ second' r' h g w. n g (let same : second' ≡ second = ap_head second' second r' r (sym h ∙ e) in w ∙ ap (λ x. first ∷ x ∷ []) same)
+  where
+    ap_head : (b c : ℕ) (s r : Text) → b ∷ s ≡ c ∷ r → b ≡ c
+    ap_head b c s r e = cc
+
+pub no_sign : (text rest : Text) (first : ℕ) → text ≡ first ∷ rest → NoDouble first rest → ((g : Sign) → sign_text g ≢ first ∷ []) → NoSign text
+no_sign text rest first e d n = λ g after h. by_shape g after (sym e ∙ h) (sign_shape g)
+  where
+    by_shape : (g : Sign) (after : Text) → first ∷ rest ≡ sign_text g ++ after → Shape (sign_text g) → ⊥
+    by_shape g after h (inl p) = n g (let all : first ∷ rest ≡ p.0 ∷ after = h ∙ ap (λ x. x ++ after) p.1 in let same : p.0 ≡ first = cc in p.1 ∙ ap (λ x. x ∷ []) same)
+    by_shape g after h (inr p) =
+        let all : first ∷ rest ≡ p.0 ∷ p.1 ∷ after = h ∙ ap (λ x. x ++ after) p.2 in
+        let same : p.0 ≡ first = cc in
+        let tail : rest ≡ p.1 ∷ after = cc in
+        d p.1 after tail g (p.2 ∙ ap (λ x. x ∷ p.1 ∷ []) same)
+
+pub single_longest : (g : Sign) (first : ℕ) (rest : Text) → sign_text g ≡ first ∷ [] → NoDouble first rest →
+    (h : Sign) (more after : Text) → rest ≡ more ++ after → sign_text g ++ more ≡ sign_text h → more ≡ []
+single_longest g first rest e d h more after r w = by_shape more r (ap (λ x. x ++ more) (sym e) ∙ w) (sign_shape h)
+  where
+    by_shape : (more : Text) → rest ≡ more ++ after → first ∷ more ≡ sign_text h → Shape (sign_text h) → more ≡ []
+    by_shape more r w (inl p) = let all : first ∷ more ≡ p.0 ∷ [] = w ∙ p.1 in cc
+    by_shape more r w (inr p) =
+        let all : first ∷ more ≡ p.0 ∷ p.1 ∷ [] = w ∙ p.2 in
+        let same : p.0 ≡ first = cc in
+        let tail : more ≡ p.1 ∷ [] = cc in
+        absurd (d p.1 after (r ∙ ap (λ x. x ++ after) tail) h (p.2 ∙ ap (λ x. x ∷ p.1 ∷ []) same))
+
+pub double_longest : (g : Sign) (first second : ℕ) → sign_text g ≡ first ∷ second ∷ [] →
+    (h : Sign) (more : Text) → sign_text g ++ more ≡ sign_text h → more ≡ []
+double_longest g first second e h more w = by_shape (ap (λ x. x ++ more) (sym e) ∙ w) (sign_shape h)
+  where
+    by_shape : first ∷ second ∷ more ≡ sign_text h → Shape (sign_text h) → more ≡ []
+    by_shape w (inl p) = let all : first ∷ second ∷ more ≡ p.0 ∷ [] = w ∙ p.1 in absurd (cc)
+    by_shape w (inr p) = let all : first ∷ second ∷ more ≡ p.0 ∷ p.1 ∷ [] = w ∙ p.2 in cc
 
 -- ---- the search for a keyword
 

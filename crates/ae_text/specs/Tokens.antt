@@ -1,5 +1,7 @@
--- Tokens: how a text is cut.
-use Rattle.std.specs.Prelude.{◌≡◌, ◌≢◌, ℕ, ◌+◌, ◌-◌, ◌*◌, ◌^◌, ◌<◌, ◌≤◌, pos, Bool, false, ◌||◌, ◌&&◌, ◌==◌, nat_le, if◌then◌else◌, IsTrue, List, [], ◌∷◌, ◌++◌, length, take, codes}
+-- Tokens: how a text is cut. Its characters are a sequence of pieces: white space, comments and tokens.
+use Rattle.std.specs.Prelude.{◌≡◌, ◌≢◌, ℕ, zero, suc, ◌+◌, ◌-◌, ◌*◌, ◌^◌, ◌<◌, ◌≤◌, pos, Bool, true, false, ◌||◌, ◌&&◌, ◌==◌, nat_le, if◌then◌else◌, IsTrue, ◌⊎◌, List, [], ◌∷◌, ◌++◌, length, take, codes}
+use Rattle.std.specs.Str.{encode_utf8_all, IsUtf8, IsValidUpTo}
+use Rattle.unicode_ident.specs.Ident.{is_xid_start, is_xid_continue}
 use Rattle.ae_text.specs.declared.refusal.Spot.{Spot}
 use Rattle.ae_text.specs.declared.refusal.Rule.{Rule}
 use Rattle.ae_text.specs.declared.refusal.Rule.TheVariants as rule
@@ -10,36 +12,59 @@ use Rattle.ae_text.specs.declared.token.Sign.TheVariants as sign
 use Rattle.ae_text.specs.declared.token.TokenKind.{TokenKind}
 use Rattle.ae_text.specs.declared.token.TokenKind.TheVariants as t
 use Rattle.ae_text.specs.declared.token.Token.{Token}
+use Rattle.ae_text.specs.declared.texts.Part.{Part}
+use Rattle.ae_text.specs.declared.texts.Part.TheVariants.{Plain, Escape}
 
+-- bytes, or characters
 abbrev pub Text : Type 0
 Text = List ℕ
+
+-- how many bytes characters take
+abbrev pub width : Text → ℕ
+width s = length (encode_utf8_all s)
 
 -- ---- characters
 
 -- space, tab, line feed and carriage return
 abbrev pub is_white : ℕ → Bool
-is_white b = b == 32 || b == 9 || b == 10 || b == 13
+is_white c = c == 32 || c == 9 || c == 10 || c == 13
 
 abbrev pub is_digit : ℕ → Bool
-is_digit b = nat_le 48 b && nat_le b 57
+is_digit c = nat_le 48 c && nat_le c 57
 
--- what a word begins with
-abbrev pub is_letter : ℕ → Bool
-is_letter b = (nat_le 97 b && nat_le b 122) || (nat_le 65 b && nat_le b 90) || b == 95
+-- what a word begins with: `_`, or what Unicode lets an identifier begin with
+abbrev pub begins_word : ℕ → Bool
+begins_word c = c == 95 || is_xid_start c
 
 -- what a word goes on with
-abbrev pub is_word : ℕ → Bool
-is_word b = is_letter b || is_digit b
+abbrev pub goes_on : ℕ → Bool
+goes_on c = is_xid_continue c
+
+-- not a line feed
+abbrev pub in_line : ℕ → Bool
+in_line c = if c == 10 then false else true
+
+-- what stands for itself in a text
+abbrev pub in_text : ℕ → Bool
+in_text c = if c == 34 || c == 92 || c == 10 then false else true
+
+-- n, t, `"` and `\`
+abbrev pub is_escape : ℕ → Bool
+is_escape c = c == 110 || c == 116 || c == 34 || c == 92
+
+-- the character for which `\` and this one stand
+abbrev pub escaped : ℕ → ℕ
+escaped c = if c == 110 then 10 else (if c == 116 then 9 else c)
 
 -- each passes the test
 abbrev pub Each : (ℕ → Bool) → Text → Type 0
 Each p [] = Unit {0}
-Each p (b ∷ bs) = IsTrue (p b) × Each p bs
+Each p (c ∷ cs) = IsTrue (p c) × Each p cs
 
--- nothing comes next, or a byte that fails the test
+-- nothing comes next, or a character that fails the test
 abbrev pub Stops : (ℕ → Bool) → Text → Type 0
 Stops p [] = Unit {0}
-Stops p (b ∷ bs) = p b ≡ false
+Stops p (c ∷ cs) = p c ≡ false
 
 -- ---- spellings
 
@@ -109,11 +134,11 @@ sign_text sign.OrOr = codes "||"
 
 abbrev pub IsWord : Text → Type 0
 IsWord [] = ⊥
-IsWord (b ∷ bs) = IsTrue (is_letter b) × Each is_word bs
+IsWord (c ∷ cs) = IsTrue (begins_word c) × Each goes_on cs
 
 abbrev pub IsNumber : Text → Type 0
 IsNumber [] = ⊥
-IsNumber (b ∷ bs) = IsTrue (is_digit b) × Each is_digit bs
+IsNumber (c ∷ cs) = IsTrue (is_digit c) × Each is_digit cs
 
 -- the number that decimal digits spell, behind those with the value v
 abbrev pub value_from : ℕ → Text → ℕ
@@ -123,11 +148,43 @@ value_from v (d ∷ ds) = value_from (v * 10 + (d - 48)) ds
 abbrev pub value : Text → ℕ
 value = value_from 0
 
--- the token that these bytes spell: a word is a keyword or else a name
+-- the characters of a text's parts: an escape is `\` and a character
+abbrev pub spelled : List Part → Text
+spelled [] = []
+spelled (Plain c ∷ ps) = c ∷ spelled ps
+spelled (Escape c ∷ ps) = 92 ∷ c ∷ spelled ps
+
+-- parts as they count for finding the closing quote: an escape may be of any character but a line feed
+abbrev pub AreParts : List Part → Type 0
+AreParts [] = Unit {0}
+AreParts (Plain c ∷ ps) = IsTrue (in_text c) × AreParts ps
+AreParts (Escape c ∷ ps) = IsTrue (in_line c) × AreParts ps
+
+-- no escape but those that stand for something
+abbrev pub AreKnown : List Part → Type 0
+AreKnown [] = Unit {0}
+AreKnown (Plain c ∷ ps) = AreKnown ps
+AreKnown (Escape c ∷ ps) = IsTrue (is_escape c) × AreKnown ps
+
+-- the characters for which parts stand
+abbrev pub meant : List Part → Text
+meant [] = []
+meant (Plain c ∷ ps) = c ∷ meant ps
+meant (Escape c ∷ ps) = escaped c ∷ meant ps
+
+-- the text with this value: a quote, parts, and a quote
+pub record IsQuoted (bytes s : Text) : Type 0 where
+  pub parts : List Part
+  pub whole : s ≡ 34 ∷ (spelled parts ++ 34 ∷ [])
+  pub are : AreParts parts
+  pub known : AreKnown parts
+  pub value_is : bytes ≡ encode_utf8_all (meant parts)
+
+-- the token that these characters spell: a word is a keyword or else a name
 abbrev pub Spells : TokenKind → Text → Type 0
-Spells (t.Name bytes) s = (bytes ≡ s) × IsWord s × ((k : Keyword) → s ≢ keyword_text k)
+Spells (t.Name bytes) s = (bytes ≡ encode_utf8_all s) × IsWord s × ((k : Keyword) → s ≢ keyword_text k)
 Spells (t.Int n) s = IsNumber s × (n ≡ pos (value s))
-Spells (t.Text bytes) s = ⊥
+Spells (t.Text bytes) s = IsQuoted bytes s
 Spells (t.Word k) s = s ≡ keyword_text k
 Spells (t.Sign g) s = s ≡ sign_text g
 Spells t.End s = ⊥
@@ -150,21 +207,26 @@ pub record IsToken (k : TokenKind) (s rest : Text) : Type 0 where
   pub spells : Spells k s
   pub longest : IsLongest s rest
   pub no_comment : NoComment (s ++ rest)
+  pub in_range : IsInRange k s
 
 -- ---- the text as a sequence of pieces
 
 pub data Piece : Type 0 where
   White : ℕ → Piece
+  -- the two slashes are left out
+  Comment : Text → Piece
   Tok : TokenKind → Text → Piece
 
 abbrev pub spelling : Piece → Text
-spelling (White b) = b ∷ []
+spelling (White c) = c ∷ []
+spelling (Comment s) = codes "//" ++ s
 spelling (Tok k s) = s
 
--- a piece, where rest comes after it
+-- a piece, where rest comes after it: a comment goes to the line feed or the end
 abbrev pub IsPiece : Piece → Text → Type 0
-IsPiece (White b) rest = IsTrue (is_white b)
-IsPiece (Tok k s) rest = IsToken k s rest × IsInRange k s
+IsPiece (White c) rest = IsTrue (is_white c)
+IsPiece (Comment s) rest = Each in_line s × Stops in_line rest
+IsPiece (Tok k s) rest = IsToken k s rest
 
 abbrev pub text_of : List Piece → Text
 text_of [] = []
@@ -189,43 +251,101 @@ moved p (b ∷ bs) = moved (step p b) bs
 abbrev pub start : Spot
 start = record { line = 1; col = 1 }
 
--- the place of an offset
+-- the place of an offset in bytes
 abbrev pub place : Text → ℕ → Spot
 place bytes at = moved start (take at bytes)
 
--- ---- tokens and faults
+-- ---- tokens
+
+-- the token of a piece that begins at this offset, if it is one
+abbrev pub token_at : Text → ℕ → Piece → List Token
+token_at bytes at (White c) = []
+token_at bytes at (Comment s) = []
+token_at bytes at (Tok k s) = record { kind = k; begin = at; end = at + width s; at = place bytes at } ∷ []
 
 -- the tokens of the pieces, of which the first begins at this offset
 abbrev pub tokens_from : Text → ℕ → List Piece → List Token
 tokens_from bytes at [] = []
-tokens_from bytes at (White b ∷ ps) = tokens_from bytes (at + 1) ps
-tokens_from bytes at (Tok k s ∷ ps) = record { kind = k; begin = at; end = at + length s; at = place bytes at } ∷ tokens_from bytes (at + length s) ps
+tokens_from bytes at (p ∷ ps) = token_at bytes at p ++ tokens_from bytes (at + width (spelling p)) ps
 
 abbrev pub end_of : Text → Token
 end_of bytes = record { kind = t.End; begin = length bytes; end = length bytes; at = place bytes (length bytes) }
 
--- The bytes are a sequence of white space and spellings, each the longest, and the end is last.
+-- The bytes are UTF-8 of a sequence of gaps and spellings, each the longest, and the end is last.
 pub record Lexes (bytes : Text) (tokens : List Token) : Type 0 where
   pub pieces : List Piece
-  pub whole : bytes ≡ text_of pieces
+  pub utf8 : IsUtf8 bytes
+  pub whole : bytes ≡ encode_utf8_all (text_of pieces)
   pub each : ArePieces pieces []
   pub are : tokens ≡ tokens_from bytes 0 pieces ++ end_of bytes ∷ []
 
--- why no piece begins here: nothing can be read, or a number is too large
-abbrev pub IsFault : Rule → Text → Type 0
-IsFault rule.BadChar [] = ⊥
-IsFault rule.BadChar (b ∷ bs) = (is_white b ≡ false) × ((k : TokenKind) (s rest : Text) → b ∷ bs ≡ s ++ rest → IsToken k s rest → ⊥)
-IsFault rule.IntTooLarge rest = (s after : Text) × (rest ≡ s ++ after) × IsNumber s × Stops is_digit after × (2 ^ 63 ≤ value s)
-IsFault _ rest = ⊥
+-- ---- faults
 
--- The bytes before the offset are pieces, and no piece begins there.
-pub record LexFault (bytes : Text) (rule : Rule) (at : ℕ) : Type 0 where
+-- no white space, no comment, no quote and no spelling begins here
+abbrev pub IsNothing : Text → Type 0
+IsNothing [] = ⊥
+IsNothing (c ∷ cs) = (is_white c ≡ false) × (c ≢ 34) × NoComment (c ∷ cs) × ((k : TokenKind) (s after : Text) → c ∷ cs ≡ s ++ after → Spells k s → ⊥)
+
+-- digits, all that there are, with a value from 2 ^ 63 on
+pub record IsTooLarge (rest : Text) : Type 0 where
+  pub digits : Text
+  pub after : Text
+  pub parts : rest ≡ digits ++ after
+  pub number : IsNumber digits
+  pub stops : Stops is_digit after
+  pub large : 2 ^ 63 ≤ value digits
+
+-- no part of a text begins here, and no quote: the end, a line feed, or `\` before one of these
+abbrev pub EndsOpen : Text → Type 0
+EndsOpen [] = Unit {0}
+EndsOpen (c ∷ cs) = (c ≡ 10) ⊎ ((c ≡ 92) × Stops in_line cs)
+
+-- a quote and parts, and no closing quote
+pub record IsOpen (rest : Text) : Type 0 where
+  pub inner : List Part
+  pub after : Text
+  pub parts : rest ≡ 34 ∷ (spelled inner ++ after)
+  pub are : AreParts inner
+  pub ends : EndsOpen after
+
+-- an escape that stands for nothing, the first one in a text that is closed
+pub record IsBadEscape (before rest : Text) : Type 0 where
+  pub inner : List Part
+  pub front : before ≡ 34 ∷ spelled inner
+  pub are : AreParts inner
+  pub known : AreKnown inner
+  pub char : ℕ
+  pub more : List Part
+  pub after : Text
+  pub parts : rest ≡ 92 ∷ char ∷ (spelled more ++ 34 ∷ after)
+  pub goes_on_line : IsTrue (in_line char)
+  pub unknown : is_escape char ≡ false
+  pub are_more : AreParts more
+
+-- a fault that stands where `before` ends, of which no piece before it is part
+abbrev pub IsFault : Rule → Text → Text → Type 0
+IsFault rule.BadChar before rest = ((before ≡ []) × IsNothing rest) ⊎ IsBadEscape before rest
+IsFault rule.IntTooLarge before rest = (before ≡ []) × IsTooLarge rest
+IsFault rule.OpenText before rest = (before ≡ []) × IsOpen rest
+IsFault _ before rest = ⊥
+
+-- The bytes are UTF-8, they begin with pieces, and then comes a fault.
+pub record CutFault (bytes : Text) (rule : Rule) (at : ℕ) : Type 0 where
   pub pieces : List Piece
+  pub before : Text
   pub rest : Text
-  pub whole : bytes ≡ text_of pieces ++ rest
-  pub each : ArePieces pieces rest
-  pub offset : at ≡ length (text_of pieces)
-  pub fault : IsFault rule rest
+  pub utf8 : IsUtf8 bytes
+  pub whole : bytes ≡ encode_utf8_all (text_of pieces ++ (before ++ rest))
+  pub each : ArePieces pieces (before ++ rest)
+  pub offset : at ≡ width (text_of pieces ++ before)
+  pub fault : IsFault rule before rest
+
+-- The first fault of a text: where its bytes stop being UTF-8, or else where no more pieces come.
+abbrev pub LexFault : Text → Rule → ℕ → Type 0
+LexFault bytes rule.NotText at = IsValidUpTo bytes at
+LexFault bytes r at = CutFault bytes r at
+
+-- ---- whole lists
 
 -- no token of the list is the end
 abbrev pub NoEnd : List Token → Type 0

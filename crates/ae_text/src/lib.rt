@@ -1,7 +1,8 @@
 //! What a run reads from and writes to, and the tokens of a source.
 #![tactic(auto)]
 
-mod bytes;
+mod characters;
+mod faults;
 mod memory;
 mod outside;
 mod refusal;
@@ -11,6 +12,7 @@ mod standard;
 mod sure;
 #[cfg(test)]
 mod tests;
+mod texts;
 mod token;
 mod whole;
 mod words;
@@ -18,7 +20,7 @@ mod words;
 pub use memory::{MemSink, MemSource};
 pub use outside::{Failed, Gate, NoGate, Sink, Source};
 pub use refusal::{Deny, Edge, Refusal, Rule, Spot};
-pub use scan::{lex, tokens_are_unique};
+pub use scan::{faults_are_unique, lex, tokens_are_unique};
 pub use sqlite_items::{Boxed, Items};
 pub use standard::{StdSink, StdSource};
 pub use sure::{SureSink, SureSource};

@@ -1,82 +1,69 @@
 // Cuts a text into tokens, from left to right.
-ghost use Rattle.std.specs.Prelude.{◌≡◌, ◌<◌, ◌≤◌, ◌+◌, ◌^◌, List, [], ◌∷◌, ◌++◌, length, MatchResult, MatchBool, IfOk, IfErr, OnOk};
-ghost use Rattle.ae_text.specs.Tokens.{Text, Lexes, IsWhole, NoComment, moved};
-ghost use Rattle.ae_text.specs.Scan.{Cuts, Faults, IsDenied, token_of, denied};
+ghost use Rattle.std.specs.Prelude.{◌≡◌, ◌<◌, ◌≤◌, ◌+◌, ◌^◌, ℕ, List, [], ◌∷◌, ◌++◌, length, MatchOption, MatchResult, IfOk, IfErr, OnOk};
+ghost use Rattle.std.specs.Str.{chars};
+ghost use Rattle.ae_text.specs.Tokens.{Text, Lexes, LexFault, IsWhole, NoComment, moved, place};
+ghost use Rattle.ae_text.specs.Scan.{Front, CommentThen, Cuts, Faults, IsDenied, IsWithin, token_of, denied};
 ghost use Rattle.ae_text.specs.declared.token.Token.{Token};
+ghost use Rattle.ae_text.specs.declared.refusal.Rule.{Rule};
 
-use crate::bytes::{Class, digit, letter, next, span, white};
+use crate::characters::{Class, digit, next, span, starts_word, white};
+use crate::faults::Fault;
 use crate::refusal::{Deny, Refusal, Rule, Spot};
 use crate::signs::sign;
+use crate::texts;
 use crate::token::{Token, TokenKind};
 use crate::words::{number, word};
 use sqlite_items::Items;
 use std::alloc::{AllocError, Global};
 
-#[derive(Clone, Copy)]
-enum Fault {
-    Rule(Rule),
-    Memory,
-}
-
-impl From<AllocError> for Fault {
-    ghost use Rattle.std.specs.Prelude.{◌≡◌};
-    ghost use Rattle.ae_text.specs.declared.scan.Fault.TheVariants.{Memory};
-
-    ghost from_gives = { λ _ e. e ≡ Memory };
-
-    fn from(_error: AllocError) -> Fault {
-        Fault::Memory
-    }
-}
-
-impl From<AllocError> for Deny {
-    ghost use Rattle.std.specs.Prelude.{◌≡◌};
-    ghost use Rattle.ae_text.specs.declared.refusal.Deny.TheVariants.{Memory};
-
-    ghost from_gives = { λ _ e. e ≡ Memory };
-
-    fn from(_error: AllocError) -> Deny {
-        Deny::Memory
-    }
-}
-
-fn opens_comment(text: &[u8]) -> bool
-    ensures { MatchBool result (NoComment text.now → ⊥) (NoComment text.now) }
+// What comes after the comment at the front, if there is one.
+fn comment<'a>(text: &'a str) -> Option<&'a str>
+    ensures { MatchOption result (NoComment (chars text.now)) (λ after. CommentThen text.now after.now) }
 {
-    matches!(text, [b'/', b'/', ..])
+    let (first, rest) = next(text)?;
+    let (second, line) = next(rest)?;
+    if first != '/' || second != '/' {
+        return None;
+    }
+    let (_, after) = span(Class::Line, line);
+    Some(after)
 }
 
-// The piece at the front: the kind of a token, or none for white space, and what comes after it.
+// The piece at the front: the kind of a token, or none for a gap, and what comes after it.
 fn piece<'a>(
     alloc: Global,
-    text: &'a [u8],
-    first: u8,
-    rest: &'a [u8],
-) -> Result<(Option<TokenKind>, &'a [u8]), Fault>
-    requires { text.now ≡ first ∷ rest.now }
+    text: &'a str,
+    first: char,
+    rest: &'a str,
+) -> Result<(Option<TokenKind>, &'a str), Fault>
+    requires { Front text.now (first ∷ []) rest.now }
     ensures { MatchResult result (λ p. Cuts text.now p.0 p.1.now) (Faults text.now) }
 {
     if white(first) {
         return Ok((None, rest));
     }
-    if letter(first) {
+    if starts_word(first) {
         let (s, after) = span(Class::Word, text);
         let kind = word(alloc, s)?;
         return Ok((Some(kind), after));
     }
     if digit(first) {
-        let (s, after) = span(Class::Digit, text);
-        return match number(s) {
+        let (digits, after) = span(Class::Digit, text);
+        return match number(digits) {
             Some(n) => Ok((Some(TokenKind::Int(n)), after)),
-            None => Err(Fault::Rule(Rule::IntTooLarge)),
+            None => Err(Fault::Rule(Rule::IntTooLarge, 0)),
         };
     }
-    if opens_comment(text) {
-        return Err(Fault::Rule(Rule::BadChar));
+    if first == '"' {
+        let (value, after) = texts::text(alloc, text, rest)?;
+        return Ok((Some(TokenKind::Text(value)), after));
+    }
+    if let Some(after) = comment(text) {
+        return Ok((None, after));
     }
     match sign(text) {
         Some((sign, after)) => Ok((Some(TokenKind::Sign(sign)), after)),
-        None => Err(Fault::Rule(Rule::BadChar)),
+        None => Err(Fault::Rule(Rule::BadChar, 0)),
     }
 }
 
@@ -120,23 +107,41 @@ fn push_token(
     Ok(())
 }
 
-fn deny(fault: Fault, at: Spot) -> Deny
-    ensures { result ≡ denied fault at }
+// The refusal of a fault in the text that begins at the place.
+fn deny(fault: Fault, text: &[u8], at: Spot) -> Deny
+    requires within { IsWithin fault text.now }
+    requires line { at.line + length text.now < 2 ^ 32 }
+    requires col { at.col + length text.now < 2 ^ 32 }
+    requires first { 0 < at.col }
+    ensures { result ≡ denied fault text.now at }
 {
     match fault {
-        Fault::Rule(rule) => Deny::Refused(Refusal { rule, at }),
+        Fault::Rule(rule, ahead) => Deny::Refused(Refusal {
+            rule,
+            at: advance(at, &text[..ahead]),
+        }),
         Fault::Memory => Deny::Memory,
     }
 }
 
-/// The tokens of a text of at most 1,048,576 bytes, or the first place at which it has none.
-pub fn lex(alloc: Global, text: &[u8]) -> Result<Items<Token>, Deny>
+// The refusal of bytes that are UTF-8 up to an offset.
+fn not_text(text: &[u8], valid: usize) -> Deny
+    requires most { length text.now ≤ 1048576 }
+    requires within { valid ≤ length text.now }
+    ensures { result ≡ Deny.Refused (record { rule = Rule.NotText; at = place text.now valid }) }
+{
+    Deny::Refused(Refusal {
+        rule: Rule::NotText,
+        at: advance(Spot { line: 1, col: 1 }, &text[..valid]),
+    })
+}
+
+// The tokens of a text in UTF-8.
+fn scan(alloc: Global, text: &str) -> Result<Items<Token>, Deny>
     requires { length text.now ≤ 1048576 }
     ensures ok { IfOk result (Lexes text.now) }
-    ensures only { (tokens : List Token) → Lexes text.now tokens → MatchResult result (λ found. found ≡ tokens) (λ e. e ≡ Deny.Memory) }
     ensures refused { IfErr result (IsDenied text.now) }
-    ensures whole { IfOk result IsWhole }
-    ensures few { IfOk result (λ ts. length ts ≤ length text.now + 1) }
+    ensures only { IfErr result (λ e. (tokens : List Token) → Lexes text.now tokens → e ≡ Deny.Memory) }
 {
     let mut tokens = Items::new(alloc);
     let mut rest = text;
@@ -147,10 +152,10 @@ pub fn lex(alloc: Global, text: &[u8]) -> Result<Items<Token>, Deny>
                 let begin = text.len() - rest.len();
                 let len = rest.len() - after.len();
                 push_token(&mut tokens, kind, begin as u64, (begin + len) as u64, spot)?;
-                spot = advance(spot, &rest[..len]);
+                spot = advance(spot, &rest.as_bytes()[..len]);
                 rest = after;
             }
-            Err(fault) => return Err(deny(fault, spot)),
+            Err(fault) => return Err(deny(fault, rest.as_bytes(), spot)),
         }
     }
     let end = text.len() as u64;
@@ -163,7 +168,28 @@ pub fn lex(alloc: Global, text: &[u8]) -> Result<Items<Token>, Deny>
     Ok(tokens)
 }
 
+/// The tokens of a text of at most 1,048,576 bytes, or the first place at which it has none.
+pub fn lex(alloc: Global, text: &[u8]) -> Result<Items<Token>, Deny>
+    requires { length text.now ≤ 1048576 }
+    ensures ok { IfOk result (Lexes text.now) }
+    ensures only { (tokens : List Token) → Lexes text.now tokens → MatchResult result (λ found. found ≡ tokens) (λ e. e ≡ Deny.Memory) }
+    ensures refused { IfErr result (IsDenied text.now) }
+    ensures whole { IfOk result IsWhole }
+    ensures few { IfOk result (λ ts. length ts ≤ length text.now + 1) }
+{
+    match str::from_utf8(text) {
+        Ok(characters) => scan(alloc, characters),
+        Err(error) => Err(not_text(text, error.valid_up_to())),
+    }
+}
+
 /// No text has two lists of tokens.
 pub fn tokens_are_unique()
     ensures { (text : Text) (a b : List Token) → Lexes text a → Lexes text b → a ≡ b }
+{}
+
+/// No text has two faults, and none has both a fault and tokens.
+pub fn faults_are_unique()
+    ensures one { (text : Text) (r q : Rule) (m n : ℕ) → LexFault text r m → LexFault text q n → (r ≡ q) × (m ≡ n) }
+    ensures no_tokens { (text : Text) (r : Rule) (m : ℕ) (tokens : List Token) → LexFault text r m → Lexes text tokens → ⊥ }
 {}

@@ -1,6 +1,7 @@
 // Words and numbers.
 ghost use Rattle.std.specs.Prelude.{◌≡◌, ◌≢◌, ◌<◌, ◌≤◌, ◌^◌, pos, MatchOption, IfOk};
-ghost use Rattle.ae_text.specs.Tokens.{keyword_text, is_digit, Each, IsWord, Spells, IsInRange, value};
+ghost use Rattle.std.specs.Str.{encode_utf8_all};
+ghost use Rattle.ae_text.specs.Tokens.{Text, keyword_text, is_digit, Each, IsWord, Spells, IsInRange, value};
 ghost use Rattle.ae_text.specs.declared.token.Keyword.{Keyword};
 
 use crate::token::{Keyword, TokenKind};
@@ -105,8 +106,7 @@ fn keyword(s: &[u8]) -> Option<Keyword>
 
 // The kind of a word, which is a keyword or a name.
 pub fn word(alloc: Global, s: &[u8]) -> Result<TokenKind, AllocError>
-    requires { IsWord s.now }
-    ensures { IfOk result (λ k. Spells k s.now × IsInRange k s.now) }
+    ensures { IfOk result (λ k. (cs : Text) → s.now ≡ encode_utf8_all cs → IsWord cs → Spells k cs × IsInRange k cs) }
 {
     match keyword(s) {
         Some(keyword) => Ok(TokenKind::Word(keyword)),

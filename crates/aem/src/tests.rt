@@ -1,4 +1,6 @@
 // From words and bytes to bytes and a status, over sources and sinks in memory.
+ghost use Rattle.std.specs.Prelude.{◌<◌};
+
 use crate::answer::{UsageKind, What};
 use crate::top::aeminium;
 use ae_text::{Items, MemSink, MemSource, NoGate};

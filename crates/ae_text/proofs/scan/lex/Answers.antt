@@ -1,45 +1,35 @@
-use Rattle.std.proofs.Common.{◌-◌, List, sym, ◌∙◌, subst, arith, length}
-use Rattle.std.proofs.lemmas.List.{length-take}
+use Rattle.std.proofs.Common.{◌≡◌, ◌≢◌, ◌+◌, ◌-◌, ◌<◌, ◌≤◌, ℕ, List, [], ◌∷◌, ◌++◌, length, take, refl, sym, ap, ◌∙◌, subst, append_assoc, arith, rules}
+use Rattle.std.proofs.Common.{Result, Ok, Err}
+use Rattle.std.specs.Result.{IfOk, IfErr, MatchResult}
 use Rattle.ae_text.specs.declared.token.Token.{Token}
 use Rattle.ae_text.specs.declared.refusal.Deny.{Deny}
-use Rattle.ae_text.specs.Tokens.{Lexes}
-use Rattle.ae_text.specs.Scan.{IsDenied}
-use Rattle.ae_text.proofs.CutLemmas.{lexes_unique, lexes_whole, lexes_few, scanned_end, scanned_next, scanned_place, scanned_denied, scanned_refused}
+use Rattle.ae_text.specs.declared.refusal.Deny.TheVariants as deny
+use Rattle.ae_text.specs.Tokens.{Text, Lexes, IsWhole}
+use Rattle.ae_text.proofs.CutLemmas.{lexes_unique, lexes_whole, lexes_few}
 use Rattle.ae_text.proofs.scan.lex.Goals as goal
 
-pub pieces-preserved : goal.pieces-preserved
-pieces-preserved c = scanned_next _ _ _ _ _ _ _ _ c.pieces.invariant c.in-Ok.ensures c.advance-spot.ensures c.in_ok-push_token-in-Ok.ensures
+only_these : (text : Text) (r : Result (List Token) Deny) → IfOk r (Lexes text) → IfErr r (λ e. (tokens : List Token) → Lexes text tokens → e ≡ deny.Memory) →
+    (tokens : List Token) → Lexes text tokens → MatchResult r (λ found. found ≡ tokens) (λ e. e ≡ deny.Memory)
+only_these text (Ok found) ok only tokens l = lexes_unique text found tokens ok l
+only_these text (Err e) ok only tokens l = only tokens l
 
-pub returns-in-Err-clause-only : goal.returns-in-Err-clause-only
-returns-in-Err-clause-only c = λ tokens l. c.deny.ensures ∙ scanned_refused _ _ _ _ tokens _ c.pieces.invariant c.in-Err.ensures l
+all_whole : (text : Text) (r : Result (List Token) Deny) → IfOk r (Lexes text) → IfOk r IsWhole
+all_whole text (Ok found) ok = lexes_whole text found ok
+all_whole text (Err e) ok = ok
 
-pub returns-in-Err-clause-refused : goal.returns-in-Err-clause-refused
-returns-in-Err-clause-refused c = let P : Deny → Type 0 = IsDenied c.args.text.now in subst P (sym c.deny.ensures) (scanned_denied _ _ _ _ _ c.pieces.invariant c.in-Err.ensures)
+pub returns-in-Ok-clause-only : goal.returns-in-Ok-clause-only
+returns-in-Ok-clause-only c =
+    let P : Text → Type 0 = λ w. (tokens : List Token) → Lexes w tokens → MatchResult c.scan.result (λ found. found ≡ tokens) (λ e. e ≡ deny.Memory) in
+    subst P c.in-Ok.ensures.cases.0 (only_these _ _ c.scan.ensures.ok c.scan.ensures.only)
 
-pub returns-clause-only : goal.returns-clause-only
-returns-clause-only c = λ tokens l.
-    let P : List Token → Type 0 = Lexes c.args.text.now in
-    lexes_unique _ _ _ (subst P (sym c.in_ok-push.ensures.ok) (scanned_end _ _ _ _ c.pieces.invariant c.in_default.ensures)) l
+pub returns-in-Ok-clause-whole : goal.returns-in-Ok-clause-whole
+returns-in-Ok-clause-whole c = all_whole _ _ c.scan.ensures.ok
 
-pub advance-spot-requires-clause-line : goal.advance-spot-requires-clause-line
-advance-spot-requires-clause-line c =
-    let p = scanned_place _ _ _ _ c.pieces.invariant in
-    omega (arith, p.0, c.requires, length-take (length c.pieces.rest.now - length c.in-Ok.after.now) c.pieces.rest.now)
+all_few : (text : Text) (r : Result (List Token) Deny) → IfOk r (Lexes text) → IfOk r (λ ts. length ts ≤ length text + 1)
+all_few text (Ok found) ok = lexes_few text found ok
+all_few text (Err e) ok = ok
 
-pub advance-spot-requires-clause-col : goal.advance-spot-requires-clause-col
-advance-spot-requires-clause-col c =
-    let p = scanned_place _ _ _ _ c.pieces.invariant in
-    omega (arith, p.1, c.requires, length-take (length c.pieces.rest.now - length c.in-Ok.after.now) c.pieces.rest.now)
-
-pub advance-spot-requires-clause-first : goal.advance-spot-requires-clause-first
-advance-spot-requires-clause-first c = (scanned_place _ _ _ _ c.pieces.invariant).2
-
-pub returns-clause-whole : goal.returns-clause-whole
-returns-clause-whole c =
-    let P : List Token → Type 0 = Lexes c.args.text.now in
-    lexes_whole _ _ (subst P (sym c.in_ok-push.ensures.ok) (scanned_end _ _ _ _ c.pieces.invariant c.in_default.ensures))
-
-pub returns-clause-few : goal.returns-clause-few
-returns-clause-few c =
-    let P : List Token → Type 0 = Lexes c.args.text.now in
-    lexes_few _ _ (subst P (sym c.in_ok-push.ensures.ok) (scanned_end _ _ _ _ c.pieces.invariant c.in_default.ensures))
+pub returns-in-Ok-clause-few : goal.returns-in-Ok-clause-few
+returns-in-Ok-clause-few c =
+    let P : Text → Type 0 = λ w. IfOk c.scan.result (λ ts. length ts ≤ length w + 1) in
+    subst P c.in-Ok.ensures.cases.0 (all_few _ _ c.scan.ensures.ok)
