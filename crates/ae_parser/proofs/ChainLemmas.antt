@@ -1,5 +1,5 @@
 -- Expressions: operands, and chains of them at a level.
-use Rattle.std.proofs.Common.{◌≡◌, ◌≢◌, ℕ, zero, suc, ◌+◌, ◌-◌, ◌≤◌, ◌<◌, ◌++◌, List, [], ◌∷◌, length, Option, Some, None, refl, sym, ap, ◌∙◌, append_assoc, append-nil, subst, arith, length-append, ℤ, pos, inl, inr}
+use Rattle.std.proofs.Common.{◌≡◌, ℕ, ◌+◌, ◌≤◌, ◌<◌, ◌++◌, List, [], ◌∷◌, length, Option, Some, None, refl, sym, ap, ◌∙◌, append_assoc, append-nil, subst, arith, ℤ, pos, inl, inr}
 use Rattle.std.proofs.lemmas.Bool.{cases_lt}
 use Rattle.ae_text.specs.declared.refusal.Spot.{Spot}
 use Rattle.ae_text.specs.declared.token.Sign.{Sign}
@@ -8,18 +8,17 @@ use Rattle.ae_code.specs.declared.lexeme.Lexeme.{Lexeme}
 use Rattle.ae_code.specs.declared.lexeme.Lexical.{Lexical}
 use Rattle.ae_code.specs.declared.lexeme.Lexical.TheVariants as tok
 use Rattle.ae_code.specs.declared.tree.NameAt.{NameAt}
-use Rattle.ae_code.specs.declared.tree.Path.{Path}
 use Rattle.ae_code.specs.declared.tree.Op.{Op}
 use Rattle.ae_code.specs.declared.tree.Op.TheVariants as op
 use Rattle.ae_code.specs.Plain.{Expression, Number, Truth, Nothing, Read, Item, Length, Grouped, Negated, Minus, Binary}
-use Rattle.ae_code.specs.Grammar.{Tokens, Then, ◌⨾◌, one_at, one, name, path, level, sign_of, a_sign, expression}
+use Rattle.ae_code.specs.Grammar.{Tokens, ◌⨾◌, name, level, sign_of, a_sign}
 use Rattle.ae_code.specs.Limits.{operators}
 use Rattle.ae_parser.specs.declared.fail.Fail.{Fail}
 use Rattle.ae_parser.specs.declared.fail.Why.{Why}
 use Rattle.ae_parser.specs.declared.fail.Why.TheVariants.{Unexpected, Over}
-use Rattle.ae_parser.specs.Reads.{head, Always, Free, Took, Stopped, Counts, Larger, Beyond, Failed}
-use Rattle.ae_parser.specs.Productions.{Token, Mark, Ends, NoOperator, IsOperator, operator_of, at_level, AtMost}
-use Rattle.ae_parser.proofs.ReadsLemmas.{Lang, Limit, Follow, Both, Limits, Pair, Has, Run, Along, Turns, Links, NoneAt, many, many-append, many-one, took_as, stopped_as, took_then, stopped_second, stopped_first_with, stopped_here, first_kind, no_first, took_token, took_mark, run_start, run_more, run_stopped, run_full, run_end, nowhere, at_once, took_kind, failed_by, free}
+use Rattle.ae_parser.specs.Reads.{head, Always, Free, Took, Stopped, Failed}
+use Rattle.ae_parser.specs.Productions.{Mark, Ends, NoOperator, IsOperator, operator_of, at_level, AtMost}
+use Rattle.ae_parser.proofs.ReadsLemmas.{Lang, Limit, Both, Limits, Pair, Has, Run, Along, Turns, NoneAt, many, many-append, many-one, took_as, stopped_as, took_then, stopped_second, stopped_first_with, stopped_here, first_kind, no_first, took_token, took_mark, run_start, run_more, run_stopped, run_full, run_end, nowhere, at_once, took_kind, failed_by, free}
 use Rattle.ae_parser.proofs.ProductionLemmas.{took_name}
 
 -- ---- operators
@@ -303,13 +302,13 @@ is_chain l (Grouped e at) us d = absurd d
 is_chain l (Negated e at) us d = absurd d
 is_chain l (Minus e at) us d = absurd d
 is_chain l (Binary o a b) us d = elim (cases_lt l (level o)) [
-    inl less ↦ one_chain l (Binary o a b) us (d.0, omega (arith, less), d.2)
+  | inl less ↦ one_chain l (Binary o a b) us (d.0, omega (arith, less), d.2)
   | inr other ↦
-    let e : level o ≡ l = omega (arith, other, d.1) in
-    let A : ℕ → Type 0 = λ k. at_level k a d.2.front in
-    let B : ℕ → Type 0 = λ k. (a_sign (sign_of o) ⨾ at_level (k + 1) b) d.2.back in
-    let P : Tokens → Type 0 = IsChain l (Binary o a b) in
-    subst P (sym d.2.parts) (longer_chain l o a b d.2.front d.2.back (is_chain l a d.2.front (subst A e d.2.first)) (e, subst B e d.2.second))
+      let e : level o ≡ l = omega (arith, other, d.1) in
+      let A : ℕ → Type 0 = λ k. at_level k a d.2.front in
+      let B : ℕ → Type 0 = λ k. (a_sign (sign_of o) ⨾ at_level (k + 1) b) d.2.back in
+      let P : Tokens → Type 0 = IsChain l (Binary o a b) in
+      subst P (sym d.2.parts) (longer_chain l o a b d.2.front d.2.back (is_chain l a d.2.front (subst A e d.2.first)) (e, subst B e d.2.second))
 ]
 
 chain_along : (l n : ℕ) → 3 ≤ l → (ts : Tokens) → Along (at_level l) (chained l) (AtMost n) (Limits (AtMost n) (Under n)) ts (λ q. adds q.0 q.1)

@@ -1,5 +1,5 @@
 -- Right sides, types, statements and blocks: how each production is read.
-use Rattle.std.proofs.Common.{◌≡◌, ◌≢◌, ℕ, zero, suc, ◌+◌, ◌≤◌, ◌<◌, ◌++◌, List, [], ◌∷◌, length, Option, Some, None, refl, sym, ap, ◌∙◌, append_assoc, append-nil, subst, arith, length-append, pos, map}
+use Rattle.std.proofs.Common.{◌≡◌, ℕ, ◌≤◌, ◌<◌, ◌++◌, List, [], ◌∷◌, length, Option, Some, None, refl, sym, ap, ◌∙◌, subst, arith, length-append, pos, map}
 use Rattle.ae_text.specs.declared.refusal.Spot.{Spot}
 use Rattle.ae_text.specs.declared.token.Keyword.TheVariants as word
 use Rattle.ae_text.specs.declared.token.Sign.TheVariants as sign
@@ -11,16 +11,16 @@ use Rattle.ae_code.specs.declared.tree.Ty.{Ty}
 use Rattle.ae_code.specs.declared.tree.Ty.TheVariants as ty
 use Rattle.ae_code.specs.Plain.{Expression, Number, RightSide, Value, Taken, Zeros, Made, Returned}
 use Rattle.ae_code.specs.Plain.{Action, Declares, Assigns, Stores, StoresAt, Calls, Chooses, ChoosesElse, Repeats, Groups, Splits, Locks, Freezes, Shares, Prints, PrintsText, Asserts, Returns, Lines, End, Next}
-use Rattle.ae_code.specs.Grammar.{Tokens, Then, ◌⨾◌, one_at, one, name, type_, right_side, sum, a_sign, a_word, statement, statements, block}
+use Rattle.ae_code.specs.Grammar.{Tokens, Then, one_at, name, type_, right_side, sum, statement, statements, block}
 use Rattle.ae_code.specs.declared.tree.Stmt.{Stmt}
 use Rattle.ae_code.specs.Shown.{lines_from, action}
-use Rattle.ae_code.specs.Limits.{operators, IsShort, IsShortRight, HasShort, AllShort, IsWithin, count}
+use Rattle.ae_code.specs.Limits.{IsShort, IsShortRight, HasShort, AllShort, IsWithin, count}
 use Rattle.ae_parser.specs.declared.fail.Fail.{Fail}
 use Rattle.ae_parser.specs.declared.fail.Why.{Why}
 use Rattle.ae_parser.specs.declared.fail.Why.TheVariants.{Unexpected, Over}
-use Rattle.ae_parser.specs.Reads.{head, Always, Free, Is, IsName, Took, Stopped, Counts, Larger, Beyond, Failed}
-use Rattle.ae_parser.specs.Productions.{Token, Mark, Ends, operator_of, stmt, IsShortStmt, declaration, assignment, printing, Starts, Further, shown_stmt}
-use Rattle.ae_parser.proofs.ReadsLemmas.{Lang, Limit, Follow, Both, Limits, Pair, Has, Run, Along, Turns, Links, NoneAt, many, many-append, many-one, took_as, stopped_as, failed_as, took_then, stopped_second, stopped_first_with, stopped_here, first_kind, no_first, took_token, took_mark, run_start, run_more, run_stopped, run_full, run_end, nowhere, at_once, took_kind, failed_by, free, has_token, has_mark, has_both}
+use Rattle.ae_parser.specs.Reads.{head, Always, Free, Is, IsName, Took, Stopped, Failed}
+use Rattle.ae_parser.specs.Productions.{Token, Mark, Ends, stmt, IsShortStmt, declaration, assignment, printing, Starts, Further, shown_stmt}
+use Rattle.ae_parser.proofs.ReadsLemmas.{Lang, Limit, Both, Pair, Has, Run, Along, Turns, Links, NoneAt, many, took_as, stopped_as, failed_as, run_start, run_more, run_stopped, run_full, run_end, nowhere, at_once, has_mark, has_both}
 use Rattle.ae_parser.proofs.ProductionLemmas.{has_name, no_name}
 use Rattle.ae_parser.proofs.ChainLemmas.{no_operator}
 
@@ -322,16 +322,28 @@ starts_let [] i = absurd i
 starts_let (t ∷ ts) i =
     let tree : Spot × Action = (t.at, Declares has_typed.tree.0 has_typed.tree.1.0 has_typed.tree.1.1.1.0) in
     let P : Lexeme → Type 0 = λ l. stmt tree (l ∷ has_typed.tokens) in
-    record { next = t; later = ts; whole = refl; tree = tree; after = has_typed.tokens;
-      is = subst P (token_is t (tok.Word word.Let) i) (record { front = first_token (tok.Word word.Let) t.at ∷ []; back = has_typed.tokens; parts = refl; first = refl; second = has_typed.is }) }
+    record {
+      next = t;
+      later = ts;
+      whole = refl;
+      tree = tree;
+      after = has_typed.tokens;
+      is = subst P (token_is t (tok.Word word.Let) i) (record { front = first_token (tok.Word word.Let) t.at ∷ []; back = has_typed.tokens; parts = refl; first = refl; second = has_typed.is });
+    }
 
 pub starts_print : (ts : Tokens) → Is (tok.Word word.Print) (head ts) → Starts ts
 starts_print [] i = absurd i
 starts_print (t ∷ ts) i =
     let tree : Spot × Action = (t.at, Prints has_printed.tree.0) in
     let P : Lexeme → Type 0 = λ l. stmt tree (l ∷ has_printed.tokens) in
-    record { next = t; later = ts; whole = refl; tree = tree; after = has_printed.tokens;
-      is = subst P (token_is t (tok.Word word.Print) i) (record { front = first_token (tok.Word word.Print) t.at ∷ []; back = has_printed.tokens; parts = refl; first = refl; second = has_printed.is }) }
+    record {
+      next = t;
+      later = ts;
+      whole = refl;
+      tree = tree;
+      after = has_printed.tokens;
+      is = subst P (token_is t (tok.Word word.Print) i) (record { front = first_token (tok.Word word.Print) t.at ∷ []; back = has_printed.tokens; parts = refl; first = refl; second = has_printed.is });
+    }
 
 pub starts_name : (ts : Tokens) → IsName (head ts) → Starts ts
 starts_name [] i = absurd i
@@ -339,8 +351,14 @@ starts_name (t ∷ ts) i =
     let x : NameAt = record { name = i.0; at = t.at } in
     let tree : Spot × Action = (t.at, Assigns x has_assigned.tree.1.0) in
     let P : Lexeme → Type 0 = λ l. stmt tree (l ∷ has_assigned.tokens) in
-    record { next = t; later = ts; whole = refl; tree = tree; after = has_assigned.tokens;
-      is = subst P (token_is t (tok.Name i.0) i.1) (refl, record { front = first_token (tok.Name i.0) t.at ∷ []; back = has_assigned.tokens; parts = refl; first = refl; second = has_assigned.is }) }
+    record {
+      next = t;
+      later = ts;
+      whole = refl;
+      tree = tree;
+      after = has_assigned.tokens;
+      is = subst P (token_is t (tok.Name i.0) i.1) (refl, record { front = first_token (tok.Name i.0) t.at ∷ []; back = has_assigned.tokens; parts = refl; first = refl; second = has_assigned.is });
+    }
 
 name_first : (at : Spot) (a : Action) (us : Tokens) → statement at a us → (first_of a ≡ tok.Word word.Let → ⊥) → (first_of a ≡ tok.Word word.Print → ⊥) → (n : ℕ) × (first_of a ≡ tok.Name n)
 name_first at a us d no_let no_print = let p = assigned at a us d no_let no_print in (p.0.name, ap (λ (q : Spot × Action). first_of q.1) p.2)
