@@ -77,7 +77,7 @@ no_operator g none o e =
     let signs : g ≡ sign_of o = cc in
     let s : None ≡ Some o = sym none ∙ ap operator_of signs ∙ operator_back o in cc
 
-low_level : (o : Op) → level o ≤ 4
+pub low_level : (o : Op) → level o ≤ 4
 low_level op.Or = omega arith
 low_level op.And = omega arith
 low_level op.Eq = omega arith
@@ -114,12 +114,6 @@ has_operand = record { tree = Number (pos 0) nowhere; tokens = at_once (tok.Int 
 
 pub has_at_level : (l n : ℕ) → Has (at_level l) (AtMost n)
 has_at_level l n = record { tree = Number (pos 0) nowhere; tokens = at_once (tok.Int (pos 0)); is = refl; within = omega arith }
-
--- the kind of an operand's first token
-Begins : Lexical → Type 0
-Begins (tok.Int n) = Unit {0}
-Begins (tok.Name n) = Unit {0}
-Begins _ = ⊥
 
 operand_begins : (y : Expression) (us r ts rest : Tokens) (t : Lexeme) → operands y us → head (us ++ r) ≡ head ts → ts ≡ t ∷ rest → ((n : ℤ) → t.kind ≡ tok.Int n → ⊥) → ((n : ℕ) → t.kind ≡ tok.Name n → ⊥) → ⊥
 operand_begins (Number n at) us r ts rest t d h e no_int no_name = no_int n (first_kind (tok.Int n) at us r ts rest t d h e)
@@ -272,7 +266,7 @@ adds_from l high a (q ∷ qs) us vs d m =
 chain_is : (l : ℕ) → 3 ≤ l → (q : Expression × List (Op × Expression)) (us : Tokens) → chained l q us → at_level l (adds q.0 q.1) us
 chain_is l high q us d = let P : Tokens → Type 0 = at_level l (adds q.0 q.1) in subst P (sym d.parts) (adds_from l high q.0 q.1 d.front d.back (weaker l q.0 d.front d.first) d.second)
 
-abbrev IsChain : ℕ → Expression → Tokens → Type 0
+abbrev pub IsChain : ℕ → Expression → Tokens → Type 0
 IsChain l y us = (q : Expression × List (Op × Expression)) × (y ≡ adds q.0 q.1) × chained l q us
 
 one_chain : (l : ℕ) (y : Expression) (us : Tokens) → at_level (l + 1) y us → IsChain l y us
@@ -291,7 +285,7 @@ longer_chain l o a b us vs c d = (
   },
 )
 
-is_chain : (l : ℕ) (y : Expression) (us : Tokens) → at_level l y us → IsChain l y us
+pub is_chain : (l : ℕ) (y : Expression) (us : Tokens) → at_level l y us → IsChain l y us
 is_chain l (Number n at) us d = one_chain l (Number n at) us d
 is_chain l (Truth b at) us d = absurd d
 is_chain l (Nothing at) us d = absurd d
@@ -321,7 +315,7 @@ chain_along l n high ts = record {
 
 -- ---- the tokens that may follow
 
-first_sign : (g : Sign) (p : Tokens → Type 0) (us r : Tokens) → (a_sign g ⨾ p) us → (at : Spot) × (head (us ++ r) ≡ Some (record { kind = tok.Sign g; at = at }))
+pub first_sign : (g : Sign) (p : Tokens → Type 0) (us r : Tokens) → (a_sign g ⨾ p) us → (at : Spot) × (head (us ++ r) ≡ Some (record { kind = tok.Sign g; at = at }))
 first_sign g p us r d = (d.first.0, ap (λ l. head (l ++ r)) (d.parts ∙ ap (λ l. l ++ d.back) d.first.1))
 
 ends_later : (l : ℕ) (o : Option Lexeme) → Ends l o → Ends (l + 1) o

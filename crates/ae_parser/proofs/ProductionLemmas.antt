@@ -22,10 +22,10 @@ name_end F ts e = stopped_here has_name (λ y us r d h. no_first (tok.Name y.nam
 pub name_other : (F : Follow) (ts : Tokens) (t : Lexeme) (rest : Tokens) → ts ≡ t ∷ rest → ((n : ℕ) → t.kind ≡ tok.Name n → ⊥) → Stopped name Free F ts Unexpected (length ts)
 name_other F ts t rest e other = stopped_here has_name (λ y us r d h. other y.name (first_kind (tok.Name y.name) y.at us r ts rest t d h e))
 
-abbrev name_token : NameAt → Lexeme
+abbrev pub name_token : NameAt → Lexeme
 name_token x = record { kind = tok.Name x.name; at = x.at }
 
-name_of_token : (x y : NameAt) → name_token y ≡ name_token x → y ≡ x
+pub name_of_token : (x y : NameAt) → name_token y ≡ name_token x → y ≡ x
 name_of_token x y p =
     let at : y.at ≡ x.at = ap (λ (l : Lexeme). l.at) p in
     let k : tok.Name y.name ≡ tok.Name x.name = ap (λ (l : Lexeme). l.kind) p in

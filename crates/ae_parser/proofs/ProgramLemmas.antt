@@ -115,7 +115,7 @@ main_is m i =
 main_intro : (q : Main) (us : Tokens) → main_body q us → method (main_tree q) us
 main_intro q us d = (record { class = refl; result = refl; is_named = refl; groups = refl; me = refl; params = refl; no = refl }, d)
 
-main_cases : (y : Definition) (us : Tokens) → method y us → (q : Main) × (y ≡ main_tree q) × main_body q us
+pub main_cases : (y : Definition) (us : Tokens) → method y us → (q : Main) × (y ≡ main_tree q) × main_body q us
 main_cases y us d =
     let P : Definition → Type 0 = λ m. method m us in
     let n : method (main_with y.name.at y.needs 0 y.body) us = subst P (main_is y d.0) d in
@@ -279,14 +279,14 @@ program_within ts names m rest t = all_one m t.within
 pub program_built : (ts : Tokens) (names : List (List ℕ)) (m : Definition) (rest : Tokens) → Took method HasWithin Always ts m rest → Built (code_of names m)
 program_built ts names m rest t = record { method = m; methods = refl; is_main = t.derives.0; body = method_built m t.taken t.derives }
 
-code_is : (p : Code) (tokens : List SourceToken) (d : Derives tokens p) → code_of (names_of tokens) d.method_ ≡ p
+pub code_is : (p : Code) (tokens : List SourceToken) (d : Derives tokens p) → code_of (names_of tokens) d.method_ ≡ p
 code_is p tokens d = sym (
     ap (λ (n : List (List ℕ)). record { names = n; classes = p.classes; methods = p.methods; decls = p.decls }) d.names
     ∙ ap (λ (c : List Class). record { names = names_of tokens; classes = c; methods = p.methods; decls = p.decls }) d.classes
     ∙ ap (λ (m : List Definition). record { names = names_of tokens; classes = []; methods = m; decls = p.decls }) d.methods
     ∙ ap (λ (l : List Decl). record { names = names_of tokens; classes = []; methods = d.method_ ∷ []; decls = l }) d.decls)
 
-lexemes_derive : (p : Code) (tokens : List SourceToken) (d : Derives tokens p) → whole (d.method_, tt) (numbered (names_of tokens) tokens)
+pub lexemes_derive : (p : Code) (tokens : List SourceToken) (d : Derives tokens p) → whole (d.method_, tt) (numbered (names_of tokens) tokens)
 lexemes_derive p tokens d = let P : List (List ℕ) → Type 0 = λ n. whole (d.method_, tt) (numbered n tokens) in subst P d.names d.derives
 
 method_within : (p : Code) (m : Definition) → p.methods ≡ m ∷ [] → Within p → HasWithin m

@@ -44,6 +44,7 @@ fn spellings<'a>(alloc: Global, tokens: &'a [Token]) -> Result<IndexSet<&'a [u8]
     Ok(names)
 }
 
+/// The number of a spelling, which is among the names.
 fn number(names: &IndexSet<&[u8]>, spelling: &[u8]) -> u32
     requires { length names.now.keys ≤ 1048580 }
     ensures { result ≡ number_of (bytes_of names.now.keys) spelling.now }
