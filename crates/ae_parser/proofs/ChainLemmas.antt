@@ -1,5 +1,5 @@
 -- Expressions: operands, and chains of them at a level.
-use Rattle.std.proofs.Common.{◌≡◌, ◌≢◌, ℕ, zero, suc, ◌+◌, ◌-◌, ◌≤◌, ◌<◌, ◌++◌, List, [], ◌∷◌, length, Option, Some, None, refl, sym, ap, ◌∙◌, append_assoc, append-nil, subst, arith, length-append, ℤ, pos, inl, inr}
+use Rattle.std.proofs.Common.{◌≡◌, ℕ, ◌+◌, ◌≤◌, ◌<◌, ◌++◌, List, [], ◌∷◌, length, Option, Some, None, refl, sym, ap, ◌∙◌, append_assoc, append-nil, subst, arith, ℤ, pos, inl, inr}
 use Rattle.std.proofs.lemmas.Bool.{cases_lt}
 use Rattle.ae_text.specs.declared.refusal.Spot.{Spot}
 use Rattle.ae_text.specs.declared.token.Sign.{Sign}
@@ -8,18 +8,17 @@ use Rattle.ae_code.specs.declared.lexeme.Lexeme.{Lexeme}
 use Rattle.ae_code.specs.declared.lexeme.Lexical.{Lexical}
 use Rattle.ae_code.specs.declared.lexeme.Lexical.TheVariants as tok
 use Rattle.ae_code.specs.declared.tree.NameAt.{NameAt}
-use Rattle.ae_code.specs.declared.tree.Path.{Path}
 use Rattle.ae_code.specs.declared.tree.Op.{Op}
 use Rattle.ae_code.specs.declared.tree.Op.TheVariants as op
 use Rattle.ae_code.specs.Plain.{Expression, Number, Truth, Nothing, Read, Item, Length, Grouped, Negated, Minus, Binary}
-use Rattle.ae_code.specs.Grammar.{Tokens, Then, ◌⨾◌, one_at, one, name, path, level, sign_of, a_sign, expression}
+use Rattle.ae_code.specs.Grammar.{Tokens, ◌⨾◌, name, level, sign_of, a_sign}
 use Rattle.ae_code.specs.Limits.{operators}
 use Rattle.ae_parser.specs.declared.fail.Fail.{Fail}
 use Rattle.ae_parser.specs.declared.fail.Why.{Why}
 use Rattle.ae_parser.specs.declared.fail.Why.TheVariants.{Unexpected, Over}
-use Rattle.ae_parser.specs.Reads.{head, Always, Free, Took, Stopped, Counts, Larger, Beyond, Failed}
-use Rattle.ae_parser.specs.Productions.{Token, Mark, Ends, NoOperator, IsOperator, operator_of, at_level, AtMost}
-use Rattle.ae_parser.proofs.ReadsLemmas.{Lang, Limit, Follow, Both, Limits, Pair, Has, Run, Along, Turns, Links, NoneAt, many, many-append, many-one, took_as, stopped_as, took_then, stopped_second, stopped_first_with, stopped_here, first_kind, no_first, took_token, took_mark, run_start, run_more, run_stopped, run_full, run_end, nowhere, at_once, took_kind, failed_by, free}
+use Rattle.ae_parser.specs.Reads.{head, Always, Free, Took, Stopped, Failed}
+use Rattle.ae_parser.specs.Productions.{Mark, Ends, NoOperator, IsOperator, operator_of, at_level, AtMost}
+use Rattle.ae_parser.proofs.ReadsLemmas.{Lang, Limit, Both, Limits, Pair, Has, Run, Along, Turns, NoneAt, many, many-append, many-one, took_as, stopped_as, took_then, stopped_second, stopped_first_with, stopped_here, first_kind, no_first, took_token, took_mark, run_start, run_more, run_stopped, run_full, run_end, nowhere, at_once, took_kind, failed_by, free}
 use Rattle.ae_parser.proofs.ProductionLemmas.{took_name}
 
 -- ---- operators
@@ -78,7 +77,7 @@ no_operator g none o e =
     let signs : g ≡ sign_of o = cc in
     let s : None ≡ Some o = sym none ∙ ap operator_of signs ∙ operator_back o in cc
 
-low_level : (o : Op) → level o ≤ 4
+pub low_level : (o : Op) → level o ≤ 4
 low_level op.Or = omega arith
 low_level op.And = omega arith
 low_level op.Eq = omega arith
@@ -115,12 +114,6 @@ has_operand = record { tree = Number (pos 0) nowhere; tokens = at_once (tok.Int 
 
 pub has_at_level : (l n : ℕ) → Has (at_level l) (AtMost n)
 has_at_level l n = record { tree = Number (pos 0) nowhere; tokens = at_once (tok.Int (pos 0)); is = refl; within = omega arith }
-
--- the kind of an operand's first token
-Begins : Lexical → Type 0
-Begins (tok.Int n) = Unit {0}
-Begins (tok.Name n) = Unit {0}
-Begins _ = ⊥
 
 operand_begins : (y : Expression) (us r ts rest : Tokens) (t : Lexeme) → operands y us → head (us ++ r) ≡ head ts → ts ≡ t ∷ rest → ((n : ℤ) → t.kind ≡ tok.Int n → ⊥) → ((n : ℕ) → t.kind ≡ tok.Name n → ⊥) → ⊥
 operand_begins (Number n at) us r ts rest t d h e no_int no_name = no_int n (first_kind (tok.Int n) at us r ts rest t d h e)
@@ -273,7 +266,7 @@ adds_from l high a (q ∷ qs) us vs d m =
 chain_is : (l : ℕ) → 3 ≤ l → (q : Expression × List (Op × Expression)) (us : Tokens) → chained l q us → at_level l (adds q.0 q.1) us
 chain_is l high q us d = let P : Tokens → Type 0 = at_level l (adds q.0 q.1) in subst P (sym d.parts) (adds_from l high q.0 q.1 d.front d.back (weaker l q.0 d.front d.first) d.second)
 
-abbrev IsChain : ℕ → Expression → Tokens → Type 0
+abbrev pub IsChain : ℕ → Expression → Tokens → Type 0
 IsChain l y us = (q : Expression × List (Op × Expression)) × (y ≡ adds q.0 q.1) × chained l q us
 
 one_chain : (l : ℕ) (y : Expression) (us : Tokens) → at_level (l + 1) y us → IsChain l y us
@@ -292,7 +285,7 @@ longer_chain l o a b us vs c d = (
   },
 )
 
-is_chain : (l : ℕ) (y : Expression) (us : Tokens) → at_level l y us → IsChain l y us
+pub is_chain : (l : ℕ) (y : Expression) (us : Tokens) → at_level l y us → IsChain l y us
 is_chain l (Number n at) us d = one_chain l (Number n at) us d
 is_chain l (Truth b at) us d = absurd d
 is_chain l (Nothing at) us d = absurd d
@@ -303,13 +296,13 @@ is_chain l (Grouped e at) us d = absurd d
 is_chain l (Negated e at) us d = absurd d
 is_chain l (Minus e at) us d = absurd d
 is_chain l (Binary o a b) us d = elim (cases_lt l (level o)) [
-    inl less ↦ one_chain l (Binary o a b) us (d.0, omega (arith, less), d.2)
+  | inl less ↦ one_chain l (Binary o a b) us (d.0, omega (arith, less), d.2)
   | inr other ↦
-    let e : level o ≡ l = omega (arith, other, d.1) in
-    let A : ℕ → Type 0 = λ k. at_level k a d.2.front in
-    let B : ℕ → Type 0 = λ k. (a_sign (sign_of o) ⨾ at_level (k + 1) b) d.2.back in
-    let P : Tokens → Type 0 = IsChain l (Binary o a b) in
-    subst P (sym d.2.parts) (longer_chain l o a b d.2.front d.2.back (is_chain l a d.2.front (subst A e d.2.first)) (e, subst B e d.2.second))
+      let e : level o ≡ l = omega (arith, other, d.1) in
+      let A : ℕ → Type 0 = λ k. at_level k a d.2.front in
+      let B : ℕ → Type 0 = λ k. (a_sign (sign_of o) ⨾ at_level (k + 1) b) d.2.back in
+      let P : Tokens → Type 0 = IsChain l (Binary o a b) in
+      subst P (sym d.2.parts) (longer_chain l o a b d.2.front d.2.back (is_chain l a d.2.front (subst A e d.2.first)) (e, subst B e d.2.second))
 ]
 
 chain_along : (l n : ℕ) → 3 ≤ l → (ts : Tokens) → Along (at_level l) (chained l) (AtMost n) (Limits (AtMost n) (Under n)) ts (λ q. adds q.0 q.1)
@@ -322,7 +315,7 @@ chain_along l n high ts = record {
 
 -- ---- the tokens that may follow
 
-first_sign : (g : Sign) (p : Tokens → Type 0) (us r : Tokens) → (a_sign g ⨾ p) us → (at : Spot) × (head (us ++ r) ≡ Some (record { kind = tok.Sign g; at = at }))
+pub first_sign : (g : Sign) (p : Tokens → Type 0) (us r : Tokens) → (a_sign g ⨾ p) us → (at : Spot) × (head (us ++ r) ≡ Some (record { kind = tok.Sign g; at = at }))
 first_sign g p us r d = (d.first.0, ap (λ l. head (l ++ r)) (d.parts ∙ ap (λ l. l ++ d.back) d.first.1))
 
 ends_later : (l : ℕ) (o : Option Lexeme) → Ends l o → Ends (l + 1) o

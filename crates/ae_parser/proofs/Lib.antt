@@ -4,3 +4,4 @@ pub mod ProductionLemmas
 pub mod ChainLemmas
 pub mod StatementLemmas
 pub mod ProgramLemmas
+pub mod UniqueLemmas

@@ -1,10 +1,9 @@
 -- Names as numbers.
-use Rattle.std.proofs.Common.{◌≡◌, ℕ, zero, suc, ◌+◌, ◌≤◌, ◌<◌, ◌++◌, List, [], ◌∷◌, length, map, refl, sym, ap, ap₂, ◌∙◌, append_assoc, subst, arith, length-append, drop, Bool, true, false, not, Some, None, inl, inr, lt-ltb}
+use Rattle.std.proofs.Common.{◌≡◌, ℕ, suc, ◌+◌, ◌≤◌, ◌++◌, List, [], ◌∷◌, length, refl, sym, ap, ap₂, ◌∙◌, arith, Bool, true, false, not, Some, None, inl, inr, lt-ltb}
 use Rattle.std.proofs.lemmas.Bool.{cases_lt}
 use Rattle.std.proofs.lemmas.Bool.Decides.{nat_tests}
 use Rattle.std.proofs.lemmas.List.{map-append}
-use Rattle.std.proofs.lemmas.Grind.{common_steps}
-use Rattle.std.specs.Prelude.{bytes_eq, cond, nat_lt, ◌||◌, Option, unwrap_or}
+use Rattle.std.specs.Prelude.{bytes_eq, cond, nat_lt, ◌||◌, unwrap_or}
 use Rattle.std.specs.Borrow.{Bor}
 use Rattle.std.specs.List.{list_any, position, position_or_len}
 use Rattle.indexmap.specs.IndexSet.{insert_key, insert_all}
@@ -62,7 +61,7 @@ position_within eq (x ∷ ks) = bounded (not (eq x)) (position_or_len eq ks) (po
 
 found : (p n : ℕ) → p ≤ n → unwrap_or (cond (nat_lt p n) (Some p) None) n ≡ p
 found p n h = elim (cases_lt p n) [
-    inl less ↦ rw (lt-ltb p n less)
+  | inl less ↦ rw (lt-ltb p n less)
   | inr other ↦ let e : p ≡ n = omega arith in let t : nat_lt p n ≡ false = grind (arith, nat_tests) in rw t (sym e)
 ]
 

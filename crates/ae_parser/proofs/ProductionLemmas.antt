@@ -1,27 +1,12 @@
 -- Names, types and expressions: how each production is read.
-use Rattle.std.proofs.Common.{◌≡◌, ◌≢◌, ℕ, zero, suc, ◌+◌, ◌≤◌, ◌<◌, ◌++◌, List, [], ◌∷◌, length, Option, Some, None, refl, sym, ap, ◌∙◌, append_assoc, append-nil, subst, arith, length-append, ℤ}
-use Rattle.ae_text.specs.declared.refusal.Spot.{Spot}
-use Rattle.ae_text.specs.declared.token.Keyword.TheVariants as word
-use Rattle.ae_text.specs.declared.token.Sign.{Sign}
-use Rattle.ae_text.specs.declared.token.Sign.TheVariants as sign
+use Rattle.std.proofs.Common.{◌≡◌, ℕ, [], ◌∷◌, length, refl, ap, ◌∙◌}
 use Rattle.ae_code.specs.declared.lexeme.Lexeme.{Lexeme}
-use Rattle.ae_code.specs.declared.lexeme.Lexical.{Lexical}
 use Rattle.ae_code.specs.declared.lexeme.Lexical.TheVariants as tok
 use Rattle.ae_code.specs.declared.tree.NameAt.{NameAt}
-use Rattle.ae_code.specs.declared.tree.Path.{Path}
-use Rattle.ae_code.specs.declared.tree.Op.{Op}
-use Rattle.ae_code.specs.declared.tree.Op.TheVariants as op
-use Rattle.ae_code.specs.declared.tree.Ty.{Ty}
-use Rattle.ae_code.specs.declared.tree.Ty.TheVariants as ty
-use Rattle.ae_code.specs.Plain.{Expression, Number, Truth, Nothing, Read, Item, Length, Grouped, Negated, Minus, Binary, RightSide, Value, Taken, Zeros, Made, Returned}
-use Rattle.ae_code.specs.Grammar.{Tokens, Then, ◌⨾◌, one_at, one, name, type_, path, level, sign_of, a_sign, expression, right_side, sum}
-use Rattle.ae_code.specs.Limits.{operators, IsShort, IsShortRight}
-use Rattle.ae_parser.specs.declared.fail.Fail.{Fail}
-use Rattle.ae_parser.specs.declared.fail.Why.{Why}
-use Rattle.ae_parser.specs.declared.fail.Why.TheVariants.{Unexpected, Over}
-use Rattle.ae_parser.specs.Reads.{head, Always, NoEnd, Free, Took, Stopped, Counts, Larger, Beyond, Fails, Failed}
-use Rattle.ae_parser.specs.Productions.{Token, Mark, Ends, NoOperator, IsOperator, operator_of, at_level, AtMost}
-use Rattle.ae_parser.proofs.ReadsLemmas.{Lang, Limit, Follow, Both, Limits, Pair, Has, Run, Along, many, many-append, many-one, took_as, stopped_as, failed_as, took_then, stopped_second, stopped_first_with, stopped_here, first_kind, no_first, took_token, took_mark, run_start, run_more, run_stopped, run_full, run_end, nowhere, at_once, took_kind}
+use Rattle.ae_code.specs.Grammar.{Tokens, name}
+use Rattle.ae_parser.specs.declared.fail.Why.TheVariants.{Unexpected}
+use Rattle.ae_parser.specs.Reads.{Always, Free, Took, Stopped}
+use Rattle.ae_parser.proofs.ReadsLemmas.{Follow, Has, stopped_here, first_kind, no_first, took_token, nowhere, at_once}
 
 -- ---- names
 
@@ -37,10 +22,10 @@ name_end F ts e = stopped_here has_name (λ y us r d h. no_first (tok.Name y.nam
 pub name_other : (F : Follow) (ts : Tokens) (t : Lexeme) (rest : Tokens) → ts ≡ t ∷ rest → ((n : ℕ) → t.kind ≡ tok.Name n → ⊥) → Stopped name Free F ts Unexpected (length ts)
 name_other F ts t rest e other = stopped_here has_name (λ y us r d h. other y.name (first_kind (tok.Name y.name) y.at us r ts rest t d h e))
 
-abbrev name_token : NameAt → Lexeme
+abbrev pub name_token : NameAt → Lexeme
 name_token x = record { kind = tok.Name x.name; at = x.at }
 
-name_of_token : (x y : NameAt) → name_token y ≡ name_token x → y ≡ x
+pub name_of_token : (x y : NameAt) → name_token y ≡ name_token x → y ≡ x
 name_of_token x y p =
     let at : y.at ≡ x.at = ap (λ (l : Lexeme). l.at) p in
     let k : tok.Name y.name ≡ tok.Name x.name = ap (λ (l : Lexeme). l.kind) p in

@@ -1,5 +1,5 @@
 -- Methods and whole programs.
-use Rattle.std.proofs.Common.{◌≡◌, ◌≢◌, ℕ, zero, suc, ◌+◌, ◌≤◌, ◌<◌, ◌++◌, List, [], ◌∷◌, length, Option, Some, None, refl, sym, ap, ◌∙◌, append_assoc, append-nil, subst, arith, length-append, pos, map, Result, Ok, Err, IsErrAnd}
+use Rattle.std.proofs.Common.{◌≡◌, ℕ, zero, suc, ◌+◌, ◌++◌, List, [], ◌∷◌, length, Option, None, refl, sym, ap, ◌∙◌, append-nil, subst, arith, Result, Ok, Err, IsErrAnd}
 use Rattle.std.specs.Prelude.{All, MatchResult}
 use Rattle.ae_code.specs.declared.tree.Program.{Program}
 use Rattle.ae_code.specs.Shown.{code}
@@ -13,7 +13,6 @@ use Rattle.ae_text.specs.declared.refusal.Spot.{Spot}
 use Rattle.ae_text.specs.declared.token.Keyword.TheVariants as word
 use Rattle.ae_text.specs.declared.token.Sign.TheVariants as sign
 use Rattle.ae_code.specs.declared.lexeme.Lexeme.{Lexeme}
-use Rattle.ae_code.specs.declared.lexeme.Lexical.{Lexical}
 use Rattle.ae_code.specs.declared.lexeme.Lexical.TheVariants as tok
 use Rattle.ae_code.specs.declared.tree.NameAt.{NameAt}
 use Rattle.ae_code.specs.declared.tree.Ty.{Ty}
@@ -28,8 +27,8 @@ use Rattle.ae_code.specs.declared.tree.Decl.TheVariants as decl
 use Rattle.ae_code.specs.Plain.{Lines, End, Next, Definition, Code, Expression, Number, Truth, Nothing, Read, Item, Length, Grouped, Negated, Minus, Binary, RightSide, Value, Taken, Zeros, Made, Returned}
 use Rattle.ae_code.specs.Plain.{Action, Declares, Assigns, Stores, StoresAt, Calls, Chooses, ChoosesElse, Repeats, Groups, Splits, Locks, Freezes, Shares, Prints, PrintsText, Asserts, Returns}
 use Rattle.ae_code.specs.Built.{IsBuiltExpression, IsBuiltRight, IsBuiltAction, AreBuilt, Built}
-use Rattle.ae_code.specs.Names.{io, main, names_of, numbered, lexeme, lexical}
-use Rattle.ae_code.specs.Grammar.{Tokens, Then, ◌⨾◌, one_at, one, name, a_sign, a_word, block, needs, method, IsMain, expression, level, right_side, statement, statements, Derives}
+use Rattle.ae_code.specs.Names.{names_of, numbered, lexeme, lexical}
+use Rattle.ae_code.specs.Grammar.{Tokens, one, block, needs, method, IsMain, expression, level, right_side, statement, statements, Derives}
 use Rattle.ae_code.specs.Limits.{IsWithin, Within}
 use Rattle.ae_parser.specs.declared.fail.Fail.{Fail}
 use Rattle.ae_parser.specs.declared.fail.Why.{Why}
@@ -37,7 +36,7 @@ use Rattle.ae_parser.specs.declared.fail.Why.TheVariants.{Unexpected, Over}
 use Rattle.ae_parser.specs.declared.fail.Fail.TheVariants.{Refused, Memory}
 use Rattle.ae_parser.specs.Reads.{head, Always, Free, Is, NoEnd, Counts, Took, Stopped, Failed}
 use Rattle.ae_parser.specs.Productions.{Token, Mark, HasWithin, whole, IsWholeWithin, ReadsAll}
-use Rattle.ae_parser.proofs.ReadsLemmas.{Lang, Limit, Both, Pair, Has, Along, took_as, failed_as, nowhere, at_once, has_token, has_mark, has_both, stopped_here, first, second, free}
+use Rattle.ae_parser.proofs.ReadsLemmas.{Lang, Limit, Both, Pair, Has, Along, took_as, failed_as, has_token, has_mark, has_both, stopped_here, first, second, free}
 use Rattle.ae_parser.proofs.StatementLemmas.{has_block}
 
 -- ---- what a method needs
@@ -116,7 +115,7 @@ main_is m i =
 main_intro : (q : Main) (us : Tokens) → main_body q us → method (main_tree q) us
 main_intro q us d = (record { class = refl; result = refl; is_named = refl; groups = refl; me = refl; params = refl; no = refl }, d)
 
-main_cases : (y : Definition) (us : Tokens) → method y us → (q : Main) × (y ≡ main_tree q) × main_body q us
+pub main_cases : (y : Definition) (us : Tokens) → method y us → (q : Main) × (y ≡ main_tree q) × main_body q us
 main_cases y us d =
     let P : Definition → Type 0 = λ m. method m us in
     let n : method (main_with y.name.at y.needs 0 y.body) us = subst P (main_is y d.0) d in
@@ -280,14 +279,14 @@ program_within ts names m rest t = all_one m t.within
 pub program_built : (ts : Tokens) (names : List (List ℕ)) (m : Definition) (rest : Tokens) → Took method HasWithin Always ts m rest → Built (code_of names m)
 program_built ts names m rest t = record { method = m; methods = refl; is_main = t.derives.0; body = method_built m t.taken t.derives }
 
-code_is : (p : Code) (tokens : List SourceToken) (d : Derives tokens p) → code_of (names_of tokens) d.method_ ≡ p
+pub code_is : (p : Code) (tokens : List SourceToken) (d : Derives tokens p) → code_of (names_of tokens) d.method_ ≡ p
 code_is p tokens d = sym (
     ap (λ (n : List (List ℕ)). record { names = n; classes = p.classes; methods = p.methods; decls = p.decls }) d.names
     ∙ ap (λ (c : List Class). record { names = names_of tokens; classes = c; methods = p.methods; decls = p.decls }) d.classes
     ∙ ap (λ (m : List Definition). record { names = names_of tokens; classes = []; methods = m; decls = p.decls }) d.methods
     ∙ ap (λ (l : List Decl). record { names = names_of tokens; classes = []; methods = d.method_ ∷ []; decls = l }) d.decls)
 
-lexemes_derive : (p : Code) (tokens : List SourceToken) (d : Derives tokens p) → whole (d.method_, tt) (numbered (names_of tokens) tokens)
+pub lexemes_derive : (p : Code) (tokens : List SourceToken) (d : Derives tokens p) → whole (d.method_, tt) (numbered (names_of tokens) tokens)
 lexemes_derive p tokens d = let P : List (List ℕ) → Type 0 = λ n. whole (d.method_, tt) (numbered n tokens) in subst P d.names d.derives
 
 method_within : (p : Code) (m : Definition) → p.methods ≡ m ∷ [] → Within p → HasWithin m

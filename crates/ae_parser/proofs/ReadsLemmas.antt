@@ -1,15 +1,15 @@
 -- Languages in sequence, in turn and by choice, with limits.
-use Rattle.std.proofs.Common.{◌≡◌, ℕ, zero, suc, ◌++◌, List, [], ◌∷◌, length, Option, Some, None, refl, sym, ap, ◌∙◌, append_assoc, append-nil, subst, arith, length-append, ◌<◌, Result, Ok, Err, IsErrAnd, Bor}
+use Rattle.std.proofs.Common.{◌≡◌, ℕ, ◌++◌, List, [], ◌∷◌, length, Option, Some, None, refl, sym, ap, ◌∙◌, append_assoc, append-nil, subst, arith, length-append, ◌<◌, Result, Ok, Err, IsErrAnd, Bor}
 use Rattle.ae_text.specs.declared.refusal.Spot.{Spot}
 use Rattle.ae_code.specs.declared.lexeme.Lexeme.{Lexeme}
 use Rattle.ae_code.specs.declared.lexeme.Lexical.{Lexical}
 use Rattle.ae_code.specs.declared.lexeme.Lexical.TheVariants.{End}
-use Rattle.ae_code.specs.Grammar.{Tokens, Then, ◌⨾◌, one_at, one}
+use Rattle.ae_code.specs.Grammar.{Tokens, ◌⨾◌}
 use Rattle.ae_parser.specs.declared.fail.Fail.{Fail}
 use Rattle.ae_parser.specs.declared.fail.Fail.TheVariants.{Refused, Memory}
 use Rattle.ae_parser.specs.declared.fail.Why.{Why}
 use Rattle.ae_parser.specs.declared.fail.Why.TheVariants.{Unexpected, Over}
-use Rattle.ae_parser.specs.Reads.{head, Always, NoEnd, Free, Took, Stopped, Counts, Larger, Beyond, Fails, Failed, Reads}
+use Rattle.ae_parser.specs.Reads.{head, Always, NoEnd, Free, Took, Stopped, Counts, Beyond, Fails, Failed, Reads}
 use Rattle.ae_parser.specs.Productions.{Token, Mark}
 
 abbrev pub Lang : Type 0 → Type 1

@@ -1,5 +1,5 @@
 -- Right sides, types, statements and blocks: how each production is read.
-use Rattle.std.proofs.Common.{◌≡◌, ◌≢◌, ℕ, zero, suc, ◌+◌, ◌≤◌, ◌<◌, ◌++◌, List, [], ◌∷◌, length, Option, Some, None, refl, sym, ap, ◌∙◌, append_assoc, append-nil, subst, arith, length-append, pos, map}
+use Rattle.std.proofs.Common.{◌≡◌, ℕ, ◌≤◌, ◌<◌, ◌++◌, List, [], ◌∷◌, length, Option, Some, None, refl, sym, ap, ◌∙◌, subst, arith, length-append, pos, map}
 use Rattle.ae_text.specs.declared.refusal.Spot.{Spot}
 use Rattle.ae_text.specs.declared.token.Keyword.TheVariants as word
 use Rattle.ae_text.specs.declared.token.Sign.TheVariants as sign
@@ -11,22 +11,22 @@ use Rattle.ae_code.specs.declared.tree.Ty.{Ty}
 use Rattle.ae_code.specs.declared.tree.Ty.TheVariants as ty
 use Rattle.ae_code.specs.Plain.{Expression, Number, RightSide, Value, Taken, Zeros, Made, Returned}
 use Rattle.ae_code.specs.Plain.{Action, Declares, Assigns, Stores, StoresAt, Calls, Chooses, ChoosesElse, Repeats, Groups, Splits, Locks, Freezes, Shares, Prints, PrintsText, Asserts, Returns, Lines, End, Next}
-use Rattle.ae_code.specs.Grammar.{Tokens, Then, ◌⨾◌, one_at, one, name, type_, right_side, sum, a_sign, a_word, statement, statements, block}
+use Rattle.ae_code.specs.Grammar.{Tokens, Then, one_at, name, type_, right_side, sum, statement, statements, block}
 use Rattle.ae_code.specs.declared.tree.Stmt.{Stmt}
 use Rattle.ae_code.specs.Shown.{lines_from, action}
-use Rattle.ae_code.specs.Limits.{operators, IsShort, IsShortRight, HasShort, AllShort, IsWithin, count}
+use Rattle.ae_code.specs.Limits.{IsShort, IsShortRight, HasShort, AllShort, IsWithin, count}
 use Rattle.ae_parser.specs.declared.fail.Fail.{Fail}
 use Rattle.ae_parser.specs.declared.fail.Why.{Why}
 use Rattle.ae_parser.specs.declared.fail.Why.TheVariants.{Unexpected, Over}
-use Rattle.ae_parser.specs.Reads.{head, Always, Free, Is, IsName, Took, Stopped, Counts, Larger, Beyond, Failed}
-use Rattle.ae_parser.specs.Productions.{Token, Mark, Ends, operator_of, stmt, IsShortStmt, declaration, assignment, printing, Starts, Further, shown_stmt}
-use Rattle.ae_parser.proofs.ReadsLemmas.{Lang, Limit, Follow, Both, Limits, Pair, Has, Run, Along, Turns, Links, NoneAt, many, many-append, many-one, took_as, stopped_as, failed_as, took_then, stopped_second, stopped_first_with, stopped_here, first_kind, no_first, took_token, took_mark, run_start, run_more, run_stopped, run_full, run_end, nowhere, at_once, took_kind, failed_by, free, has_token, has_mark, has_both}
+use Rattle.ae_parser.specs.Reads.{head, Always, Free, Is, IsName, Took, Stopped, Failed}
+use Rattle.ae_parser.specs.Productions.{Token, Mark, Ends, stmt, IsShortStmt, declaration, assignment, printing, Starts, Further, shown_stmt}
+use Rattle.ae_parser.proofs.ReadsLemmas.{Lang, Limit, Both, Pair, Has, Run, Along, Turns, Links, NoneAt, many, took_as, stopped_as, failed_as, run_start, run_more, run_stopped, run_full, run_end, nowhere, at_once, has_mark, has_both}
 use Rattle.ae_parser.proofs.ProductionLemmas.{has_name, no_name}
 use Rattle.ae_parser.proofs.ChainLemmas.{no_operator}
 
 -- ---- right sides
 
-value_cases : (y : RightSide) (us : Tokens) → right_side y us → (q : Expression) × (y ≡ Value q) × sum q us
+pub value_cases : (y : RightSide) (us : Tokens) → right_side y us → (q : Expression) × (y ≡ Value q) × sum q us
 value_cases (Value e) us d = (e, refl, d)
 value_cases (Taken p at) us d = absurd d
 value_cases (Zeros e at) us d = absurd d
@@ -56,7 +56,7 @@ semicolon_ends l y us r d f =
 
 -- ---- types
 
-int_cases : (y : Ty) (us : Tokens) → type_ y us → (at : Spot) × (y ≡ ty.Int at) × Token (tok.Word word.Int) at us
+pub int_cases : (y : Ty) (us : Tokens) → type_ y us → (at : Spot) × (y ≡ ty.Int at) × Token (tok.Word word.Int) at us
 int_cases (ty.Int at) us d = (at, refl, d)
 int_cases (ty.Bool at) us d = absurd d
 int_cases (ty.Object perm kind) us d = absurd d
@@ -105,7 +105,7 @@ declaration_body = Both (Token (tok.Word word.Let)) (Both type_ (Both name (Both
 abbrev pub declaration_limit : Limit Declaration
 declaration_limit = Pair Free (Pair Free (Pair Free (Pair Free (Pair IsShortRight Free))))
 
-abbrev declaration_tree : Declaration → Spot × Action
+abbrev pub declaration_tree : Declaration → Spot × Action
 declaration_tree q = (q.0, Declares q.1.0 q.1.1.0 q.1.1.1.1.0)
 
 declaration_along : (ts : Tokens) → Along declaration declaration_body IsShortStmt declaration_limit ts declaration_tree
@@ -131,7 +131,7 @@ assignment_body = Both name (Both assign (Both right_side semicolon))
 abbrev pub assignment_limit : Limit Assignment
 assignment_limit = Pair Free (Pair Free (Pair IsShortRight Free))
 
-abbrev assignment_tree : Assignment → Spot × Action
+abbrev pub assignment_tree : Assignment → Spot × Action
 assignment_tree q = (q.0.at, Assigns q.0 q.1.1.0)
 
 assignment_along : (ts : Tokens) → Along assignment assignment_body IsShortStmt assignment_limit ts assignment_tree
@@ -157,7 +157,7 @@ printing_body = Both (Token (tok.Word word.Print)) (Both sum semicolon)
 abbrev pub printing_limit : Limit Printing
 printing_limit = Pair Free (Pair IsShort Free)
 
-abbrev printing_tree : Printing → Spot × Action
+abbrev pub printing_tree : Printing → Spot × Action
 printing_tree q = (q.0, Prints q.1.0)
 
 printing_along : (ts : Tokens) → Along printing printing_body IsShortStmt printing_limit ts printing_tree
@@ -177,21 +177,21 @@ printing_failed ts e f = failed_as printing printing_body printing_tree (printin
 -- ---- the choice between them
 
 -- the kind of a statement's first token
-abbrev first_of : Action → Lexical
+abbrev pub first_of : Action → Lexical
 first_of (Declares t x e) = tok.Word word.Let
 first_of (Assigns x e) = tok.Name x.name
 first_of (Prints e) = tok.Word word.Print
 first_of _ = tok.End
 
-record Begins (us r : Tokens) (k : Lexical) : Type 0 where
-  token : Lexeme
-  front : head (us ++ r) ≡ Some token
-  kind : token.kind ≡ k
+pub record Begins (us r : Tokens) (k : Lexical) : Type 0 where
+  pub token : Lexeme
+  pub front : head (us ++ r) ≡ Some token
+  pub kind : token.kind ≡ k
 
 begins_at : {k : Lexical} {at : Spot} {q : Tokens → Type 0} (us r : Tokens) → Then (one_at k at) q us → Begins us r k
 begins_at {k} {at} us r d = record { token = record { kind = k; at = at }; front = ap (λ l. head (l ++ r)) (d.parts ∙ ap (λ l. l ++ d.back) d.first); kind = refl }
 
-begins : (at : Spot) (a : Action) (us r : Tokens) → statement at a us → Begins us r (first_of a)
+pub begins : (at : Spot) (a : Action) (us r : Tokens) → statement at a us → Begins us r (first_of a)
 begins at (Declares t x e) us r d = begins_at us r d
 begins at (Assigns x e) us r d = begins_at us r d.1
 begins at (Stores p e) us r d = absurd d
@@ -218,7 +218,7 @@ next_is k at a us r ts d h i =
     let there : Is k (Some b.token) = subst P (sym h ∙ b.front) i in
     sym b.kind ∙ there
 
-declared : (at : Spot) (a : Action) (us : Tokens) → statement at a us → first_of a ≡ tok.Word word.Let → declaration (at, a) us
+pub declared : (at : Spot) (a : Action) (us : Tokens) → statement at a us → first_of a ≡ tok.Word word.Let → declaration (at, a) us
 declared at (Declares t x e) us d k = (t, x, e, refl, d)
 declared at (Assigns x e) us d k = cc
 declared at (Prints e) us d k = cc
@@ -237,7 +237,7 @@ declared at (PrintsText s) us d k = absurd d
 declared at (Asserts e) us d k = absurd d
 declared at (Returns e) us d k = absurd d
 
-printed : (at : Spot) (a : Action) (us : Tokens) → statement at a us → first_of a ≡ tok.Word word.Print → printing (at, a) us
+pub printed : (at : Spot) (a : Action) (us : Tokens) → statement at a us → first_of a ≡ tok.Word word.Print → printing (at, a) us
 printed at (Declares t x e) us d k = cc
 printed at (Assigns x e) us d k = cc
 printed at (Prints e) us d k = (e, refl, d)
@@ -256,7 +256,7 @@ printed at (PrintsText s) us d k = absurd d
 printed at (Asserts e) us d k = absurd d
 printed at (Returns e) us d k = absurd d
 
-assigned : (at : Spot) (a : Action) (us : Tokens) → statement at a us → (first_of a ≡ tok.Word word.Let → ⊥) → (first_of a ≡ tok.Word word.Print → ⊥) → assignment (at, a) us
+pub assigned : (at : Spot) (a : Action) (us : Tokens) → statement at a us → (first_of a ≡ tok.Word word.Let → ⊥) → (first_of a ≡ tok.Word word.Print → ⊥) → assignment (at, a) us
 assigned at (Declares t x e) us d no_let no_print = absurd (no_let refl)
 assigned at (Assigns x e) us d no_let no_print = (x, e, ap (λ s. (s, Assigns x e)) (sym d.0), d.1)
 assigned at (Prints e) us d no_let no_print = absurd (no_print refl)
@@ -322,16 +322,28 @@ starts_let [] i = absurd i
 starts_let (t ∷ ts) i =
     let tree : Spot × Action = (t.at, Declares has_typed.tree.0 has_typed.tree.1.0 has_typed.tree.1.1.1.0) in
     let P : Lexeme → Type 0 = λ l. stmt tree (l ∷ has_typed.tokens) in
-    record { next = t; later = ts; whole = refl; tree = tree; after = has_typed.tokens;
-      is = subst P (token_is t (tok.Word word.Let) i) (record { front = first_token (tok.Word word.Let) t.at ∷ []; back = has_typed.tokens; parts = refl; first = refl; second = has_typed.is }) }
+    record {
+      next = t;
+      later = ts;
+      whole = refl;
+      tree = tree;
+      after = has_typed.tokens;
+      is = subst P (token_is t (tok.Word word.Let) i) (record { front = first_token (tok.Word word.Let) t.at ∷ []; back = has_typed.tokens; parts = refl; first = refl; second = has_typed.is });
+    }
 
 pub starts_print : (ts : Tokens) → Is (tok.Word word.Print) (head ts) → Starts ts
 starts_print [] i = absurd i
 starts_print (t ∷ ts) i =
     let tree : Spot × Action = (t.at, Prints has_printed.tree.0) in
     let P : Lexeme → Type 0 = λ l. stmt tree (l ∷ has_printed.tokens) in
-    record { next = t; later = ts; whole = refl; tree = tree; after = has_printed.tokens;
-      is = subst P (token_is t (tok.Word word.Print) i) (record { front = first_token (tok.Word word.Print) t.at ∷ []; back = has_printed.tokens; parts = refl; first = refl; second = has_printed.is }) }
+    record {
+      next = t;
+      later = ts;
+      whole = refl;
+      tree = tree;
+      after = has_printed.tokens;
+      is = subst P (token_is t (tok.Word word.Print) i) (record { front = first_token (tok.Word word.Print) t.at ∷ []; back = has_printed.tokens; parts = refl; first = refl; second = has_printed.is });
+    }
 
 pub starts_name : (ts : Tokens) → IsName (head ts) → Starts ts
 starts_name [] i = absurd i
@@ -339,8 +351,14 @@ starts_name (t ∷ ts) i =
     let x : NameAt = record { name = i.0; at = t.at } in
     let tree : Spot × Action = (t.at, Assigns x has_assigned.tree.1.0) in
     let P : Lexeme → Type 0 = λ l. stmt tree (l ∷ has_assigned.tokens) in
-    record { next = t; later = ts; whole = refl; tree = tree; after = has_assigned.tokens;
-      is = subst P (token_is t (tok.Name i.0) i.1) (refl, record { front = first_token (tok.Name i.0) t.at ∷ []; back = has_assigned.tokens; parts = refl; first = refl; second = has_assigned.is }) }
+    record {
+      next = t;
+      later = ts;
+      whole = refl;
+      tree = tree;
+      after = has_assigned.tokens;
+      is = subst P (token_is t (tok.Name i.0) i.1) (refl, record { front = first_token (tok.Name i.0) t.at ∷ []; back = has_assigned.tokens; parts = refl; first = refl; second = has_assigned.is });
+    }
 
 name_first : (at : Spot) (a : Action) (us : Tokens) → statement at a us → (first_of a ≡ tok.Word word.Let → ⊥) → (first_of a ≡ tok.Word word.Print → ⊥) → (n : ℕ) × (first_of a ≡ tok.Name n)
 name_first at a us d no_let no_print = let p = assigned at a us d no_let no_print in (p.0.name, ap (λ (q : Spot × Action). first_of q.1) p.2)
@@ -365,7 +383,7 @@ listed_is : (qs : List (Spot × Action)) (us : Tokens) → many stmt qs us → s
 listed_is [] us m = m
 listed_is (q ∷ qs) us m = record { front = m.front; back = m.back; parts = m.parts; first = m.first; second = listed_is qs m.back m.second }
 
-is_listed : (b : Lines) (us : Tokens) → statements b us → (qs : List (Spot × Action)) × (b ≡ listed qs) × many stmt qs us
+pub is_listed : (b : Lines) (us : Tokens) → statements b us → (qs : List (Spot × Action)) × (b ≡ listed qs) × many stmt qs us
 is_listed End us m = ([], refl, m)
 is_listed (Next at a rest) us m =
     let p = is_listed rest m.back m.second in
@@ -419,27 +437,28 @@ body_full ts rest qs Over goes_on full f b =
     stopped_as statements (many stmt) listed (lines_along ts) (run_full {V = AreWithin} Over goes_on (λ z zs us r d h w. too_many qs zs z full w)
     (record { next = f.next; later = f.later; rest_is = f.whole; tree = f.tree; after = f.after; goes_on = f.is }) b)
 
+-- no statement begins with a brace
+pub no_brace : (at : Spot) (a : Action) (us : Tokens) → statement at a us → first_of a ≡ tok.Sign sign.CloseBrace → ⊥
+no_brace at (Declares t x e) us d k = cc
+no_brace at (Assigns x e) us d k = cc
+no_brace at (Prints e) us d k = cc
+no_brace at (Stores p e) us d k = absurd d
+no_brace at (StoresAt p i e) us d k = absurd d
+no_brace at (Calls c) us d k = absurd d
+no_brace at (Chooses e n b) us d k = absurd d
+no_brace at (ChoosesElse e n b m c) us d k = absurd d
+no_brace at (Repeats e n b) us d k = absurd d
+no_brace at (Groups g) us d k = absurd d
+no_brace at (Splits gs n b) us d k = absurd d
+no_brace at (Locks g n b) us d k = absurd d
+no_brace at (Freezes x) us d k = absurd d
+no_brace at (Shares x g) us d k = absurd d
+no_brace at (PrintsText s) us d k = absurd d
+no_brace at (Asserts e) us d k = absurd d
+no_brace at (Returns e) us d k = absurd d
+
 brace_first : (rest : Tokens) → Is (tok.Sign sign.CloseBrace) (head rest) → NoneAt stmt rest
 brace_first rest i y us r d h = no_brace y.0 y.1 us d (next_is (tok.Sign sign.CloseBrace) y.0 y.1 us r rest d h i)
-  where
-    no_brace : (at : Spot) (a : Action) (us : Tokens) → statement at a us → first_of a ≡ tok.Sign sign.CloseBrace → ⊥
-    no_brace at (Declares t x e) us d k = cc
-    no_brace at (Assigns x e) us d k = cc
-    no_brace at (Prints e) us d k = cc
-    no_brace at (Stores p e) us d k = absurd d
-    no_brace at (StoresAt p i e) us d k = absurd d
-    no_brace at (Calls c) us d k = absurd d
-    no_brace at (Chooses e n b) us d k = absurd d
-    no_brace at (ChoosesElse e n b m c) us d k = absurd d
-    no_brace at (Repeats e n b) us d k = absurd d
-    no_brace at (Groups g) us d k = absurd d
-    no_brace at (Splits gs n b) us d k = absurd d
-    no_brace at (Locks g n b) us d k = absurd d
-    no_brace at (Freezes x) us d k = absurd d
-    no_brace at (Shares x g) us d k = absurd d
-    no_brace at (PrintsText s) us d k = absurd d
-    no_brace at (Asserts e) us d k = absurd d
-    no_brace at (Returns e) us d k = absurd d
 
 pub body_ends : (ts rest : Tokens) (qs : List (Spot × Action)) → Is (tok.Sign sign.CloseBrace) (head rest) → Body ts qs rest → Took statements IsWithin (Is (tok.Sign sign.CloseBrace)) ts (listed qs) rest
 body_ends ts rest qs i b = took_as statements (many stmt) listed (lines_along ts) (run_end (brace_first rest i) b)

@@ -122,12 +122,7 @@ fn operand<'a>(alloc: Global, ts: &'a [Lexeme]) -> Result<(Counted, &'a [Lexeme]
     }
 }
 
-fn binary(
-    alloc: Global,
-    op: Op,
-    left: Counted,
-    right: Counted,
-) -> Result<Counted, AllocError>
+fn binary(alloc: Global, op: Op, left: Counted, right: Counted) -> Result<Counted, AllocError>
     requires { left.operators + right.operators < 256 }
     ensures tree { IfOk result (λ c. counted c ≡ Binary op (counted left) (counted right)) }
     ensures count { IfOk result (λ c. c.operators ≡ left.operators + 1 + right.operators) }

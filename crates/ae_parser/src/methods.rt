@@ -14,6 +14,7 @@ use ae_text::{Items, Keyword, Sign, Spot};
 use std::alloc::Global;
 
 const IO: Name = 0;
+
 const MAIN: Name = 1;
 
 /// What a method needs: `io` for itself.

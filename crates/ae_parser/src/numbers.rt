@@ -11,10 +11,7 @@ use indexmap::IndexSet;
 use std::alloc::{AllocError, Global};
 
 /// Adds the spelling of a token that is a name.
-fn insert_spelling<'a>(
-    names: &mut IndexSet<&'a [u8]>,
-    token: &'a Token,
-) -> Result<(), AllocError>
+fn insert_spelling<'a>(names: &mut IndexSet<&'a [u8]>, token: &'a Token) -> Result<(), AllocError>
     ensures names { OnOk result (bytes_of names.new.keys ≡ insert_all bytes_eq (bytes_of names.old.keys) (spelled token.now.kind [])) }
     ensures few { OnOk result (length names.new.keys ≤ length names.old.keys + 1) }
 {
@@ -47,6 +44,7 @@ fn spellings<'a>(alloc: Global, tokens: &'a [Token]) -> Result<IndexSet<&'a [u8]
     Ok(names)
 }
 
+/// The number of a spelling, which is among the names.
 fn number(names: &IndexSet<&[u8]>, spelling: &[u8]) -> u32
     requires { length names.now.keys ≤ 1048580 }
     ensures { result ≡ number_of (bytes_of names.now.keys) spelling.now }
@@ -54,11 +52,7 @@ fn number(names: &IndexSet<&[u8]>, spelling: &[u8]) -> u32
     names.get_index_of(spelling).unwrap_or(names.len()) as u32
 }
 
-fn lexical(
-    alloc: Global,
-    names: &IndexSet<&[u8]>,
-    kind: &TokenKind,
-) -> Result<Lexical, AllocError>
+fn lexical(alloc: Global, names: &IndexSet<&[u8]>, kind: &TokenKind) -> Result<Lexical, AllocError>
     requires { length names.now.keys ≤ 1048580 }
     ensures { IfOk result (λ k. k ≡ lexical (bytes_of names.now.keys) kind.now) }
 {

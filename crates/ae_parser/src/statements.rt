@@ -9,9 +9,7 @@ ghost use Rattle.ae_parser.specs.Productions.{stmt, IsShortStmt, shown_stmt, Fur
 
 use crate::expressions::{expression, right_side};
 use crate::fail::{Fail, Why};
-use crate::terminals::{
-    expect_sign, expect_word, is_name_next, is_sign_next, is_word_next, name,
-};
+use crate::terminals::{expect_sign, expect_word, is_name_next, is_sign_next, is_word_next, name};
 use ae_code::{Block, Lexeme, Lexical, Stmt, StmtKind, Ty};
 use ae_text::{Items, Keyword, Sign};
 use std::alloc::Global;

@@ -76,10 +76,7 @@ pub(crate) fn expect_sign<'a>(ts: &'a [Lexeme], sign: Sign) -> Result<(Spot, &'a
 }
 
 /// Takes this word.
-pub(crate) fn expect_word<'a>(
-    ts: &'a [Lexeme],
-    word: Keyword,
-) -> Result<(Spot, &'a [Lexeme]), Fail>
+pub(crate) fn expect_word<'a>(ts: &'a [Lexeme], word: Keyword) -> Result<(Spot, &'a [Lexeme]), Fail>
     ensures { Reads itself (Token (Lexical.Word word)) Free Always ts.now result }
 {
     let Some((first, rest)) = next(ts) else {

@@ -1,4 +1,4 @@
-use Rattle.std.proofs.Common.{◌≡◌, ◌≤◌, ◌+◌, ◌-◌, ℕ, sym, subst, arith, Result, Bor}
+use Rattle.std.proofs.Common.{◌≡◌, ◌+◌, ◌-◌, ℕ, sym, subst, arith, Result, Bor}
 use Rattle.ae_code.specs.Grammar.{Tokens}
 use Rattle.ae_parser.specs.declared.fail.Fail.{Fail}
 use Rattle.ae_parser.specs.declared.expressions.Counted.{Counted}

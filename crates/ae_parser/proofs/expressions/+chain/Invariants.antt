@@ -1,4 +1,4 @@
-use Rattle.std.proofs.Common.{ℕ, ◌-◌, length}
+use Rattle.std.proofs.Common.{◌-◌, length}
 use Rattle.ae_parser.specs.Productions.{counted}
 use Rattle.ae_parser.proofs.ChainLemmas.{Chain}
 use Rattle.ae_parser.proofs.expressions.+chain.Given as goal

@@ -1,4 +1,4 @@
-use Rattle.std.proofs.Common.{◌≡◌, ap₂, ◌∙◌}
+use Rattle.std.proofs.Common.{ap₂, ◌∙◌}
 use Rattle.ae_code.specs.declared.tree.Expr.{Expr}
 use Rattle.ae_code.specs.Plain.{Binary}
 use Rattle.ae_code.specs.Shown.{expression, expression-Bin}

@@ -1,7 +1,5 @@
-use Rattle.std.proofs.Common.{◌≡◌}
-use Rattle.ae_code.specs.Plain.{Value}
-use Rattle.ae_code.specs.Grammar.{right_side, sum}
-use Rattle.ae_code.specs.Limits.{IsShort, IsShortRight}
+use Rattle.ae_code.specs.Grammar.{right_side}
+use Rattle.ae_code.specs.Limits.{IsShortRight}
 use Rattle.ae_code.specs.Shown as shown
 use Rattle.ae_parser.specs.Productions.{Ends}
 use Rattle.ae_parser.proofs.ReadsLemmas.{exits}

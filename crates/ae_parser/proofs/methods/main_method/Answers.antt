@@ -1,4 +1,4 @@
-use Rattle.std.proofs.Common.{◌≡◌, sym, subst, ap, ◌∙◌, ℕ}
+use Rattle.std.proofs.Common.{sym, subst, ap, ◌∙◌, ℕ}
 use Rattle.ae_code.specs.Plain.{Definition}
 use Rattle.ae_code.specs.Grammar.{method}
 use Rattle.ae_code.specs.Shown as shown

@@ -1,4 +1,4 @@
-use Rattle.std.proofs.Common.{◌≡◌, sym, subst, ap, ◌∙◌, List, [], ◌++◌}
+use Rattle.std.proofs.Common.{sym, subst, ap, ◌∙◌, List, ◌++◌}
 use Rattle.ae_code.specs.declared.tree.GroupNeed.{GroupNeed}
 use Rattle.ae_code.specs.Grammar.{needs}
 use Rattle.ae_parser.specs.Reads.{Took, Always, Free, itself}

@@ -1,4 +1,4 @@
-use Rattle.std.proofs.Common.{◌≡◌, ◌∙◌, sym, ap₂, ap, refl, List, ℕ, []}
+use Rattle.std.proofs.Common.{◌∙◌, sym, ap, refl, []}
 use Rattle.std.specs.Prelude.{bytes_eq}
 use Rattle.indexmap.specs.IndexSet.{insert_all, insert_key}
 use Rattle.ae_code.specs.Names.{spelled}

@@ -1,6 +1,5 @@
-use Rattle.std.proofs.Common.{◌≡◌, ◌∙◌, sym, ap₂, refl, List, ℕ}
+use Rattle.std.proofs.Common.{◌∙◌, ap₂, refl}
 use Rattle.std.specs.Prelude.{unwrap_or, bytes_eq}
-use Rattle.std.specs.Borrow.{Bor}
 use Rattle.ae_parser.proofs.NumberLemmas.{position_same, position_found}
 use Rattle.ae_parser.proofs.numbers.number.Goals as goal
 

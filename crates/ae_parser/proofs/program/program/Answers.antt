@@ -1,7 +1,7 @@
-use Rattle.std.proofs.Common.{◌≡◌, ◌∙◌, List, ℕ, sym, subst, ap}
+use Rattle.std.proofs.Common.{◌∙◌, List, ℕ, sym, subst, ap}
 use Rattle.ae_code.specs.Plain.{Code}
-use Rattle.ae_code.specs.Names.{names_of, numbered}
-use Rattle.ae_code.specs.Shown.{code, definition}
+use Rattle.ae_code.specs.Names.{names_of}
+use Rattle.ae_code.specs.Shown.{definition}
 use Rattle.ae_code.specs.Grammar.{Tokens, Derives, method}
 use Rattle.ae_code.specs.Limits.{Within}
 use Rattle.ae_code.specs.Built.{Built}

@@ -1,4 +1,4 @@
-use Rattle.std.proofs.Common.{◌≡◌, sym, subst, ap, ◌∙◌}
+use Rattle.std.proofs.Common.{sym, subst}
 use Rattle.ae_code.specs.Plain.{Lines}
 use Rattle.ae_code.specs.Grammar.{block}
 use Rattle.ae_code.specs.Limits.{IsWithin}

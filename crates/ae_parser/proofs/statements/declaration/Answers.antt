@@ -1,7 +1,6 @@
-use Rattle.std.proofs.Common.{◌≡◌, sym, subst, ap, ◌∙◌}
-use Rattle.ae_text.specs.declared.refusal.Spot.{Spot}
-use Rattle.ae_code.specs.Plain.{Action, Declares}
-use Rattle.ae_code.specs.Shown.{action, action-Let}
+use Rattle.std.proofs.Common.{sym, subst}
+use Rattle.ae_code.specs.Plain.{Action}
+use Rattle.ae_code.specs.Shown.{action-Let}
 use Rattle.ae_parser.specs.Reads.{Took, Always}
 use Rattle.ae_parser.specs.Productions.{declaration, IsShortStmt, shown_stmt}
 use Rattle.ae_parser.proofs.ReadsLemmas.{exits, first, second, both, free, took_mark, failed_mark, has_mark}

@@ -1,4 +1,4 @@
-use Rattle.std.proofs.Common.{◌≡◌, ◌<◌, ◌≤◌, List, length, map, sym, subst, ap, ◌∙◌, arith, [], ◌∷◌}
+use Rattle.std.proofs.Common.{◌<◌, ◌≤◌, List, length, map, sym, subst, ap, ◌∙◌, arith, [], ◌∷◌}
 use Rattle.std.proofs.lemmas.List.{map-append, length-map}
 use Rattle.ae_text.specs.declared.refusal.Spot.{Spot}
 use Rattle.ae_text.specs.declared.token.Sign.TheVariants as sign
