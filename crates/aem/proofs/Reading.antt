@@ -10,20 +10,44 @@ use Rattle.ae_code.specs.Plain.{Code, Definition, Lines}
 use Rattle.ae_code.specs.Shown.{definition, lines_from, lines-out}
 use Rattle.ae_code.specs.Names.{io}
 use Rattle.ae_code.specs.Judgement.{nobody, and_also, all_new, DeclaresOnce}
-use Rattle.aem.specs.Small.{IsSource}
+use Rattle.ae_text.specs.declared.refusal.Refusal.{Refusal}
+use Rattle.ae_text.specs.declared.token.Token.{Token}
+use Rattle.ae_text.specs.Tokens.{Lexes, LexFault, place}
+use Rattle.ae_text.specs.Scan.{IsDenied}
+use Rattle.ae_parser.specs.Denied.{IsDenied as ParserDenies}
+use Rattle.aem.specs.Small.{IsSource, IsProgram}
 use Rattle.std.proofs.Common.{Option, None}
 use Rattle.ae_text.specs.declared.refusal.Spot.{Spot}
 use Rattle.ae_text.specs.declared.refusal.Rule.{Rule}
-use Rattle.ae_text.specs.declared.refusal.Rule.TheVariants.{TooLong}
+use Rattle.ae_text.specs.declared.refusal.Rule.TheVariants.{NotText, BadChar, IntTooLarge, OpenText, TooLong}
 use Rattle.aem.specs.declared.answer.What.{What}
 use Rattle.aem.specs.declared.answer.What.TheVariants as w
 use Rattle.aem.specs.Words.{usage_of}
-use Rattle.aem.specs.Top.{unread_of, IsUnread, HasBody, IsWholeText, IsBroken, IsFirstBroken, IsAnswer, Caused}
+use Rattle.aem.specs.Top.{IsUnread, IsUnparsed, HasBody, IsWholeText, IsBroken, IsFirstBroken, IsAnswer, Caused}
 
--- a call that answers nothing but want of memory to a source has refused no source
-pub unread : (text : List ℕ) (e : Deny) → ((p : Code) → IsSource text p → e ≡ d.Memory) → IsUnread text (unread_of e)
-unread text (d.Refused r) h = (refl, λ p s. let e : d.Refused r ≡ d.Memory = h p s in cc)
-unread text d.Memory h = tt
+-- a fault that stands there is that of a rule of texts
+fault_broken : (r : Rule) (at : Spot) (text : List ℕ) (offset : ℕ) → LexFault text r offset → at ≡ place text offset → IsBroken r at text
+fault_broken NotText at text offset f e = (offset, f, e)
+fault_broken BadChar at text offset f e = (offset, f, e)
+fault_broken IntTooLarge at text offset f e = (offset, f, e)
+fault_broken OpenText at text offset f e = (offset, f, e)
+fault_broken r at text offset f e = absurd f.fault
+
+pub denied : (text : List ℕ) (e : Deny) → IsDenied text e → IsUnread text e
+denied text (d.Refused r) f = fault_broken r.rule r.at text f.0 f.1 f.2
+denied text d.Memory f = tt
+
+-- tokens without a program make their text one without a program
+pub unparsed : (text : List ℕ) (tokens : List Token) (e : Deny) → Lexes text tokens → IsUnparsed tokens e → IsUnread text e
+unparsed text tokens (d.Refused r) l u =
+    let P : Refusal → Type 0 = λ x. IsBroken x.rule x.at text in
+    subst P (sym u.0) (refl, (tokens, l, u.1))
+unparsed text tokens d.Memory l u = tt
+
+-- a parser that answers nothing but want of memory to a program, and otherwise this refusal
+pub refused_none : (tokens : List Token) (e : Deny) → ParserDenies e → ((p : Code) → IsProgram tokens p → e ≡ d.Memory) → IsUnparsed tokens e
+refused_none tokens (d.Refused r) is h = (is, λ p s. let e : d.Refused r ≡ d.Memory = h p s in cc)
+refused_none tokens d.Memory is h = tt
 
 -- the body of the one method
 pub one_body : (ms : List Method) (m : Method) (ls : List Stmt) → length ms ≡ 1 → m ≡ get_or ms 0 m → ls ≡ (out-Block m.body).stmts

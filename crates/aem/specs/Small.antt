@@ -19,6 +19,6 @@ pub record IsSource (text : List ℕ) (program : Code) : Type 0 where
   pub lexes : Lexes text tokens
   pub is_program : IsProgram tokens program
 
--- the text is no small source
-abbrev pub NoSource : List ℕ → Type 0
-NoSource text = (program : Code) → IsSource text program → ⊥
+-- no such program has these tokens
+abbrev pub NoProgram : List Token → Type 0
+NoProgram tokens = (program : Code) → IsProgram tokens program → ⊥

@@ -3,7 +3,7 @@ use Rattle.std.specs.Prelude.{◌≡◌, ℕ, ◌+◌, ◌≤◌, List, [], ◌�
 use Rattle.std.specs.Io.KnownBytes.{Consumes, IsAtEnd, Appends}
 use Rattle.ae_text.specs.declared.refusal.Spot.{Spot}
 use Rattle.ae_text.specs.declared.refusal.Rule.{Rule}
-use Rattle.ae_text.specs.declared.refusal.Rule.TheVariants.{TooLong, Unexpected, UnknownName}
+use Rattle.ae_text.specs.declared.refusal.Rule.TheVariants.{NotText, BadChar, IntTooLarge, OpenText, TooLong, Unexpected, UnknownName}
 use Rattle.ae_text.specs.Whole.{most}
 use Rattle.ae_text.specs.declared.refusal.Deny.{Deny}
 use Rattle.ae_text.specs.declared.refusal.Deny.TheVariants as d
@@ -13,7 +13,9 @@ use Rattle.ae_meaning.specs.declared.report.RunReport.{RunReport}
 use Rattle.ae_meaning.specs.Meaning.{seq}
 use Rattle.aem.specs.declared.answer.What.{What}
 use Rattle.aem.specs.declared.answer.What.TheVariants as w
-use Rattle.aem.specs.Small.{IsSource, NoSource}
+use Rattle.ae_text.specs.declared.token.Token.{Token}
+use Rattle.ae_text.specs.Tokens.{Lexes, LexFault, place}
+use Rattle.aem.specs.Small.{IsSource, NoProgram}
 use Rattle.aem.specs.Words.{usage_of}
 
 abbrev pub first_spot : Spot
@@ -23,9 +25,17 @@ first_spot = record { line = 1; col = 1 }
 abbrev pub IsWholeText : List ℕ → Option (List ℕ) → Type 0
 IsWholeText taken left = (length taken ≤ most) × IsAtEnd left
 
+-- the first fault of the text, at its place
+abbrev pub IsFaultAt : Rule → Spot → List ℕ → Type 0
+IsFaultAt rule at text = (offset : ℕ) × LexFault text rule offset × (at ≡ place text offset)
+
 -- why a rule is the first that a whole text breaks, and where
 abbrev pub IsBroken : Rule → Spot → List ℕ → Type 0
-IsBroken Unexpected at text = (at ≡ first_spot) × NoSource text
+IsBroken NotText at text = IsFaultAt NotText at text
+IsBroken BadChar at text = IsFaultAt BadChar at text
+IsBroken IntTooLarge at text = IsFaultAt IntTooLarge at text
+IsBroken OpenText at text = IsFaultAt OpenText at text
+IsBroken Unexpected at text = (at ≡ first_spot) × ((tokens : List Token) × Lexes text tokens × NoProgram tokens)
 IsBroken UnknownName at text = (program : Code) × IsSource text program × Breaks program UnknownName at
 IsBroken _ at text = ⊥
 
@@ -38,15 +48,15 @@ IsFirstBroken rule at taken left = IsWholeText taken left × IsBroken rule at ta
 abbrev pub HasBody : Code → Lines → Type 0
 HasBody program b = (m : Definition) × (program.methods ≡ m ∷ []) × (m.body ≡ b)
 
--- whatever a text was refused for, it is refused at its beginning
-abbrev pub unread_of : Deny → Deny
-unread_of (d.Refused r) = d.Refused (record { rule = Unexpected; at = first_spot })
-unread_of d.Memory = d.Memory
-
 -- why a text gives no program
 abbrev pub IsUnread : List ℕ → Deny → Type 0
-IsUnread text (d.Refused r) = (r ≡ record { rule = Unexpected; at = first_spot }) × NoSource text
+IsUnread text (d.Refused r) = IsBroken r.rule r.at text
 IsUnread text d.Memory = Unit {0}
+
+-- why tokens give no program
+abbrev pub IsUnparsed : List Token → Deny → Type 0
+IsUnparsed tokens (d.Refused r) = (r ≡ record { rule = Unexpected; at = first_spot }) × NoProgram tokens
+IsUnparsed tokens d.Memory = Unit {0}
 
 -- the report is that of the source's meaning, with no integers and a fuel of 100,000
 abbrev pub IsMeant : RunReport → Code → Type 0

@@ -9,7 +9,7 @@ ghost use Rattle.ae_code.specs.Built.{Built};
 ghost use Rattle.aem.specs.Words.{usage_of};
 ghost use Rattle.aem.specs.Small.{IsProgram, IsSource};
 ghost use Rattle.aem.specs.Texts.{output, whole_status, status_of};
-ghost use Rattle.aem.specs.Top.{HasBody, unread_of, IsUnread, IsMeant, IsAnswer, Answers, Wrote, IsUsage};
+ghost use Rattle.aem.specs.Top.{HasBody, IsUnread, IsUnparsed, IsMeant, IsAnswer, Answers, Wrote, IsUsage};
 
 use crate::answer::{Answer, What};
 use crate::names::{declares_once, first_unknown};
@@ -46,26 +46,13 @@ fn body_of(program: &Program) -> &[Stmt]
     }
 }
 
-// Whatever a text was refused for, it is refused at its beginning.
-fn unread(deny: Deny) -> Deny
-    ensures { result ≡ unread_of deny }
-{
-    match deny {
-        Deny::Refused(_) => Deny::Refused(Refusal {
-            rule: Rule::Unexpected,
-            at: Spot { line: 1, col: 1 },
-        }),
-        Deny::Memory => Deny::Memory,
-    }
-}
-
-// The program of the tokens, if it declares each name once.
+// The program of the tokens, or why they have none.
 fn parse_once(alloc: Global, tokens: &[Token]) -> Result<Program, Deny>
     requires whole { IsWhole tokens.now }
     requires short { length tokens.now ≤ 1048577 }
     ensures ok { IfOk result (λ p. IsProgram tokens.now (code p)) }
     ensures built { IfOk result (λ p. Built (code p)) }
-    ensures refused { IfErr result (λ e. (p : Code) → IsProgram tokens.now p → e ≡ Deny.Memory) }
+    ensures refused { IfErr result (IsUnparsed tokens.now) }
 {
     let program = match parse(alloc, tokens) {
         Ok(program) => program,
@@ -90,11 +77,11 @@ fn read_program(alloc: Global, text: &[u8]) -> Result<Program, Deny>
 {
     let tokens = match lex(alloc, text) {
         Ok(tokens) => tokens,
-        Err(deny) => return Err(unread(deny)),
+        Err(deny) => return Err(deny),
     };
     match parse_once(alloc, tokens.as_slice()) {
         Ok(program) => Ok(program),
-        Err(deny) => Err(unread(deny)),
+        Err(deny) => Err(deny),
     }
 }
 

@@ -1,18 +1,13 @@
-use Rattle.std.proofs.Common.{List, subst, sym, ◌∙◌}
-use Rattle.ae_text.specs.declared.refusal.Deny.{Deny}
+use Rattle.std.proofs.Common.{List, subst}
 use Rattle.ae_text.specs.declared.token.Token.{Token}
-use Rattle.aem.specs.Small.{IsProgram}
-use Rattle.aem.specs.Top.{IsUnread}
-use Rattle.aem.proofs.Reading.{unread}
+use Rattle.aem.specs.Top.{IsUnparsed}
+use Rattle.aem.proofs.Reading.{denied, unparsed}
 use Rattle.aem.proofs.top.read_program.Goals as goal
 
 pub returns-in-Err-clause-refused : goal.returns-in-Err-clause-refused
-returns-in-Err-clause-refused c =
-    rw c.unread.ensures (unread c.args.text.now c.in-Err.deny (λ p s. c.in-Err.ensures.only s.tokens s.lexes))
+returns-in-Err-clause-refused c = denied c.args.text.now c.in-Err.deny c.in-Err.ensures.refused
 
 pub returns-clause-refused : goal.returns-clause-refused
 returns-clause-refused c =
-    rw c.unread-in-Err-parse_once.ensures
-    (unread c.args.text.now c.in-Err-parse_once.deny
-    (λ p s. c.in-Err-parse_once.ensures.refused p
-    (subst (λ (l : List Token). IsProgram l p) (sym (c.as_slice.ensures ∙ c.in-Ok.ensures.only s.tokens s.lexes)) s.is_program)))
+    unparsed c.args.text.now c.in-Ok.tokens c.in-Err-parse_once.deny c.in-Ok.ensures.ok
+    (subst (λ (l : List Token). IsUnparsed l c.in-Err-parse_once.deny) c.as_slice.ensures c.in-Err-parse_once.ensures.refused)
