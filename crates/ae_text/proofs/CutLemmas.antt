@@ -1,7 +1,7 @@
 -- Whole texts: one cutting, one fault's place, and the loop that cuts.
-use Rattle.std.proofs.Common.{◌≡◌, ◌≢◌, ◌==◌, if◌then◌else◌, Bool, true, false, ℕ, zero, suc, ◌+◌, ◌-◌, ◌^◌, ◌<◌, ◌≤◌, List, [], ◌∷◌, ◌++◌, length, take, drop, Option, Some, None, ◌⊎◌, inl, inr, refl, sym, ap, ◌∙◌, subst, append_assoc, append-nil, length-append, arith}
-use Rattle.std.proofs.Math.Seq.{take-append_seam, take-length}
-use Rattle.std.specs.Str.{encode_utf8_all, chars, IsUtf8, IsValidUpTo}
+use Rattle.std.proofs.Common.{◌≡◌, ◌==◌, if◌then◌else◌, Bool, true, false, ℕ, ◌+◌, ◌-◌, ◌<◌, ◌≤◌, List, [], ◌∷◌, ◌++◌, length, take, Option, ◌⊎◌, inl, inr, refl, sym, ap, ◌∙◌, subst, append_assoc, append-nil, length-append, arith}
+use Rattle.std.proofs.Math.Seq.{take-length}
+use Rattle.std.specs.Str.{encode_utf8_all, chars, IsUtf8}
 use Rattle.std.proofs.lemmas.Str.{encodes-append, encodes_same, encodes-chars}
 use Rattle.std.proofs.lemmas.Str.{length-le-encodes}
 use Rattle.ae_text.specs.declared.refusal.Spot.{Spot}
@@ -10,12 +10,11 @@ use Rattle.ae_text.specs.declared.token.TokenKind.{TokenKind}
 use Rattle.ae_text.specs.declared.token.TokenKind.TheVariants as t
 use Rattle.ae_text.specs.declared.refusal.Rule.{Rule}
 use Rattle.ae_text.specs.declared.refusal.Rule.TheVariants as rule
-use Rattle.ae_text.specs.declared.refusal.Deny.{Deny}
 use Rattle.ae_text.specs.declared.refusal.Deny.TheVariants as deny
 use Rattle.ae_text.specs.declared.faults.Fault.{Fault}
 use Rattle.ae_text.specs.declared.faults.Fault.TheVariants as fault
-use Rattle.ae_text.specs.Tokens.{Text, width, spelled, Piece, White, Comment, Tok, spelling, Spells, IsNumber, IsPiece, text_of, ArePieces, IsNothing, IsTooLarge, IsOpen, IsBadEscape, IsFault, step, start, moved, place, token_at, tokens_from, end_of, Lexes, CutFault, LexFault, NoEnd, IsWhole}
-use Rattle.ae_text.specs.Scan.{Front, Cuts, FaultAfter, Faults, Scanned, IsDenied, IsWithin, denied, kind_in, token_of}
+use Rattle.ae_text.specs.Tokens.{Text, width, spelled, Piece, White, Comment, Tok, spelling, Spells, IsNumber, IsPiece, text_of, ArePieces, IsNothing, IsTooLarge, IsOpen, IsBadEscape, IsFault, step, start, moved, place, token_at, tokens_from, end_of, Lexes, CutFault, LexFault, IsDenied, NoEnd, IsWhole}
+use Rattle.ae_text.specs.Scan.{Front, Cuts, FaultAfter, Faults, Scanned, IsWithin, denied, kind_in, token_of}
 use Rattle.ae_text.proofs.ScanLemmas.{front_nil, front_then, front_as, front_length, front_take, front_smaller, front_utf8}
 use Rattle.ae_text.proofs.QuoteLemmas.{open_no_quoted, bad_no_quoted}
 use Rattle.ae_text.proofs.LexLemmas.{piece_unique, spells_first, nothing_no_piece, large_no_piece, quote_piece}
@@ -327,8 +326,13 @@ token_few bytes x at (Tok k s) m = let f = spells_first k s m.spells in omega (a
 tokens_few : (bytes x : Text) (at : ℕ) (ps : List Piece) → ArePieces ps x → length (tokens_from bytes at ps) ≤ length (text_of ps)
 tokens_few bytes x at [] m = omega arith
 tokens_few bytes x at (p ∷ ps) m =
-    omega (arith, length-append (token_at bytes at p) (tokens_from bytes (at + width (spelling p)) ps), length-append (spelling p) (text_of ps),
-    token_few bytes (text_of ps ++ x) at p m.0, tokens_few bytes x (at + width (spelling p)) ps m.1)
+    omega (
+      arith,
+      length-append (token_at bytes at p) (tokens_from bytes (at + width (spelling p)) ps),
+      length-append (spelling p) (text_of ps),
+      token_few bytes (text_of ps ++ x) at p m.0,
+      tokens_few bytes x (at + width (spelling p)) ps m.1,
+    )
 
 pub lexes_few : (bytes : Text) (tokens : List Token) → Lexes bytes tokens → length tokens ≤ length bytes + 1
 lexes_few bytes tokens l =

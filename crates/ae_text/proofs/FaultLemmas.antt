@@ -1,7 +1,7 @@
 -- A text has one fault, or tokens.
-use Rattle.std.proofs.Common.{◌≡◌, ◌≢◌, ℕ, ◌+◌, ◌^◌, ◌<◌, ◌≤◌, pos, Bool, true, false, IsTrue, List, [], ◌∷◌, ◌++◌, length, take, ◌⊎◌, inl, inr, refl, sym, ap, ◌∙◌, subst, append_assoc, append-nil, arith}
+use Rattle.std.proofs.Common.{◌≡◌, ℕ, pos, IsTrue, List, [], ◌∷◌, ◌++◌, length, ◌⊎◌, inl, inr, refl, sym, ap, ◌∙◌, subst, append_assoc, append-nil}
 use Rattle.std.proofs.Math.Seq.{take-length}
-use Rattle.std.specs.Str.{encode_utf8_all, IsUtf8, IsValidUpTo}
+use Rattle.std.specs.Str.{IsUtf8, IsValidUpTo}
 use Rattle.std.proofs.lemmas.Str.{encodes_same, utf8_valid_len-IsValidUpTo}
 use Rattle.ae_text.specs.declared.refusal.Rule.{Rule}
 use Rattle.ae_text.specs.declared.refusal.Rule.TheVariants as rule
@@ -9,7 +9,7 @@ use Rattle.ae_text.specs.declared.token.Token.{Token}
 use Rattle.ae_text.specs.declared.token.TokenKind.TheVariants as t
 use Rattle.ae_text.specs.Tokens.{Text, width, is_digit, IsNumber, value, Piece, text_of, ArePieces, IsNothing, IsTooLarge, IsOpen, IsBadEscape, IsFault, Lexes, CutFault, LexFault}
 use Rattle.ae_text.proofs.QuoteLemmas.{first_is, bad_same, bad_no_open}
-use Rattle.ae_text.proofs.CutLemmas.{GoesOn, cuttings, NoPiece, fault_no_piece, fault_refuses}
+use Rattle.ae_text.proofs.CutLemmas.{cuttings, NoPiece, fault_no_piece, fault_refuses}
 
 -- the four kinds of faults
 pub data Kind (r : Rule) (before rest : Text) : Type 0 where

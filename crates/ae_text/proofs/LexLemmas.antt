@@ -1,22 +1,18 @@
 -- What begins a text is one piece.
-use Rattle.std.proofs.Common.{◌≡◌, ◌≢◌, ℕ, zero, suc, ◌+◌, ◌-◌, ◌*◌, ◌^◌, ◌<◌, ◌≤◌, pos, ℤ, Bool, true, false, ◌||◌, ◌&&◌, nat_le, ◌==◌, if◌then◌else◌, IsTrue, List, [], ◌∷◌, ◌++◌, length, take, drop, Option, Some, None, ◌⊎◌, inl, inr, refl, sym, ap, ◌∙◌, subst, append_assoc, append-nil, length-append, arith, lit<, rules, tests}
-use Rattle.ae_text.specs.declared.token.Keyword.{Keyword}
+use Rattle.std.proofs.Common.{◌≡◌, ◌≢◌, ℕ, ◌^◌, ◌<◌, ◌≤◌, pos, ℤ, Bool, true, false, ◌||◌, ◌==◌, IsTrue, [], ◌∷◌, ◌++◌, drop, Some, None, ◌⊎◌, inl, inr, refl, sym, ap, ◌∙◌, subst, append-nil, arith, lit<, rules, tests}
 use Rattle.ae_text.specs.declared.token.Sign.{Sign}
 use Rattle.ae_text.specs.declared.token.TokenKind.{TokenKind}
 use Rattle.ae_text.specs.declared.token.TokenKind.TheVariants as t
 use Rattle.ae_text.specs.declared.refusal.Rule.{Rule}
-use Rattle.ae_text.specs.declared.refusal.Rule.TheVariants as rule
-use Rattle.ae_text.specs.declared.texts.Part.{Part}
-use Rattle.ae_text.specs.declared.texts.Part.TheVariants.{Plain, Escape}
 use Rattle.std.proofs.lemmas.Bool.{eqb-true}
 use Rattle.std.specs.Str.{chars, encode_utf8_all}
 use Rattle.std.specs.Char.{is_ascii_alphabetic}
 use Rattle.unicode_ident.proofs.IdentLemmas.{is_xid_start-is_xid_continue, is_xid_continue-ascii}
 use Rattle.unicode_ident.specs.Ident.{is_xid_start, is_xid_continue}
-use Rattle.ae_text.specs.Tokens.{Text, Each, Stops, is_white, is_digit, begins_word, goes_on, in_line, keyword_text, sign_text, IsWord, IsNumber, value, IsQuoted, Spells, IsLongest, NoComment, IsInRange, IsToken, Piece, White, Comment, Tok, spelling, IsPiece, text_of, IsNothing, IsTooLarge, IsFault, spelled}
+use Rattle.ae_text.specs.Tokens.{Text, Each, Stops, is_white, is_digit, begins_word, goes_on, in_line, sign_text, IsWord, IsNumber, value, IsQuoted, Spells, IsLongest, NoComment, IsInRange, Piece, White, Comment, Tok, spelling, IsPiece, IsNothing, IsTooLarge, IsFault, spelled}
 use Rattle.ae_text.specs.Scan.{Front, Spans, Cuts, NoSign, SignThen, CommentThen, ValueThen, FaultAfter}
 use Rattle.ae_text.proofs.SpellingLemmas.{keyword_is_word, keyword_unique, sign_unique, sign_first, signs_start, begins_ascii}
-use Rattle.ae_text.proofs.QuoteLemmas.{quoted_same, quoted_longest, quoted_value}
+use Rattle.ae_text.proofs.QuoteLemmas.{quoted_longest, quoted_value}
 use Rattle.ae_text.proofs.ScanLemmas.{front_nil, digits_are}
 
 -- ---- bytes

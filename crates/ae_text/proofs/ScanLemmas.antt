@@ -1,10 +1,10 @@
 -- Fronts of a text, spans of a class, and the values of digits.
-use Rattle.std.proofs.Common.{◌≡◌, ◌≢◌, ℕ, zero, suc, ◌+◌, ◌-◌, ◌*◌, ◌^◌, ◌<◌, ◌≤◌, Bool, true, false, IsTrue, List, [], ◌∷◌, ◌++◌, length, take, drop, get_or, refl, sym, ap, ◌∙◌, subst, append_assoc, append-nil, length-append, arith, rules, tests}
+use Rattle.std.proofs.Common.{◌≡◌, ℕ, zero, suc, ◌+◌, ◌-◌, ◌*◌, ◌<◌, ◌≤◌, Bool, false, IsTrue, [], ◌∷◌, ◌++◌, length, take, drop, get_or, refl, sym, ap, ◌∙◌, subst, append_assoc, append-nil, length-append, arith, rules, tests}
 use Rattle.std.proofs.Math.Seq.{take-append_seam}
 use Rattle.std.specs.Char.{encode_utf8}
 use Rattle.std.specs.Str.{encode_utf8_all, chars, IsUtf8}
-use Rattle.std.proofs.lemmas.Str.{chars-nil, chars_past_char, encodes-append, encode_ascii, encodes-chars, length-encode, len_utf8_bounds, IsUtf8-past_char}
-use Rattle.ae_text.specs.Tokens.{Text, width, Each, Stops, is_digit, value, value_from}
+use Rattle.std.proofs.lemmas.Str.{chars-nil, chars_past_char, encodes-append, encode_ascii, length-encode, len_utf8_bounds, IsUtf8-past_char}
+use Rattle.ae_text.specs.Tokens.{Text, width, Each, Stops, is_digit, value_from}
 use Rattle.ae_text.specs.Scan.{Front, Continues, Spans}
 
 -- ---- fronts

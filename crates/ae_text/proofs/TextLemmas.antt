@@ -1,15 +1,14 @@
 -- Texts between quotes.
-use Rattle.std.proofs.Common.{◌≡◌, ◌≢◌, ◌==◌, if◌then◌else◌, ℕ, zero, suc, ◌+◌, ◌-◌, ◌<◌, ◌≤◌, Bool, true, false, ◌||◌, IsTrue, List, [], ◌∷◌, ◌++◌, length, take, ◌⊎◌, inl, inr, refl, sym, ap, ◌∙◌, subst, append_assoc, append-nil, length-append, arith, rules, tests}
+use Rattle.std.proofs.Common.{◌≡◌, ℕ, ◌+◌, ◌-◌, ◌<◌, Bool, false, IsTrue, List, [], ◌∷◌, ◌++◌, length, inl, inr, refl, sym, ap, ◌∙◌, append_assoc, append-nil, arith}
 use Rattle.std.specs.Char.{encode_utf8}
 use Rattle.std.specs.Str.{encode_utf8_all, chars}
 use Rattle.std.proofs.lemmas.Str.{encodes-append}
-use Rattle.ae_text.specs.declared.refusal.Rule.{Rule}
 use Rattle.ae_text.specs.declared.refusal.Rule.TheVariants as rule
 use Rattle.ae_text.specs.declared.faults.Fault.{Fault}
 use Rattle.ae_text.specs.declared.faults.Fault.TheVariants as fault
 use Rattle.ae_text.specs.declared.texts.Part.{Part}
 use Rattle.ae_text.specs.declared.texts.Part.TheVariants.{Plain, Escape}
-use Rattle.ae_text.specs.Tokens.{Text, width, Stops, in_line, in_text, is_escape, escaped, spelled, AreParts, AreKnown, meant, IsQuoted, EndsOpen, IsOpen, IsBadEscape, IsFault}
+use Rattle.ae_text.specs.Tokens.{Text, width, escaped, spelled, AreParts, AreKnown, meant, EndsOpen}
 use Rattle.ae_text.specs.Scan.{Front, EndsText, PartThen, PartsThen, NoQuote, Means, IsUnknown, BadEscapeFault, ValueThen, FaultAfter, Faults}
 use Rattle.ae_text.proofs.ScanLemmas.{front_nil, front_then, front_as, front_length, front_smaller}
 

@@ -1,5 +1,5 @@
 -- What the steps of the scanner find.
-use Rattle.std.specs.Prelude.{◌≡◌, ◌≢◌, ℕ, ◌+◌, ◌≤◌, Bool, false, IsTrue, ◌⊎◌, List, [], ◌∷◌, ◌++◌, length, take, Option, Some, None, codes}
+use Rattle.std.specs.Prelude.{◌≡◌, ℕ, ◌≤◌, Bool, false, IsTrue, ◌⊎◌, List, [], ◌∷◌, ◌++◌, length, take, Option, Some, None, codes}
 use Rattle.std.specs.Str.{encode_utf8_all, chars, IsUtf8}
 use Rattle.ae_text.specs.declared.refusal.Spot.{Spot}
 use Rattle.ae_text.specs.declared.refusal.Rule.{Rule}
@@ -15,12 +15,7 @@ use Rattle.ae_text.specs.declared.faults.Fault.{Fault}
 use Rattle.ae_text.specs.declared.faults.Fault.TheVariants as fault
 use Rattle.ae_text.specs.declared.texts.Part.{Part}
 use Rattle.ae_text.specs.declared.texts.Part.TheVariants.{Plain, Escape}
-use Rattle.ae_text.specs.Tokens.{Text, width, Each, Stops, is_digit, goes_on, in_line, in_text, is_escape, escaped, spelled, AreParts, AreKnown, meant, EndsOpen, Piece, White, Comment, Tok, spelling, IsPiece, ArePieces, text_of, tokens_from, place, moved, start, IsFault, LexFault, sign_text}
-
--- A refusal names a fault of the text, by its rule and its place.
-abbrev pub IsDenied : Text → Deny → Type 0
-IsDenied bytes (deny.Refused r) = (at : ℕ) × LexFault bytes r.rule at × (r.at ≡ place bytes at)
-IsDenied bytes deny.Memory = Unit {0}
+use Rattle.ae_text.specs.Tokens.{Text, width, Each, Stops, is_digit, goes_on, in_line, is_escape, spelled, AreParts, AreKnown, meant, EndsOpen, Piece, White, Comment, Tok, spelling, IsPiece, ArePieces, text_of, tokens_from, moved, start, IsFault, sign_text}
 
 -- a text is these characters and what comes after them
 pub record Front (text taken after : Text) : Type 0 where

@@ -1,10 +1,12 @@
 -- Tokens: how a text is cut. Its characters are a sequence of pieces: white space, comments and tokens.
-use Rattle.std.specs.Prelude.{◌≡◌, ◌≢◌, ℕ, zero, suc, ◌+◌, ◌-◌, ◌*◌, ◌^◌, ◌<◌, ◌≤◌, pos, Bool, true, false, ◌||◌, ◌&&◌, ◌==◌, nat_le, if◌then◌else◌, IsTrue, ◌⊎◌, List, [], ◌∷◌, ◌++◌, length, take, codes}
+use Rattle.std.specs.Prelude.{◌≡◌, ◌≢◌, ℕ, ◌+◌, ◌-◌, ◌*◌, ◌^◌, ◌<◌, ◌≤◌, pos, Bool, true, false, ◌||◌, ◌&&◌, ◌==◌, nat_le, if◌then◌else◌, IsTrue, ◌⊎◌, List, [], ◌∷◌, ◌++◌, length, take, codes}
 use Rattle.std.specs.Str.{encode_utf8_all, IsUtf8, IsValidUpTo}
 use Rattle.unicode_ident.specs.Ident.{is_xid_start, is_xid_continue}
 use Rattle.ae_text.specs.declared.refusal.Spot.{Spot}
 use Rattle.ae_text.specs.declared.refusal.Rule.{Rule}
 use Rattle.ae_text.specs.declared.refusal.Rule.TheVariants as rule
+use Rattle.ae_text.specs.declared.refusal.Deny.{Deny}
+use Rattle.ae_text.specs.declared.refusal.Deny.TheVariants as deny
 use Rattle.ae_text.specs.declared.token.Keyword.{Keyword}
 use Rattle.ae_text.specs.declared.token.Keyword.TheVariants as word
 use Rattle.ae_text.specs.declared.token.Sign.{Sign}
@@ -344,6 +346,11 @@ pub record CutFault (bytes : Text) (rule : Rule) (at : ℕ) : Type 0 where
 abbrev pub LexFault : Text → Rule → ℕ → Type 0
 LexFault bytes rule.NotText at = IsValidUpTo bytes at
 LexFault bytes r at = CutFault bytes r at
+
+-- A refusal names a fault of the text, by its rule and its place.
+abbrev pub IsDenied : Text → Deny → Type 0
+IsDenied bytes (deny.Refused r) = (at : ℕ) × LexFault bytes r.rule at × (r.at ≡ place bytes at)
+IsDenied bytes deny.Memory = Unit {0}
 
 -- ---- whole lists
 

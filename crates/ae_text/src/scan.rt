@@ -1,8 +1,8 @@
 // Cuts a text into tokens, from left to right.
 ghost use Rattle.std.specs.Prelude.{◌≡◌, ◌<◌, ◌≤◌, ◌+◌, ◌^◌, ℕ, List, [], ◌∷◌, ◌++◌, length, MatchOption, MatchResult, IfOk, IfErr, OnOk};
 ghost use Rattle.std.specs.Str.{chars};
-ghost use Rattle.ae_text.specs.Tokens.{Text, Lexes, LexFault, IsWhole, NoComment, moved, place};
-ghost use Rattle.ae_text.specs.Scan.{Front, CommentThen, Cuts, Faults, IsDenied, IsWithin, token_of, denied};
+ghost use Rattle.ae_text.specs.Tokens.{Text, Lexes, LexFault, IsDenied, IsWhole, NoComment, moved, place};
+ghost use Rattle.ae_text.specs.Scan.{Front, CommentThen, Cuts, Faults, IsWithin, token_of, denied};
 ghost use Rattle.ae_text.specs.declared.token.Token.{Token};
 ghost use Rattle.ae_text.specs.declared.refusal.Rule.{Rule};
 

@@ -1,4 +1,4 @@
-use Rattle.std.proofs.Common.{◌≡◌, ◌≢◌, ◌+◌, ◌-◌, ◌<◌, ◌≤◌, ℕ, List, [], ◌∷◌, ◌++◌, length, take, refl, sym, ap, ◌∙◌, subst, append_assoc, arith, rules}
+use Rattle.std.proofs.Common.{◌++◌, length, sym, ap, ◌∙◌}
 use Rattle.ae_text.proofs.ScanLemmas.{front_one, nothing_left}
 use Rattle.std.specs.Char.{encode_utf8}
 use Rattle.ae_text.proofs.characters.next.Goals as goal

@@ -1,4 +1,3 @@
-use Rattle.std.proofs.Common.{◌≡◌, ◌≢◌, ◌+◌, ◌-◌, ◌<◌, ◌≤◌, ℕ, List, [], ◌∷◌, ◌++◌, length, take, refl, sym, ap, ◌∙◌, subst, append_assoc, arith, rules}
 use Rattle.ae_text.proofs.ScanLemmas.{front_utf8, run_start, run_more, run_smaller, run_within, run_end}
 use Rattle.ae_text.proofs.characters.span.Goals as goal
 

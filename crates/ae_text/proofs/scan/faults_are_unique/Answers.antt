@@ -1,4 +1,3 @@
-use Rattle.std.proofs.Common.{◌≡◌, ◌≢◌, ◌+◌, ◌-◌, ◌<◌, ◌≤◌, ℕ, List, [], ◌∷◌, ◌++◌, length, take, refl, sym, ap, ◌∙◌, subst, append_assoc, arith, rules}
 use Rattle.ae_text.proofs.FaultLemmas.{faults_same, faults_refuse}
 use Rattle.ae_text.proofs.scan.faults_are_unique.Goals as goal
 

@@ -1,4 +1,4 @@
-use Rattle.std.proofs.Common.{◌≡◌, ◌≢◌, ◌+◌, ◌-◌, ◌<◌, ◌≤◌, ℕ, List, [], ◌∷◌, ◌++◌, length, take, refl, sym, ap, ◌∙◌, subst, append_assoc, arith, rules}
+use Rattle.std.proofs.Common.{refl, sym, arith}
 use Rattle.std.proofs.Common.{inl}
 use Rattle.std.proofs.lemmas.Int.{ints}
 use Rattle.ae_text.proofs.ScanLemmas.{span_digits}

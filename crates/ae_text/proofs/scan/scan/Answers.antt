@@ -1,9 +1,9 @@
-use Rattle.std.proofs.Common.{◌≡◌, ◌≢◌, ◌+◌, ◌-◌, ◌<◌, ◌≤◌, ℕ, List, [], ◌∷◌, ◌++◌, length, take, refl, sym, ap, ◌∙◌, subst, append_assoc, arith, rules}
+use Rattle.std.proofs.Common.{◌-◌, ℕ, List, length, take, sym, ap, ◌∙◌, subst, arith}
 use Rattle.std.proofs.lemmas.List.{length-take}
 use Rattle.ae_text.specs.declared.token.Token.{Token}
 use Rattle.ae_text.specs.declared.refusal.Deny.{Deny}
-use Rattle.ae_text.specs.Tokens.{Lexes, moved}
-use Rattle.ae_text.specs.Scan.{IsDenied, denied}
+use Rattle.ae_text.specs.Tokens.{Lexes, IsDenied, moved}
+use Rattle.ae_text.specs.Scan.{denied}
 use Rattle.ae_text.proofs.CutLemmas.{scanned_end, scanned_next, scanned_place, scanned_denied, scanned_refused, cuts_smaller, cuts_utf8}
 use Rattle.ae_text.proofs.scan.scan.Goals as goal
 

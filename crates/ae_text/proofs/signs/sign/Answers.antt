@@ -1,6 +1,5 @@
-use Rattle.std.proofs.Common.{◌≡◌, ◌≢◌, ◌+◌, ◌-◌, ◌<◌, ◌≤◌, ℕ, List, [], ◌∷◌, ◌++◌, length, take, refl, sym, ap, ◌∙◌, subst, append_assoc, arith, rules}
+use Rattle.std.proofs.Common.{sym}
 use Rattle.std.specs.Str.{chars}
-use Rattle.ae_text.specs.Scan.{SignThen}
 use Rattle.ae_text.proofs.SpellingLemmas.{NoDouble, no_sign_end, no_double_end, no_double, no_sign, single_longest}
 use Rattle.ae_text.proofs.ScanLemmas.{front_as}
 use Rattle.ae_text.proofs.signs.sign.Goals.{in-Some+in_default-double, in_default}

@@ -1,4 +1,3 @@
-use Rattle.std.proofs.Common.{◌≡◌, ◌≢◌, ◌+◌, ◌-◌, ◌<◌, ◌≤◌, ℕ, List, [], ◌∷◌, ◌++◌, length, take, refl, sym, ap, ◌∙◌, subst, append_assoc, arith, rules}
 use Rattle.ae_text.proofs.TextLemmas.{closed_fault, open_fault}
 use Rattle.ae_text.proofs.texts.bad_escape.Goals as goal
 

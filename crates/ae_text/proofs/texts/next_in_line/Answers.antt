@@ -1,4 +1,3 @@
-use Rattle.std.proofs.Common.{◌≡◌, ◌≢◌, ◌+◌, ◌-◌, ◌<◌, ◌≤◌, ℕ, List, [], ◌∷◌, ◌++◌, length, take, refl, sym, ap, ◌∙◌, subst, append_assoc, arith, rules}
 use Rattle.ae_text.proofs.ScanLemmas.{stops_end}
 use Rattle.ae_text.proofs.texts.next_in_line.Goals as goal
 

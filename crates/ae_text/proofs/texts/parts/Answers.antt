@@ -1,4 +1,3 @@
-use Rattle.std.proofs.Common.{◌≡◌, ◌≢◌, ◌+◌, ◌-◌, ◌<◌, ◌≤◌, ℕ, List, [], ◌∷◌, ◌++◌, length, take, refl, sym, ap, ◌∙◌, subst, append_assoc, arith, rules}
 use Rattle.ae_text.proofs.ScanLemmas.{front_utf8}
 use Rattle.ae_text.proofs.TextLemmas.{parts_start, parts_more, part_smaller, parts_end}
 use Rattle.ae_text.proofs.texts.parts.Goals as goal

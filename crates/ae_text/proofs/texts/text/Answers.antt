@@ -1,6 +1,6 @@
-use Rattle.std.proofs.Common.{◌≡◌, ◌≢◌, ◌+◌, ◌-◌, ◌<◌, ◌≤◌, ℕ, List, [], ◌∷◌, ◌++◌, length, take, refl, sym, ap, ◌∙◌, subst, append_assoc, arith, rules}
+use Rattle.std.proofs.Common.{refl, ap, ◌∙◌}
 use Rattle.ae_text.proofs.ScanLemmas.{front_utf8}
-use Rattle.ae_text.proofs.TextLemmas.{reads_start, reads_more, reads_end, reads_open, reads_bad, part_smaller}
+use Rattle.ae_text.proofs.TextLemmas.{reads_start, reads_more, reads_end, reads_bad, part_smaller}
 use Rattle.ae_text.proofs.texts.text.Goals as goal
 
 pub parts-init : goal.parts-init
