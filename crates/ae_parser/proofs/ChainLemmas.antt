@@ -5,7 +5,6 @@ use Rattle.ae_text.specs.declared.refusal.Spot.{Spot}
 use Rattle.ae_text.specs.declared.token.Sign.{Sign}
 use Rattle.ae_text.specs.declared.token.Sign.TheVariants as sign
 use Rattle.ae_code.specs.declared.lexeme.Lexeme.{Lexeme}
-use Rattle.ae_code.specs.declared.lexeme.Lexical.{Lexical}
 use Rattle.ae_code.specs.declared.lexeme.Lexical.TheVariants as tok
 use Rattle.ae_code.specs.declared.tree.NameAt.{NameAt}
 use Rattle.ae_code.specs.declared.tree.Op.{Op}

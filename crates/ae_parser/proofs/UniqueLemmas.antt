@@ -1,5 +1,5 @@
 -- Tokens stand for one tree at most.
-use Rattle.std.proofs.Common.{◌≡◌, ℕ, zero, suc, ◌+◌, ◌≤◌, ◌<◌, ◌++◌, List, [], ◌∷◌, Option, Some, None, refl, sym, ap, ◌∙◌, append_assoc, subst, arith, ℤ}
+use Rattle.std.proofs.Common.{◌≡◌, ℕ, ◌+◌, ◌<◌, ◌++◌, List, [], ◌∷◌, Option, Some, refl, sym, ap, ◌∙◌, append_assoc, subst, arith, ℤ}
 use Rattle.ae_text.specs.declared.refusal.Spot.{Spot}
 use Rattle.ae_text.specs.declared.token.Keyword.TheVariants as word
 use Rattle.ae_text.specs.declared.token.Sign.TheVariants as sign
@@ -9,16 +9,16 @@ use Rattle.ae_code.specs.declared.lexeme.Lexical.{Lexical}
 use Rattle.ae_code.specs.declared.lexeme.Lexical.TheVariants as tok
 use Rattle.ae_code.specs.declared.tree.NameAt.{NameAt}
 use Rattle.ae_code.specs.declared.tree.Op.{Op}
-use Rattle.ae_code.specs.Plain.{Expression, Number, Truth, Nothing, Read, Item, Length, Grouped, Negated, Minus, Binary, Lines, Definition, Code}
+use Rattle.ae_code.specs.Plain.{Expression, Number, Truth, Nothing, Read, Item, Length, Grouped, Negated, Minus, Binary, Code}
 use Rattle.ae_code.specs.Plain.{Action, Declares, Assigns, Stores, StoresAt, Calls, Chooses, ChoosesElse, Repeats, Groups, Splits, Locks, Freezes, Shares, Prints, PrintsText, Asserts, Returns}
-use Rattle.ae_code.specs.Names.{names_of, numbered}
-use Rattle.ae_code.specs.Grammar.{Tokens, Then, ◌⨾◌, one_at, one, name, type_, right_side, sum, level, sign_of, a_sign, expression, statement, statements, block, needs, method, Derives}
+use Rattle.ae_code.specs.Names.{names_of}
+use Rattle.ae_code.specs.Grammar.{Tokens, ◌⨾◌, one, name, type_, right_side, sum, level, sign_of, a_sign, statements, block, needs, method, Derives}
 use Rattle.ae_parser.specs.Reads.{head, Always, Is}
-use Rattle.ae_parser.specs.Productions.{Token, Mark, Ends, at_level, stmt, declaration, assignment, printing, whole}
+use Rattle.ae_parser.specs.Productions.{Token, Mark, Ends, at_level, stmt, declaration, assignment, printing}
 use Rattle.ae_parser.proofs.ReadsLemmas.{Lang, Follow, Both, Links, Turns, many, free}
 use Rattle.ae_parser.proofs.ChainLemmas.{item, adds, chained, is_chain, chain_turns, same_operator, low_level, first_sign}
 use Rattle.ae_parser.proofs.ProductionLemmas.{name_token, name_of_token}
-use Rattle.ae_parser.proofs.StatementLemmas.{int_cases, value_cases, declaration_body, assignment_body, printing_body, block_body, Begins, begins, first_of, declared, printed, assigned, listed, is_listed, semicolon_ends, brace_ends, declaration_tree, assignment_tree, printing_tree, no_brace}
+use Rattle.ae_parser.proofs.StatementLemmas.{int_cases, value_cases, declaration_body, assignment_body, printing_body, block_body, begins, first_of, declared, printed, assigned, listed, is_listed, semicolon_ends, brace_ends, declaration_tree, assignment_tree, printing_tree, no_brace}
 use Rattle.ae_parser.proofs.ProgramLemmas.{needs_body, needs_tree, main_body, main_tree, main_cases, code_of, code_is, lexemes_derive}
 
 -- two texts that begin with trees of D, and are one, begin with one tree
