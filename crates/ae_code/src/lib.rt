@@ -3,6 +3,9 @@
 
 mod form;
 mod lexeme;
+mod print_expr;
+mod print_stmt;
+mod spell;
 mod table;
 mod tree;
 mod uses;
