@@ -1,7 +1,9 @@
 -- What the goals of the layout are closed by: texts of lists, end to end.
 use Rattle.std.proofs.Common.{◌≡◌, ℕ, suc, false, Option, None, Some, ◌+◌, ◌<◌, ◌++◌, List, [], ◌∷◌, length, drop, get_or, refl, ap, sym, ◌∙◌, append_assoc, append-nil, add-one, drop-cons}
 use Rattle.ae_code.specs.Spelling.{Printed, printed, gap, spelling, tokens_text}
-use Rattle.ae_code.specs.Layout.{Names, near, open_brace, expression_tokens, first_line, Row, row_text, rows_text, deeper, close_row, else_row, block_rows, rows}
+use Rattle.ae_code.specs.Layout.{Names, near, open_brace, expression_tokens, first_line, Row, row_text, rows_text, deeper, close_row, else_row, block_rows, rows, program_rows, layout}
+use Rattle.ae_code.specs.Plain.{Code}
+use Rattle.std.proofs.lemmas.Option.{slice_get-map}
 use Rattle.ae_text.specs.Tokens.{Text}
 use Rattle.ae_text.specs.declared.token.Keyword.TheVariants as word
 use Rattle.ae_text.specs.declared.token.TokenKind.TheVariants as t
@@ -55,3 +57,10 @@ pub ruleset statements = (texts, forms, first_line-If)
 
 -- with the lines of blocks
 pub ruleset blocks = (append_assoc, append-nil, rows_text-append, lines-out, forms, block_rows-If, block_rows-If_else)
+
+pub layout-is : (p : Code) → layout p ≡ rows_text (program_rows p)
+unfolding layout
+layout-is p = refl
+
+-- with the numbers of methods
+pub ruleset decls = (append_assoc, append-nil, rows_text-append, slice_get-map, layout-is)
