@@ -6,3 +6,6 @@ pub mod Limits
 pub mod Built
 pub mod Judgement
 pub mod Uses
+pub mod Spelling
+pub mod Layout
+pub mod Form

@@ -3,15 +3,22 @@
 
 mod form;
 mod lexeme;
+mod print_decl;
+mod print_expr;
+mod print_stmt;
+mod spell;
 mod table;
 mod tree;
+mod types;
 mod uses;
 
 pub use form::{Form, Kind, Perm};
 pub use lexeme::{Lexeme, Lexical};
+pub use print_decl::print_program;
 pub use table::{ClassTable, Member};
 pub use tree::{
     Block, Call, Class, Decl, Expr, Field, GroupNeed, KindAt, Me, Method, Name, NameAt, Need, Op,
     Param, Path, PermAt, Program, Rhs, Stmt, StmtAt, StmtKind, Ty,
 };
+pub use types::form_of;
 pub use uses::{Footprint, Mode, Resource, Use};
