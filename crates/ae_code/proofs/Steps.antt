@@ -31,9 +31,9 @@ commas_step f xs i x whole o1 o2 o3 lt is h p q =
     let rest = after_commas f (drop (i + 1) xs) in
     let w = token_then o1 o2 o3 (near (t.Sign sign.Comma)) (f x) p q in
     h ∙ ap (λ ys. o1 ++ tokens_text (after_commas f ys)) (drop_one xs i x lt is)
-      ∙ ap (λ s. o1 ++ s) (tokens_text-append (near (t.Sign sign.Comma) ∷ f x) rest)
-      ∙ sym (append_assoc o1 (tokens_text (near (t.Sign sign.Comma) ∷ f x)) (tokens_text rest))
-      ∙ ap (λ s. s ++ tokens_text rest) (sym w)
+    ∙ ap (λ s. o1 ++ s) (tokens_text-append (near (t.Sign sign.Comma) ∷ f x) rest)
+    ∙ sym (append_assoc o1 (tokens_text (near (t.Sign sign.Comma) ∷ f x)) (tokens_text rest))
+    ∙ ap (λ s. s ++ tokens_text rest) (sym w)
 
 -- one more method of a class
 pub methods_step : (names : Names) (indent : Text) (ms : List Definition) (ns : List ℕ) (i x : ℕ) (whole o1 o2 : Text) → drop i ns ≡ x ∷ drop (i + 1) ns → whole ≡ o1 ++ rows_text (methods_rows names indent ms (drop i ns)) → o2 ≡ o1 ++ rows_text (found_method_rows names indent (slice_get ms x)) → whole ≡ o2 ++ rows_text (methods_rows names indent ms (drop (i + 1) ns))
@@ -41,9 +41,9 @@ methods_step names indent ms ns i x whole o1 o2 e h p =
     let first = found_method_rows names indent (slice_get ms x) in
     let rest = methods_rows names indent ms (drop (i + 1) ns) in
     h ∙ ap (λ ys. o1 ++ rows_text (methods_rows names indent ms ys)) e
-      ∙ ap (λ s. o1 ++ s) (rows_text-append first rest)
-      ∙ sym (append_assoc o1 (rows_text first) (rows_text rest))
-      ∙ ap (λ s. s ++ rows_text rest) (sym p)
+    ∙ ap (λ s. o1 ++ s) (rows_text-append first rest)
+    ∙ sym (append_assoc o1 (rows_text first) (rows_text rest))
+    ∙ ap (λ s. s ++ rows_text rest) (sym p)
 
 -- one more declaration
 pub decls_step : (p : Code) (ds : List Decl) (i : ℕ) (x : Decl) (whole o1 o2 : Text) → drop i ds ≡ x ∷ drop (i + 1) ds → whole ≡ o1 ++ rows_text (decls_rows p (drop i ds)) → o2 ≡ o1 ++ rows_text (decl_rows p x) → whole ≡ o2 ++ rows_text (decls_rows p (drop (i + 1) ds))
@@ -51,9 +51,9 @@ decls_step p ds i x whole o1 o2 e h q =
     let first = decl_rows p x in
     let rest = decls_rows p (drop (i + 1) ds) in
     h ∙ ap (λ ys. o1 ++ rows_text (decls_rows p ys)) e
-      ∙ ap (λ s. o1 ++ s) (rows_text-append first rest)
-      ∙ sym (append_assoc o1 (rows_text first) (rows_text rest))
-      ∙ ap (λ s. s ++ rows_text rest) (sym q)
+    ∙ ap (λ s. o1 ++ s) (rows_text-append first rest)
+    ∙ sym (append_assoc o1 (rows_text first) (rows_text rest))
+    ∙ ap (λ s. s ++ rows_text rest) (sym q)
 
 -- an item that is copied out of a list
 pub drop_copy : {A : Type 0} (xs : List A) (i : ℕ) (d : A) → i < length xs → drop i xs ≡ get_or xs i d ∷ drop (i + 1) xs

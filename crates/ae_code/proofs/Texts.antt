@@ -32,6 +32,7 @@ pub drop_one : {A : Type 0} (xs : List A) (i : ℕ) (x : A) → i < length xs �
 drop_one xs i x h e = rw add-one (drop-cons xs i x h ∙ ap (λ y. y ∷ drop (suc i) xs) (sym e))
 
 pub ruleset spells = (printed-is, append_assoc, to_z-of_z)
+
 pub ruleset texts = (append_assoc, append-nil, tokens_text-append)
 
 -- with the equations of expressions

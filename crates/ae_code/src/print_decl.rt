@@ -40,11 +40,7 @@ fn param(
 }
 
 #[tactic(auto, using(crate::proofs::Texts::texts))]
-fn more_params(
-    names: &[Items<u8>],
-    list: &[Param],
-    out: &mut Vec<u8>,
-) -> Result<(), AllocError>
+fn more_params(names: &[Items<u8>], list: &[Param], out: &mut Vec<u8>) -> Result<(), AllocError>
     ensures { OnOk result (out.new.items ≡ out.old.items ++ tokens_text (after_commas (param_tokens names.now false) list.now)) }
 {
     for item in list {
@@ -55,11 +51,7 @@ fn more_params(
 }
 
 #[tactic(auto, using(crate::proofs::Texts::texts))]
-fn receiver(
-    names: &[Items<u8>],
-    me: &Me,
-    out: &mut Vec<u8>,
-) -> Result<(), AllocError>
+fn receiver(names: &[Items<u8>], me: &Me, out: &mut Vec<u8>) -> Result<(), AllocError>
     ensures { OnOk result (out.new.items ≡ out.old.items ++ tokens_text (me_tokens names.now me.now)) }
 {
     perm(names, true, &me.perm, out)?;
@@ -68,11 +60,7 @@ fn receiver(
 }
 
 #[tactic(auto, using(crate::proofs::Texts::texts))]
-fn param_list(
-    names: &[Items<u8>],
-    list: &[Param],
-    out: &mut Vec<u8>,
-) -> Result<(), AllocError>
+fn param_list(names: &[Items<u8>], list: &[Param], out: &mut Vec<u8>) -> Result<(), AllocError>
     ensures { OnOk result (out.new.items ≡ out.old.items ++ tokens_text (listed (param_tokens names.now) true list.now)) }
 {
     match list.split_first() {
@@ -115,11 +103,7 @@ fn need_word(need: Need) -> Keyword
 }
 
 #[tactic(auto, using(crate::proofs::Texts::texts))]
-fn need(
-    names: &[Items<u8>],
-    need: &GroupNeed,
-    out: &mut Vec<u8>,
-) -> Result<(), AllocError>
+fn need(names: &[Items<u8>], need: &GroupNeed, out: &mut Vec<u8>) -> Result<(), AllocError>
     ensures { OnOk result (out.new.items ≡ out.old.items ++ tokens_text (need_tokens names.now false need.now)) }
 {
     word(false, need_word(need.need), out)?;
@@ -127,11 +111,7 @@ fn need(
 }
 
 #[tactic(auto, using(crate::proofs::Texts::texts))]
-fn more_needs(
-    names: &[Items<u8>],
-    list: &[GroupNeed],
-    out: &mut Vec<u8>,
-) -> Result<(), AllocError>
+fn more_needs(names: &[Items<u8>], list: &[GroupNeed], out: &mut Vec<u8>) -> Result<(), AllocError>
     ensures { OnOk result (out.new.items ≡ out.old.items ++ tokens_text (after_commas (need_tokens names.now false) list.now)) }
 {
     for item in list {
@@ -143,11 +123,7 @@ fn more_needs(
 
 // What a method needs of groups, if it needs anything.
 #[tactic(auto, using(crate::proofs::Texts::texts))]
-fn needs(
-    names: &[Items<u8>],
-    list: &[GroupNeed],
-    out: &mut Vec<u8>,
-) -> Result<(), AllocError>
+fn needs(names: &[Items<u8>], list: &[GroupNeed], out: &mut Vec<u8>) -> Result<(), AllocError>
     ensures { OnOk result (out.new.items ≡ out.old.items ++ tokens_text (needs_tokens names.now list.now)) }
 {
     match list.split_first() {
@@ -162,11 +138,7 @@ fn needs(
 
 // A result, or `void`.
 #[tactic(auto, using(crate::proofs::Texts::texts))]
-fn result_type(
-    names: &[Items<u8>],
-    ty: &Option<Ty>,
-    out: &mut Vec<u8>,
-) -> Result<(), AllocError>
+fn result_type(names: &[Items<u8>], ty: &Option<Ty>, out: &mut Vec<u8>) -> Result<(), AllocError>
     ensures { OnOk result (out.new.items ≡ out.old.items ++ tokens_text (result_tokens names.now ty.now)) }
 {
     match ty {
@@ -177,11 +149,7 @@ fn result_type(
 
 // A method up to its open brace.
 #[tactic(auto, using(crate::proofs::Texts::texts))]
-fn head(
-    names: &[Items<u8>],
-    method: &Method,
-    out: &mut Vec<u8>,
-) -> Result<(), AllocError>
+fn head(names: &[Items<u8>], method: &Method, out: &mut Vec<u8>) -> Result<(), AllocError>
     ensures { OnOk result (out.new.items ≡ out.old.items ++ tokens_text (head_tokens names.now (definition method.now))) }
 {
     word(true, Keyword::Method, out)?;
@@ -279,11 +247,7 @@ fn fields(
 
 // A class up to its open brace, and the end of the line.
 #[tactic(auto, using(crate::proofs::Texts::texts))]
-fn class_head(
-    names: &[Items<u8>],
-    class: &Class,
-    out: &mut Vec<u8>,
-) -> Result<(), AllocError>
+fn class_head(names: &[Items<u8>], class: &Class, out: &mut Vec<u8>) -> Result<(), AllocError>
     ensures { OnOk result (out.new.items ≡ out.old.items ++ row_text (row [] (class_tokens names.now class.now))) }
 {
     word(true, Keyword::Class, out)?;
@@ -306,7 +270,14 @@ fn class(
     let indent = deeper(alloc, b"")?;
     class_head(names, class, out)?;
     fields(names, indent.as_slice(), class.fields.as_slice(), out)?;
-    numbered_methods(alloc, names, indent.as_slice(), list, class.methods.as_slice(), out)?;
+    numbered_methods(
+        alloc,
+        names,
+        indent.as_slice(),
+        list,
+        class.methods.as_slice(),
+        out,
+    )?;
     close(b"", out)
 }
 
@@ -332,11 +303,7 @@ fn declaration(
 }
 
 #[tactic(auto, using(crate::proofs::Texts::decls))]
-fn declarations(
-    alloc: Global,
-    program: &Program,
-    out: &mut Vec<u8>,
-) -> Result<(), AllocError>
+fn declarations(alloc: Global, program: &Program, out: &mut Vec<u8>) -> Result<(), AllocError>
     ensures { OnOk result (out.new.items ≡ out.old.items ++ rows_text (decls_rows (code program.now) program.now.decls)) }
 {
     for decl in program.decls.as_slice() {

@@ -11,11 +11,7 @@ use ae_text::{Items, Keyword, Sign};
 use std::alloc::{AllocError, Global};
 
 #[tactic(auto, using(crate::proofs::Texts::texts))]
-fn more_names(
-    names: &[Items<u8>],
-    list: &[NameAt],
-    out: &mut Vec<u8>,
-) -> Result<(), AllocError>
+fn more_names(names: &[Items<u8>], list: &[NameAt], out: &mut Vec<u8>) -> Result<(), AllocError>
     ensures { OnOk result (out.new.items ≡ out.old.items ++ tokens_text (after_commas (name_tokens names.now false) list.now)) }
 {
     for item in list {
@@ -46,11 +42,7 @@ pub fn name_list(
 
 // Group names between < and >, if there are any.
 #[tactic(auto, using(crate::proofs::Texts::texts))]
-pub fn groups(
-    names: &[Items<u8>],
-    list: &[NameAt],
-    out: &mut Vec<u8>,
-) -> Result<(), AllocError>
+pub fn groups(names: &[Items<u8>], list: &[NameAt], out: &mut Vec<u8>) -> Result<(), AllocError>
     ensures { OnOk result (out.new.items ≡ out.old.items ++ tokens_text (groups_tokens names.now list.now)) }
 {
     match list.split_first() {
@@ -65,11 +57,7 @@ pub fn groups(
 }
 
 #[tactic(auto, using(crate::proofs::Texts::texts))]
-fn steps(
-    names: &[Items<u8>],
-    list: &[NameAt],
-    out: &mut Vec<u8>,
-) -> Result<(), AllocError>
+fn steps(names: &[Items<u8>], list: &[NameAt], out: &mut Vec<u8>) -> Result<(), AllocError>
     ensures { OnOk result (out.new.items ≡ out.old.items ++ tokens_text (steps_tokens names.now list.now)) }
 {
     for step in list {
@@ -115,11 +103,7 @@ pub fn perm(
 }
 
 #[tactic(auto, using(crate::proofs::Texts::texts))]
-fn object_kind(
-    names: &[Items<u8>],
-    kind: &KindAt,
-    out: &mut Vec<u8>,
-) -> Result<(), AllocError>
+fn object_kind(names: &[Items<u8>], kind: &KindAt, out: &mut Vec<u8>) -> Result<(), AllocError>
     ensures { OnOk result (out.new.items ≡ out.old.items ++ tokens_text (kind_tokens names.now kind.now)) }
 {
     match kind {

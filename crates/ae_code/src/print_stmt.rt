@@ -167,11 +167,7 @@ fn with_name(
 }
 
 #[tactic(auto, using(crate::proofs::Texts::texts))]
-fn atomic(
-    names: &[Items<u8>],
-    group: Name,
-    out: &mut Vec<u8>,
-) -> Result<(), AllocError>
+fn atomic(names: &[Items<u8>], group: Name, out: &mut Vec<u8>) -> Result<(), AllocError>
     ensures { OnOk result (out.new.items ≡ out.old.items ++ tokens_text (near (kind.Word word_of.Atomic) ∷ far (name_kind names.now group) ∷ open_brace)) }
 {
     word(true, Keyword::Atomic, out)?;
@@ -180,11 +176,7 @@ fn atomic(
 }
 
 #[tactic(auto, using(crate::proofs::Texts::texts))]
-fn split(
-    names: &[Items<u8>],
-    list: &[NameAt],
-    out: &mut Vec<u8>,
-) -> Result<(), AllocError>
+fn split(names: &[Items<u8>], list: &[NameAt], out: &mut Vec<u8>) -> Result<(), AllocError>
     ensures { OnOk result (out.new.items ≡ out.old.items ++ tokens_text (near (kind.Word word_of.Split) ∷ listed (name_tokens names.now) false list.now ++ open_brace)) }
 {
     word(true, Keyword::Split, out)?;
@@ -352,9 +344,7 @@ fn blocks(
                 None => close(indent, out),
             }
         }
-        StmtKind::While(_, block)
-        | StmtKind::Split(_, block)
-        | StmtKind::Atomic(_, block) => {
+        StmtKind::While(_, block) | StmtKind::Split(_, block) | StmtKind::Atomic(_, block) => {
             braces(alloc, names, indent, block, out)?;
             close(indent, out)
         }

@@ -116,12 +116,7 @@ fn decimal(alloc: Global, value: i64, out: &mut Vec<u8>) -> Result<(), AllocErro
 
 // A number in decimal digits.
 #[tactic(auto, using(crate::proofs::Texts::spells))]
-pub fn number(
-    alloc: Global,
-    close: bool,
-    value: i64,
-    out: &mut Vec<u8>,
-) -> Result<(), AllocError>
+pub fn number(alloc: Global, close: bool, value: i64, out: &mut Vec<u8>) -> Result<(), AllocError>
     ensures { OnOk result (out.new.items ≡ out.old.items ++ printed (token close (kind.Int value))) }
 {
     space(close, out)?;

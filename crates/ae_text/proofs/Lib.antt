@@ -5,3 +5,4 @@ pub mod QuoteLemmas
 pub mod LexLemmas
 pub mod CutLemmas
 pub mod FaultLemmas
+pub mod PlaceLemmas

@@ -20,7 +20,7 @@ mod words;
 pub use memory::{MemSink, MemSource};
 pub use outside::{Failed, Gate, NoGate, Sink, Source};
 pub use refusal::{Deny, Edge, Refusal, Rule, Spot};
-pub use scan::{faults_are_unique, lex, tokens_are_unique};
+pub use scan::{faults_are_unique, lex, places_are_counted, tokens_are_unique};
 pub use sqlite_items::{Boxed, Items};
 pub use standard::{StdSink, StdSource};
 pub use sure::{SureSink, SureSource};
