@@ -1,0 +1,7 @@
+//! What may run together: the uses of a statement and the graph of a block.
+#![tactic(auto)]
+
+mod block;
+
+pub use ae_code::{Footprint, Mode, Resource, Use};
+pub use block::BlockGraph;
