@@ -1,1 +1,6 @@
+pub mod Rules
+pub mod Elements
+pub mod Names
+pub mod Found
+pub mod Footprints
 pub mod Lists

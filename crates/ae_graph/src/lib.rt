@@ -2,6 +2,9 @@
 #![tactic(auto)]
 
 mod block;
+mod rising;
+mod uses;
 
 pub use ae_code::{Footprint, Mode, Resource, Use};
 pub use block::BlockGraph;
+pub use uses::{compatible, footprint};
