@@ -3,4 +3,5 @@ pub mod Elements
 pub mod Names
 pub mod Found
 pub mod Footprints
+pub mod Waiting
 pub mod Lists

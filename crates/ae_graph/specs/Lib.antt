@@ -1,3 +1,4 @@
 pub mod Rising
 pub mod Footprint
+pub mod Opened
 pub mod Graph

@@ -4,6 +4,7 @@
 mod block;
 mod rising;
 mod uses;
+mod waits;
 
 pub use ae_code::{Footprint, Mode, Resource, Use};
 pub use block::BlockGraph;
