@@ -4,4 +4,5 @@ pub mod Names
 pub mod Found
 pub mod Footprints
 pub mod Waiting
+pub mod Rows
 pub mod Lists

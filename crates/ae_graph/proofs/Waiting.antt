@@ -287,3 +287,16 @@ pub opened_next : (b : Lines) (j : ℕ) (a : Action) (us : List Use) (f g : Reso
 opened_next b j a us f g s k h e r =
     e r ∙ after_footprint j r (f r) a us k ∙ ap (λ ps. added_if j ps (use_of a r)) (h r) ∙ ap (added_if j (opened b j r)) (sym (used_at b j a r s))
     ∙ ap (λ n. opened b n r) (sym (add-one j))
+
+-- what a turn over statement j finds
+pub preds_found : (b : Lines) (j : ℕ) (a : Action) (uses us : List Use) (f : Resource → List Past) (waits : List ℕ) → statement_at b j ≡ Some a → IsFootprint a uses → us ≡ uses
+    → ((r : Resource) → f r ≡ opened b j r) → IsRisingOf (waited_by f us) waits → ArePreds b j waits
+preds_found b j a uses us f waits s k e h r =
+    let same : f ≡ opened b j = λ i. λ x. h x i in
+    let P : List Use → Type 0 = λ x. IsRisingOf (waited_by (opened b j) x) waits in
+    let Q : (Resource → List Past) → Type 0 = λ x. IsRisingOf (waited_by x us) waits in
+    preds_are b j a uses waits s k (subst P e (subst Q same r))
+
+pub opened_found : (b : Lines) (j : ℕ) (a : Action) (uses us : List Use) (f g : Resource → List Past) → statement_at b j ≡ Some a → IsFootprint a uses → us ≡ uses
+    → ((r : Resource) → f r ≡ opened b j r) → ((r : Resource) → g r ≡ after_uses j r (f r) us) → (r : Resource) → g r ≡ opened b (j + 1) r
+opened_found b j a uses us f g s k e h n r = opened_next b j a uses f g s k h (λ x. n x ∙ ap (after_uses j x (f x)) e) r

@@ -22,7 +22,8 @@ pub record AreSuccs (g : Graph) (i : ℕ) (succs : List ℕ) : Type 0 where
   pub rising : IsRising succs
   pub exact : (j : ℕ) → Contains succs j ↔ Contains (preds_in g j) i
 
-abbrev edges_to : ℕ → List ℕ → List Edge
+-- the edges to statement j
+abbrev pub edges_to : ℕ → List ℕ → List Edge
 edges_to j preds = map (λ i. record { from = i; to = j }) preds
 
 -- all edges, by `to` and then by `from`; the first list is that of statement j

@@ -2,3 +2,4 @@ pub mod Rising
 pub mod Footprint
 pub mod Opened
 pub mod Graph
+pub mod Succs

@@ -1,12 +1,15 @@
 // The graph of a block.
-ghost use Rattle.std.specs.Prelude.{◌≡◌, ◌<◌, List, [], length, IfOk, IsSome, count_by};
-ghost use Rattle.ae_code.specs.Shown.{code};
+ghost use Rattle.std.specs.Prelude.{◌≡◌, ◌<◌, ◌^◌, List, [], length, IfOk, IsSome, Some, count_by};
+ghost use Rattle.ae_code.specs.Shown.{code, braced, lines_from};
 ghost use Rattle.ae_code.specs.Uses.{block_of};
 ghost use Rattle.ae_graph.specs.Graph.{IsGraph, AreSuccs, preds_in, edges_from};
 
-use ae_code::Program;
+use crate::preds::preds_of;
+use crate::succs::{edges_of, succs_of};
+use crate::uses::block_at;
+use ae_code::{Block, Program, Stmt};
 use ae_text::{Edge, Items, Memory};
-use std::alloc::Global;
+use std::alloc::{AllocError, Global};
 use std::marker::Model;
 
 /// For each statement of a block, those for which it waits and those that wait for it.
@@ -19,20 +22,51 @@ pub struct BlockGraph {
 }
 
 impl Model for BlockGraph {
-    ghost use Rattle.std.specs.Prelude.{◌≡◌, List, ℕ};
+    ghost use Rattle.std.specs.Prelude.{◌≡◌, ◌<◌, ◌^◌, List, ℕ, length};
     ghost use Rattle.ae_graph.specs.Graph.{AreAllSuccs, edges_from};
 
     ghost Value = { List (List ℕ) };
 
     ghost view = { λ g. g.preds };
 
-    ghost invariant = { λ g. AreAllSuccs g.preds g.succs × (g.edges ≡ edges_from 0 g.preds) };
+    ghost invariant = { λ g. AreAllSuccs g.preds g.succs × (g.edges ≡ edges_from 0 g.preds) × (length g.preds < 2 ^ 32) };
+}
+
+// The graph of these statements.
+fn graph_of(alloc: Global, stmts: &[Stmt]) -> Result<BlockGraph, AllocError>
+    requires { length stmts.now < 2 ^ 32 }
+    ensures { IfOk result (IsGraph (Some (lines_from stmts.now))) }
+{
+    let preds = preds_of(alloc, stmts)?;
+    let succs = succs_of(alloc, preds.as_slice())?;
+    let edges = edges_of(alloc, preds.as_slice())?;
+    Ok(BlockGraph {
+        preds,
+        succs,
+        edges,
+    })
+}
+
+// The graph of a block. There is no room for one of 2 ^ 32 statements.
+#[tactic(auto, using(crate::proofs::Rules::forms))]
+pub fn block_graph(alloc: Global, block: &Block) -> Result<BlockGraph, Memory>
+    ensures { IfOk result (IsGraph (Some (braced block.now).lines)) }
+{
+    let stmts = block.stmts.as_slice();
+    if stmts.len() > u32::MAX as usize {
+        return Err(Memory);
+    }
+    match graph_of(alloc, stmts) {
+        Ok(graph) => Ok(graph),
+        Err(_) => Err(Memory),
+    }
 }
 
 impl BlockGraph {
-    /// The graph of a block of the program.
+    /// The graph of a block of the program, by the number of its method and its own. A block of 2 ^ 32 statements or
+    /// more is refused as too large for memory.
     pub fn of(
-        _alloc: Global,
+        alloc: Global,
         program: &Program,
         method: u32,
         block: u32,
@@ -40,7 +74,10 @@ impl BlockGraph {
         requires { IsSome (block_of (code program.now) method block) }
         ensures { IfOk result (IsGraph (block_of (code program.now) method block)) }
     {
-        Err(Memory)
+        let Some(block) = block_at(program, method, block) else {
+            unreachable!()
+        };
+        block_graph(alloc, block)
     }
 
     /// All edges, by `to` and then by `from`.

@@ -2,7 +2,9 @@
 #![tactic(auto)]
 
 mod block;
+mod preds;
 mod rising;
+mod succs;
 mod uses;
 mod waits;
 
