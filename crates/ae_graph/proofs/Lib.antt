@@ -5,4 +5,5 @@ pub mod Found
 pub mod Footprints
 pub mod Waiting
 pub mod Rows
+pub mod Texts
 pub mod Lists

@@ -1,5 +1,5 @@
 -- The graph of a block as a list: for each statement, the numbers of those for which it waits.
-use Rattle.std.specs.Prelude.{◌≡◌, ◌<◌, ◌+◌, ◌++◌, ◌↔◌, ℕ, List, [], ◌∷◌, length, slice_index_or, Option, None, Some, Contains, map}
+use Rattle.std.specs.Prelude.{◌≡◌, ◌<◌, ◌+◌, ◌++◌, ◌↔◌, ℕ, nat_eq, Bool, List, [], ◌∷◌, length, slice_index_or, Option, None, Some, Contains, map}
 use Rattle.ae_text.specs.declared.refusal.Edge.{Edge}
 use Rattle.ae_code.specs.Plain.{Lines}
 use Rattle.ae_code.specs.Limits.{count}
@@ -11,6 +11,10 @@ Graph = List (List ℕ)
 -- the statements for which statement j waits
 abbrev pub preds_in : Graph → ℕ → List ℕ
 preds_in g j = slice_index_or g j []
+
+-- a statement with these waits for none
+abbrev pub is_free : List ℕ → Bool
+is_free preds = nat_eq (length preds) 0
 
 -- the graph of this block
 abbrev pub IsGraph : Option Lines → Graph → Type 0

@@ -3,3 +3,4 @@ pub mod Footprint
 pub mod Opened
 pub mod Graph
 pub mod Succs
+pub mod GraphText

@@ -2,7 +2,7 @@
 ghost use Rattle.std.specs.Prelude.{◌≡◌, ◌<◌, ◌^◌, List, [], length, IfOk, IsSome, Some, count_by};
 ghost use Rattle.ae_code.specs.Shown.{code, braced, lines_from};
 ghost use Rattle.ae_code.specs.Uses.{block_of};
-ghost use Rattle.ae_graph.specs.Graph.{IsGraph, AreSuccs, preds_in, edges_from};
+ghost use Rattle.ae_graph.specs.Graph.{IsGraph, AreSuccs, preds_in, edges_from, is_free};
 
 use crate::preds::preds_of;
 use crate::succs::{edges_of, succs_of};
@@ -62,6 +62,20 @@ pub fn block_graph(alloc: Global, block: &Block) -> Result<BlockGraph, Memory>
     }
 }
 
+// How many statements wait for none.
+fn count_free(preds: &[Items<u32>]) -> u32
+    requires { length preds.now < 2 ^ 32 }
+    ensures { result ≡ count_by is_free preds.now }
+{
+    let mut free = 0;
+    for waits in preds {
+        if waits.as_slice().is_empty() {
+            free += 1;
+        }
+    }
+    free
+}
+
 impl BlockGraph {
     /// The graph of a block of the program, by the number of its method and its own. A block of 2 ^ 32 statements or
     /// more is refused as too large for memory.
@@ -108,5 +122,19 @@ impl BlockGraph {
         ensures { AreSuccs self.now i result.now }
     {
         self.succs.as_slice()[i as usize].as_slice()
+    }
+    /// How many statements wait for none.
+    pub fn wide(&self) -> u32
+        ensures { result ≡ count_by is_free self.now }
+    {
+        count_free(self.preds.as_slice())
+    }
+
+    // For each statement those for which it waits.
+    pub fn rows(&self) -> &[Items<u32>]
+        ensures rows { result.now ≡ self.now }
+        ensures few { length self.now < 2 ^ 32 }
+    {
+        self.preds.as_slice()
     }
 }

@@ -5,9 +5,11 @@ mod block;
 mod preds;
 mod rising;
 mod succs;
+mod text;
 mod uses;
 mod waits;
 
 pub use ae_code::{Footprint, Mode, Resource, Use};
 pub use block::BlockGraph;
+pub use text::graph_text;
 pub use uses::{compatible, footprint};
