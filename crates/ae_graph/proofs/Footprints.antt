@@ -1,5 +1,5 @@
 -- The uses of a statement, put together from its names.
-use Rattle.std.proofs.Common.{◌≡◌, ◌≢◌, ℕ, zero, suc, ◌<◌, ◌⊎◌, inl, inr, Bool, true, false, ◌||◌, nat_eq, if◌then◌else◌, List, [], ◌∷◌, ◌++◌, length, map, Option, None, Some, refl, sym, ap, ◌∙◌, subst, arith}
+use Rattle.std.proofs.Common.{◌≡◌, ℕ, ◌⊎◌, inl, inr, Bool, true, false, nat_eq, if◌then◌else◌, List, [], ◌∷◌, ◌++◌, map, Option, None, Some, refl, sym, ap, ◌∙◌, subst, arith}
 use Rattle.std.specs.List.{Contains}
 use Rattle.std.specs.Option.{option_to_list}
 use Rattle.std.proofs.lemmas.List.Elements.{Contains-append_left, Contains-append_right, Contains-append_cases}
@@ -9,9 +9,9 @@ use Rattle.ae_code.specs.declared.uses.Resource.TheVariants.{Local, Group}
 use Rattle.ae_code.specs.declared.uses.Mode.{Mode}
 use Rattle.ae_code.specs.declared.uses.Mode.TheVariants as mode
 use Rattle.ae_code.specs.declared.uses.Use.{Use}
-use Rattle.ae_code.specs.Plain.{Action, Declares, Assigns, Stores, StoresAt, Calls, Chooses, ChoosesElse, Repeats, Groups, Splits, Locks, Freezes, Shares, Prints, PrintsText, Asserts, Returns}
+use Rattle.ae_code.specs.Plain.{Action, Prints}
 use Rattle.ae_code.specs.Names.{io}
-use Rattle.ae_code.specs.Uses.{use_of, local_mode, group_mode, read_if, IsRising}
+use Rattle.ae_code.specs.Uses.{use_of, local_mode, group_mode, IsRising}
 use Rattle.ae_graph.specs.Rising.{IsRisingOf}
 use Rattle.ae_graph.specs.Footprint.{IsFootprint, AreInOrder, AreLocalUses, read_by, written_by, is_written, local_use, group_uses}
 use Rattle.ae_graph.proofs.Elements.{here, nowhere, uncons, in_map, from_map, has, has_from, from_has}
@@ -64,8 +64,8 @@ mode_back false false m e = absurd (cc)
 read_or_written : (a : Action) (y : ℕ) → Contains (read_by a ++ option_to_list (written_by a)) y → (has (read_by a) y ≡ true) ⊎ (is_written (written_by a) y ≡ true)
 read_or_written a y h =
     elim (Contains-append_cases (read_by a) (option_to_list (written_by a)) y h) [
-      inl k ↦ inl (has_from (read_by a) y k)
-    | inr k ↦ inr (from_written (written_by a) y k)
+      | inl k ↦ inl (has_from (read_by a) y k)
+      | inr k ↦ inr (from_written (written_by a) y k)
     ]
 
 among : (a : Action) (y : ℕ) → (has (read_by a) y ≡ true) ⊎ (is_written (written_by a) y ≡ true) → Contains (read_by a ++ option_to_list (written_by a)) y
@@ -95,8 +95,8 @@ local_back a names r y m e =
 no_local : (a : Action) (y : ℕ) (m : Mode) → Contains (group_uses a) (record { what = Local y; mode = m }) → ⊥
 no_local (Prints e) y m h =
     elim (uncons _ [] _ h) [
-      inl q ↦ let p : Group io ≡ Local y = ap (λ (u : Use). u.what) q in cc
-    | inr k ↦ nowhere _ k
+      | inl q ↦ let p : Group io ≡ Local y = ap (λ (u : Use). u.what) q in cc
+      | inr k ↦ nowhere _ k
     ]
 no_local _ y m h = nowhere _ h
 
@@ -113,12 +113,12 @@ whole_if g m e = let b = whole_cases (nat_eq io g) m e in (equal_from io g b.0, 
 group_there : (a : Action) (g : ℕ) (m : Mode) → Contains (group_uses a) (record { what = Group g; mode = m }) → group_mode a g ≡ Some m
 group_there (Prints e) g m h =
     elim (uncons _ [] _ h) [
-      inl q ↦
-        let p : Group io ≡ Group g = ap (λ (u : Use). u.what) q in
-        let i : io ≡ g = cc in
-        let n : mode.GroupWhole ≡ m = ap (λ (u : Use). u.mode) q in
-        subst (λ (z : ℕ). (if nat_eq io z then Some mode.GroupWhole else None) ≡ Some m) i (ap Some n)
-    | inr k ↦ absurd (nowhere _ k)
+      | inl q ↦
+          let p : Group io ≡ Group g = ap (λ (u : Use). u.what) q in
+          let i : io ≡ g = cc in
+          let n : mode.GroupWhole ≡ m = ap (λ (u : Use). u.mode) q in
+          subst (λ (z : ℕ). (if nat_eq io z then Some mode.GroupWhole else None) ≡ Some m) i (ap Some n)
+      | inr k ↦ absurd (nowhere _ k)
     ]
 group_there _ g m h = absurd (nowhere _ h)
 
@@ -143,13 +143,13 @@ there_from : (a : Action) (names : List ℕ) → IsRisingOf (read_by a ++ option
     → Contains (map (local_use (written_by a)) names ++ group_uses a) (record { what = r; mode = m }) → use_of a r ≡ Some m
 there_from a names r (Local y) m h =
     elim (Contains-append_cases (map (local_use (written_by a)) names) (group_uses a) _ h) [
-      inl k ↦ let f = from_map (local_use (written_by a)) names _ k in local_there a names r y m f.0 f.1 f.2
-    | inr k ↦ absurd (no_local a y m k)
+      | inl k ↦ let f = from_map (local_use (written_by a)) names _ k in local_there a names r y m f.0 f.1 f.2
+      | inr k ↦ absurd (no_local a y m k)
     ]
 there_from a names r (Group g) m h =
     elim (Contains-append_cases (map (local_use (written_by a)) names) (group_uses a) _ h) [
-      inl k ↦ absurd (no_group (written_by a) names g m k)
-    | inr k ↦ group_there a g m k
+      | inl k ↦ absurd (no_group (written_by a) names g m k)
+      | inr k ↦ group_there a g m k
     ]
 
 back_to : (a : Action) (names : List ℕ) → IsRisingOf (read_by a ++ option_to_list (written_by a)) names → (r : Resource) (m : Mode)

@@ -1,12 +1,12 @@
 -- Blocks and statements by their numbers.
-use Rattle.std.proofs.Common.{◌≡◌, ◌≢◌, ℕ, zero, suc, Bool, true, false, nat_eq, if◌then◌else◌, List, [], ◌∷◌, map, Option, None, Some, refl, sym, ap, ◌∙◌, arith}
+use Rattle.std.proofs.Common.{◌≡◌, ◌≢◌, ℕ, zero, suc, nat_eq, if◌then◌else◌, List, [], ◌∷◌, map, Option, None, Some, refl, sym, ap, ◌∙◌, arith}
 use Rattle.std.proofs.Common.{Bor}
 use Rattle.std.specs.List.{slice_get}
 use Rattle.std.specs.Option.{option_copied, MatchOption}
 use Rattle.std.proofs.lemmas.Bool.Decides.{nat_tests}
 use Rattle.ae_code.specs.declared.tree.Method.{Method}
 use Rattle.ae_code.specs.declared.tree.Stmt.{Stmt}
-use Rattle.ae_code.specs.declared.tree.Block.{Block, out-Block, roll-Block, roll-out-Block}
+use Rattle.ae_code.specs.declared.tree.Block.{Block, out-Block, roll-out-Block}
 use Rattle.ae_code.specs.Plain.{Action, Lines}
 use Rattle.ae_code.specs.Shown.{action, braced, definition, lines_from, no-roll, lines-out}
 use Rattle.ae_code.specs.Uses.{statement_at, block_in}

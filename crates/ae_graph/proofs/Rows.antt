@@ -1,6 +1,6 @@
 -- The lists of a graph, one after another.
-use Rattle.std.proofs.Common.{◌≡◌, ◌≢◌, ℕ, zero, suc, ◌+◌, ◌<◌, ◌≤◌, ◌⊎◌, inl, inr, ◌↔◌, Bool, true, false, nat_eq, nat_lt, ◌||◌, if◌then◌else◌, List, [], ◌∷◌, ◌++◌, length, get_or, take, set, map, Some, refl, sym, ap, ◌∙◌, subst, arith, append_assoc, add-one}
-use Rattle.std.specs.List.{Contains, All, list_any}
+use Rattle.std.proofs.Common.{◌≡◌, ◌≢◌, ℕ, zero, suc, ◌+◌, ◌<◌, ◌⊎◌, inl, inr, Bool, true, false, nat_eq, nat_lt, ◌||◌, List, [], ◌∷◌, ◌++◌, length, get_or, take, set, Some, refl, sym, ap, ◌∙◌, subst, arith, append_assoc, add-one}
+use Rattle.std.specs.List.{Contains, All}
 use Rattle.std.proofs.Common.{add-zero, zero-add}
 use Rattle.std.proofs.lemmas.List.{append-nil, get_or_default, get_or-set_same, get_or-set_other, length-set, take_more, get_or_append_left, get_or_push, length-append}
 use Rattle.std.proofs.lemmas.List.Elements.{All-get_or, All-same, All-weaker, All-from_get_or, Contains-get_or, Contains-append_left, Contains-push, Contains-push_cases}
@@ -15,7 +15,7 @@ use Rattle.ae_code.specs.Limits.{count}
 use Rattle.ae_code.specs.Uses.{ArePreds, IsRising, statement_at}
 use Rattle.ae_graph.specs.Graph.{Graph, preds_in, edges_to, edges_from, AreSuccs}
 use Rattle.ae_graph.specs.Succs.{AreEarlier, is_among, joined, JoinsWaiters}
-use Rattle.ae_graph.proofs.Elements.{here, there, nowhere, uncons, has_from, from_has}
+use Rattle.ae_graph.proofs.Elements.{here, there, nowhere, has_from, from_has}
 
 pub count_lines : (xs : List Stmt) → count (lines_from xs) ≡ length xs
 count_lines [] = refl
@@ -208,13 +208,13 @@ succs_joined g i row waiters a true e = record {
   rising = rising_push waiters (length g) a.rising (λ j h. past_end g j i ((a.exact j).0 h));
   exact = λ j. (
     (λ h. elim (Contains-push_cases waiters (length g) j h) [
-      inl k ↦ waits_before g row j i ((a.exact j).0 k)
-    | inr q ↦ subst (λ (n : ℕ). Waits (g ++ row ∷ []) n i) q (waits_last g row i (from_has row i e))
+      | inl k ↦ waits_before g row j i ((a.exact j).0 k)
+      | inr q ↦ subst (λ (n : ℕ). Waits (g ++ row ∷ []) n i) q (waits_last g row i (from_has row i e))
     ]),
     (λ h. elim (waits_from g row j i h) [
-      inl k ↦ Contains-append_left waiters (length g ∷ []) j ((a.exact j).1 k)
-    | inr k ↦ subst (λ (n : ℕ). Contains (waiters ++ length g ∷ []) n) (sym k.0) (Contains-push waiters (length g))
-    ])
+      | inl k ↦ Contains-append_left waiters (length g ∷ []) j ((a.exact j).1 k)
+      | inr k ↦ subst (λ (n : ℕ). Contains (waiters ++ length g ∷ []) n) (sym k.0) (Contains-push waiters (length g))
+    ]),
   );
 }
 succs_joined g i row waiters a false e = record {
@@ -222,9 +222,9 @@ succs_joined g i row waiters a false e = record {
   exact = λ j. (
     (λ h. waits_before g row j i ((a.exact j).0 h)),
     (λ h. elim (waits_from g row j i h) [
-      inl k ↦ (a.exact j).1 k
-    | inr k ↦ absurd (true_false (is_among row i) (has_from row i k.1) e)
-    ])
+      | inl k ↦ (a.exact j).1 k
+      | inr k ↦ absurd (true_false (is_among row i) (has_from row i k.1) e)
+    ]),
   );
 }
   where

@@ -1,12 +1,12 @@
 -- The texts of graphs, one after another.
-use Rattle.std.proofs.Common.{◌≡◌, ℕ, suc, ◌+◌, ◌<◌, List, [], ◌∷◌, ◌++◌, length, get_or, take, map, Some, refl, sym, ap, ◌∙◌, subst, arith, append_assoc, add-zero, zero-add}
+use Rattle.std.proofs.Common.{◌≡◌, ℕ, suc, ◌+◌, ◌<◌, List, [], ◌∷◌, ◌++◌, length, get_or, take, map, refl, sym, ap, ◌∙◌, subst, arith, append_assoc, add-zero, zero-add}
 use Rattle.std.proofs.lemmas.List.{append-nil, take_more, map-append}
 use Rattle.std.proofs.lemmas.Grind.{common_steps}
 use Rattle.std.specs.Fmt.{decimal}
 use Rattle.ae_code.specs.declared.tree.Method.{Method}
 use Rattle.ae_code.specs.Plain.{Definition}
 use Rattle.ae_code.specs.Shown.{definition}
-use Rattle.ae_graph.specs.Graph.{Graph, IsGraph}
+use Rattle.ae_graph.specs.Graph.{Graph}
 use Rattle.ae_graph.specs.GraphText.{spaced, line_text, lines_text, method_text, AreMethodTexts, PutsMethod}
 
 spaced-push : (xs : List ℕ) (x : ℕ) → spaced (xs ++ x ∷ []) ≡ spaced xs ++ 32 ∷ decimal x
@@ -56,5 +56,5 @@ pub texts_more : (names : List (List ℕ)) (ms : List Method) (i : ℕ) (m : Met
     → PutsMethod names (definition m) now new → AreMethodTexts names (map definition (take (i + 1) ms)) new
 texts_more names ms i m now new h r a p =
     let e : map definition (take i ms) ++ definition m ∷ [] ≡ map definition (take (i + 1) ms) =
-        sym (map-append definition (take i ms) (m ∷ [])) ∙ ap (λ (x : Method). map definition (take i ms ++ x ∷ [])) r ∙ ap (map definition) (sym (take_more ms i m h)) in
+    sym (map-append definition (take i ms) (m ∷ [])) ∙ ap (λ (x : Method). map definition (take i ms ++ x ∷ [])) r ∙ ap (map definition) (sym (take_more ms i m h)) in
     subst (λ (ds : List Definition). AreMethodTexts names ds new) e (texts_push names (map definition (take i ms)) (definition m) now new a p)

@@ -1,7 +1,7 @@
 -- For which statements the uses of a statement wait.
 use Rattle.std.proofs.Common.{◌+◌, take, get_or, add-one, ◌↔◌}
 use Rattle.std.proofs.lemmas.List.{take_more}
-use Rattle.std.proofs.Common.{◌≡◌, ◌≢◌, ℕ, zero, suc, ◌<◌, ◌≤◌, ◌⊎◌, inl, inr, Bool, true, false, not, nat_eq, nat_lt, if◌then◌else◌, List, [], ◌∷◌, ◌++◌, length, map, Option, None, Some, refl, sym, ap, ◌∙◌, subst, arith}
+use Rattle.std.proofs.Common.{◌≡◌, ℕ, zero, suc, ◌<◌, ◌⊎◌, inl, inr, Bool, true, false, not, nat_eq, nat_lt, if◌then◌else◌, List, [], ◌∷◌, ◌++◌, length, Option, None, Some, refl, sym, ap, ◌∙◌, subst, arith}
 use Rattle.std.specs.List.{Contains, filter}
 use Rattle.std.proofs.lemmas.List.Elements.{Contains-append_left, Contains-push, Contains-push_cases}
 use Rattle.std.proofs.lemmas.Bool.Decides.{nat_tests}
@@ -69,8 +69,8 @@ open_step : (b : Lines) (j : ℕ) (r : Resource) (p : Past) (o : Option Mode) �
 open_step b j r p None e go h = later b j r p (go h) (weak_is None (use_at b j r) e tt)
 open_step b j r p (Some m) e go h =
     elim (from_added (opened b j r) (record { stmt = j; mode = m }) p (is_strong m) h) [
-      inl k ↦ later b j r p (go k.1) (weak_is (Some m) (use_at b j r) e k.0)
-    | inr q ↦ latest b j r m p e q
+      | inl k ↦ later b j r p (go k.1) (weak_is (Some m) (use_at b j r) e k.0)
+      | inr q ↦ latest b j r m p e q
     ]
 
 -- what is kept is open
@@ -225,8 +225,8 @@ above : (u : Use) (us : List Use) → AreInOrder (u ∷ us) → (v : Use) → Co
 above u [] h v k = absurd (nowhere v k)
 above u (w ∷ us) h v k =
     elim (uncons w us v k) [
-      inl q ↦ subst (λ (x : Use). IsBelow u.what x.what) q h.0
-    | inr t ↦ below_trans u.what w.what v.what h.0 (above w us h.1 v t)
+      | inl q ↦ subst (λ (x : Use). IsBelow u.what x.what) q h.0
+      | inr t ↦ below_trans u.what w.what v.what h.0 (above w us h.1 v t)
     ]
 
 choice_false : (t : Bool) (ps qs : List Past) → t ≡ false → (if t then ps else qs) ≡ qs
@@ -271,7 +271,7 @@ after_first j r ps u us o h e go false q =
     ap (λ (qs : List Past). after_uses j r qs us) (choice_false (is_same u.what r) (added ps (record { stmt = j; mode = u.mode })) ps q)
     ∙ go (tail_in_order u us h) (λ m. (
       (λ k. (e m).0 (there u us _ k)),
-      (λ p. not_first u us r m q (uncons u us _ ((e m).1 p)))
+      (λ p. not_first u us r m q (uncons u us _ ((e m).1 p))),
     ))
 
 after_all : (j : ℕ) (r : Resource) (ps : List Past) (us : List Use) (o : Option Mode) → AreInOrder us → IsUse us r o → after_uses j r ps us ≡ added_if j ps o

@@ -1,5 +1,5 @@
 -- What a statement uses, as a list.
-use Rattle.std.specs.Prelude.{◌≡◌, ◌<◌, ◌↔◌, ℕ, nat_eq, Bool, true, false, ◌++◌, if◌then◌else◌, List, [], ◌∷◌, Option, None, Some, Contains, map}
+use Rattle.std.specs.Prelude.{◌≡◌, ◌<◌, ◌↔◌, ℕ, nat_eq, Bool, false, ◌++◌, if◌then◌else◌, List, [], ◌∷◌, Option, None, Some, Contains, map}
 use Rattle.std.specs.Option.{option_to_list}
 use Rattle.ae_code.specs.declared.tree.StmtAt.{StmtAt}
 use Rattle.ae_code.specs.declared.uses.Resource.{Resource}
@@ -7,7 +7,7 @@ use Rattle.ae_code.specs.declared.uses.Resource.TheVariants.{Local, Group}
 use Rattle.ae_code.specs.declared.uses.Mode.TheVariants as mode
 use Rattle.ae_code.specs.declared.uses.Use.{Use}
 use Rattle.ae_code.specs.Plain.{Expression, Number, Truth, Nothing, Read, Item, Length, Grouped, Negated, Minus, Binary, RightSide, Value, Taken, Zeros, Made, Returned, Lines, Code}
-use Rattle.ae_code.specs.Plain.{Action, Declares, Assigns, Stores, StoresAt, Calls, Chooses, ChoosesElse, Repeats, Groups, Splits, Locks, Freezes, Shares, Prints, PrintsText, Asserts, Returns}
+use Rattle.ae_code.specs.Plain.{Action, Declares, Assigns, Prints}
 use Rattle.ae_code.specs.Names.{io}
 use Rattle.ae_code.specs.Uses.{use_of, statement_at, block_of}
 use Rattle.ae_graph.specs.Rising.{IsRisingOf}

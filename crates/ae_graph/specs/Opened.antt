@@ -1,5 +1,5 @@
 -- The uses of a resource for which a later use may wait: the last one that shuts out every other, and those after it.
-use Rattle.std.specs.Prelude.{◌≡◌, ℕ, zero, suc, nat_eq, Bool, true, false, not, if◌then◌else◌, List, [], ◌∷◌, ◌++◌, Option, None, Some, map}
+use Rattle.std.specs.Prelude.{ℕ, zero, suc, nat_eq, Bool, false, not, if◌then◌else◌, List, [], ◌∷◌, ◌++◌, Option, None, Some, map}
 use Rattle.std.specs.List.{filter, flat_map}
 use Rattle.std.specs.HashMap.{HashMap, get}
 use Rattle.ae_code.specs.declared.uses.Resource.{Resource}

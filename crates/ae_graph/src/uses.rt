@@ -6,7 +6,9 @@ ghost use Rattle.ae_code.specs.Uses.{are_compatible, block_of, statement_at};
 ghost use Rattle.ae_graph.specs.Footprint.{HasFootprint, IsFootprint, statement_of, names_in, names_right, read_by, written_by, is_written, local_use, AreLocalUses, group_uses};
 
 use crate::rising::rising;
-use ae_code::{Block, Expr, Footprint, Mode, Name, Program, Resource, Rhs, Stmt, StmtAt, StmtKind, Use};
+use ae_code::{
+    Block, Expr, Footprint, Mode, Name, Program, Resource, Rhs, Stmt, StmtAt, StmtKind, Use,
+};
 use ae_text::{Items, Memory};
 use std::alloc::{AllocError, Global};
 

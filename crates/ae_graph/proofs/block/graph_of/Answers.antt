@@ -1,4 +1,4 @@
-use Rattle.std.proofs.Common.{arith, length, ◌<◌, ◌^◌, subst, sym, ap, ◌∙◌}
+use Rattle.std.proofs.Common.{arith, length, subst, sym, ap, ◌∙◌}
 use Rattle.ae_code.specs.Shown.{lines_from}
 use Rattle.ae_graph.specs.Graph.{Graph, edges_from, AreAllSuccs}
 use Rattle.ae_graph.specs.Succs.{AreEarlier}
@@ -18,5 +18,5 @@ pub invariant_of-result : goal.invariant_of-result
 invariant_of-result c = (
   subst (λ (g : Graph). AreAllSuccs g c.in_ok-succs.succs) c.as_slice.ensures c.in_ok-succs.ensures,
   c.in_ok-edges.ensures ∙ ap (edges_from 0) c.as_slice-2.ensures,
-  omega (arith, c.requires, c.in_ok-preds.ensures.0, count_lines c.args.stmts.now)
+  omega (arith, c.requires, c.in_ok-preds.ensures.0, count_lines c.args.stmts.now),
 )

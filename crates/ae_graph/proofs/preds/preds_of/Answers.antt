@@ -1,5 +1,4 @@
-use Rattle.std.proofs.Common.{arith, sym, ap, ◌∙◌, ◌≡◌, ◌<◌, ℕ, Some, length}
-use Rattle.std.proofs.lemmas.List.{length-append}
+use Rattle.std.proofs.Common.{arith, sym, ◌∙◌, ◌≡◌, Some, length}
 use Rattle.ae_code.specs.Shown.{lines_from, action}
 use Rattle.ae_code.specs.Uses.{statement_at}
 use Rattle.ae_graph.specs.Footprint.{IsFootprint}

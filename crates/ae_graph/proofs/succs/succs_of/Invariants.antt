@@ -1,4 +1,4 @@
-use Rattle.std.proofs.Common.{◌≡◌, ◌<◌, ℕ, List, [], length, get_or, take}
+use Rattle.std.proofs.Common.{◌≡◌, ◌<◌, ℕ, [], length, get_or, take}
 use Rattle.ae_graph.specs.Graph.{AreSuccs}
 use Rattle.ae_graph.proofs.succs.succs_of.Given as goal
 

@@ -8,6 +8,6 @@ returns-in-Some c = block_found c.args.program.now.methods c.args.method c.args.
 pub returns-in_default : goal.returns-in_default
 returns-in_default c =
     elim c.in_default.branch [
-      in_default-via-in-Some+else-method-block w ↦ block_other c.args.program.now.methods c.args.method c.args.block w.in-Some.method.now w.in-Some.ensures.value w.if-method-block.false
-    | in_default-via-in_default w ↦ block_lost c.args.program.now.methods c.args.method c.args.block w.in_default.ensures.value
+      | in_default-via-in-Some+else-method-block w ↦ block_other c.args.program.now.methods c.args.method c.args.block w.in-Some.method.now w.in-Some.ensures.value w.if-method-block.false
+      | in_default-via-in_default w ↦ block_lost c.args.program.now.methods c.args.method c.args.block w.in_default.ensures.value
     ]

@@ -1,6 +1,6 @@
-use Rattle.ae_graph.specs.Graph.{AreSuccs, preds_in}
+use Rattle.ae_graph.specs.Graph.{AreSuccs}
 use Rattle.ae_graph.proofs.Lists.{succs_at}
-use Rattle.std.proofs.Common.{arith, length, List, get_or, subst, sym, ap, ◌∙◌}
+use Rattle.std.proofs.Common.{List, get_or, subst, sym, ap, ◌∙◌}
 use Rattle.ae_graph.proofs.block.BlockGraph.succs.Goals as goal
 
 pub returns : goal.returns
