@@ -5,6 +5,8 @@ mod block;
 mod preds;
 mod rising;
 mod succs;
+#[cfg(test)]
+mod tests;
 mod text;
 mod uses;
 mod waits;

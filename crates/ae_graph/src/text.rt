@@ -106,7 +106,7 @@ fn put_name(text: &mut Vec<u8>, names: &[Items<u8>], name: Name) -> Result<(), A
 
 // A method with the graph of its body.
 #[tactic(auto, using(crate::proofs::Rules::forms))]
-fn put_graph(
+pub fn put_graph(
     alloc: Global,
     text: &mut Vec<u8>,
     names: &[Items<u8>],
