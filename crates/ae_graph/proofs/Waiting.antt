@@ -1,0 +1,302 @@
+-- For which statements the uses of a statement wait.
+use Rattle.std.proofs.Common.{◌+◌, take, get_or, add-one, ◌↔◌}
+use Rattle.std.proofs.lemmas.List.{take_more}
+use Rattle.std.proofs.Common.{◌≡◌, ℕ, zero, suc, ◌<◌, ◌⊎◌, inl, inr, Bool, true, false, not, nat_eq, nat_lt, if◌then◌else◌, List, [], ◌∷◌, ◌++◌, length, Option, None, Some, refl, sym, ap, ◌∙◌, subst, arith}
+use Rattle.std.specs.List.{Contains, filter}
+use Rattle.std.proofs.lemmas.List.Elements.{Contains-append_left, Contains-push, Contains-push_cases}
+use Rattle.std.proofs.lemmas.Bool.Decides.{nat_tests}
+use Rattle.ae_code.specs.declared.uses.Resource.{Resource}
+use Rattle.ae_code.specs.declared.uses.Resource.TheVariants.{Local, Group}
+use Rattle.ae_code.specs.declared.uses.Mode.{Mode}
+use Rattle.ae_code.specs.declared.uses.Use.{Use}
+use Rattle.ae_code.specs.Plain.{Action, Lines}
+use Rattle.ae_code.specs.Uses.{use_of, used_by, use_at, statement_at, are_compatible, is_strong, IsConflict, IsWeak, IsEdge, ArePreds}
+use Rattle.ae_graph.specs.declared.waits.Past.{Past}
+use Rattle.ae_graph.specs.Rising.{IsRisingOf}
+use Rattle.ae_graph.specs.Footprint.{IsFootprint, IsBelow, AreInOrder}
+use Rattle.ae_graph.specs.Opened.{added, added_if, opened, is_same, after_uses, waited, waited_by}
+use Rattle.ae_graph.proofs.Elements.{here, there, nowhere, uncons, in_map, from_map, in_filter, from_filter, in_flat_map, from_flat_map}
+
+-- ---- open uses
+
+-- a use before statement j, with no use between that shuts out every other
+pub record IsOpen (b : Lines) (j : ℕ) (r : Resource) (p : Past) : Type 0 where
+  pub before : p.stmt < j
+  pub used : use_at b p.stmt r ≡ Some p.mode
+  pub clear : (k : ℕ) → p.stmt < k → k < j → IsWeak (use_at b k r)
+
+below_or_at : (k j : ℕ) → k < suc j → (k < j) ⊎ (k ≡ j)
+below_or_at k j h = split (nat_lt k j) refl
+  where
+    split : (t : Bool) → nat_lt k j ≡ t → (k < j) ⊎ (k ≡ j)
+    split true e = inl (grind (arith, nat_tests))
+    split false e = inr (grind (arith, nat_tests))
+
+clear_at : (b : Lines) (j : ℕ) (r : Resource) (p : Past) → IsOpen b j r p → IsWeak (use_at b j r) → (k : ℕ) → p.stmt < k → (k < j) ⊎ (k ≡ j) → IsWeak (use_at b k r)
+clear_at b j r p o w k l (inl m) = o.clear k l m
+clear_at b j r p o w k l (inr e) = subst (λ (n : ℕ). IsWeak (use_at b n r)) (sym e) w
+
+later : (b : Lines) (j : ℕ) (r : Resource) (p : Past) → IsOpen b j r p → IsWeak (use_at b j r) → IsOpen b (suc j) r p
+later b j r p o w = record {
+  before = omega (arith, o.before);
+  used = o.used;
+  clear = λ k l m. clear_at b j r p o w k l (below_or_at k j m);
+}
+
+earlier : (b : Lines) (j : ℕ) (r : Resource) (p : Past) → IsOpen b (suc j) r p → p.stmt < j → IsOpen b j r p
+earlier b j r p o h = record { before = h; used = o.used; clear = λ k l m. o.clear k l (omega (arith, m)) }
+
+latest : (b : Lines) (j : ℕ) (r : Resource) (m : Mode) (p : Past) → use_at b j r ≡ Some m → record { stmt = j; mode = m } ≡ p → IsOpen b (suc j) r p
+latest b j r m p e q = subst (λ (x : Past). IsOpen b (suc j) r x) q (record { before = omega arith; used = e; clear = λ k l n. absurd (omega (arith, l, n)) })
+
+from_added : (ps : List Past) (n : Past) (p : Past) (t : Bool) → Contains (if t then n ∷ [] else ps ++ n ∷ []) p → ((t ≡ false) × Contains ps p) ⊎ (n ≡ p)
+from_added ps n p true h = elim (uncons n [] p h) [ inl q ↦ inr q | inr k ↦ absurd (nowhere p k) ]
+from_added ps n p false h = elim (Contains-push_cases ps n p h) [ inl k ↦ inl (refl, k) | inr q ↦ inr q ]
+
+last_added : (ps : List Past) (n : Past) (t : Bool) → Contains (if t then n ∷ [] else ps ++ n ∷ []) n
+last_added ps n true = here n []
+last_added ps n false = Contains-push ps n
+
+still_there : (ps : List Past) (n : Past) (p : Past) (t : Bool) → t ≡ false → Contains ps p → Contains (if t then n ∷ [] else ps ++ n ∷ []) p
+still_there ps n p true e h = absurd (cc)
+still_there ps n p false e h = Contains-append_left ps (n ∷ []) p h
+
+weak_is : (o u : Option Mode) → u ≡ o → IsWeak o → IsWeak u
+weak_is o u e h = subst IsWeak (sym e) h
+
+open_step : (b : Lines) (j : ℕ) (r : Resource) (p : Past) (o : Option Mode) → use_at b j r ≡ o → (Contains (opened b j r) p → IsOpen b j r p)
+    → Contains (added_if j (opened b j r) o) p → IsOpen b (suc j) r p
+open_step b j r p None e go h = later b j r p (go h) (weak_is None (use_at b j r) e tt)
+open_step b j r p (Some m) e go h =
+    elim (from_added (opened b j r) (record { stmt = j; mode = m }) p (is_strong m) h) [
+      | inl k ↦ later b j r p (go k.1) (weak_is (Some m) (use_at b j r) e k.0)
+      | inr q ↦ latest b j r m p e q
+    ]
+
+-- what is kept is open
+pub is_open : (b : Lines) (j : ℕ) (r : Resource) (p : Past) → Contains (opened b j r) p → IsOpen b j r p
+is_open b zero r p h = absurd (nowhere p h)
+is_open b (suc j) r p h = open_step b j r p (use_at b j r) refl (is_open b j r p) h
+
+kept_step : (b : Lines) (j : ℕ) (r : Resource) (p : Past) (o : Option Mode) → use_at b j r ≡ o → IsOpen b (suc j) r p → (p.stmt < j) ⊎ (p.stmt ≡ j)
+    → (IsOpen b j r p → Contains (opened b j r) p) → Contains (added_if j (opened b j r) o) p
+kept_step b j r p None e o (inl l) go = go (earlier b j r p o l)
+kept_step b j r p None e o (inr q) go = let w : use_at b j r ≡ Some p.mode = subst (λ (n : ℕ). use_at b n r ≡ Some p.mode) q o.used in absurd (cc)
+kept_step b j r p (Some m) e o (inl l) go =
+    let w : IsWeak (Some m) = subst IsWeak e (o.clear j l (omega arith)) in
+    still_there (opened b j r) (record { stmt = j; mode = m }) p (is_strong m) w (go (earlier b j r p o l))
+kept_step b j r p (Some m) e o (inr q) go =
+    let w : use_at b j r ≡ Some p.mode = subst (λ (n : ℕ). use_at b n r ≡ Some p.mode) q o.used in
+    let n : p.mode ≡ m = cc in
+    let same : record { stmt = j; mode = m } ≡ p = λ i. record { stmt = sym q i; mode = sym n i } in
+    subst (λ (x : Past). Contains (added (opened b j r) (record { stmt = j; mode = m })) x) same (last_added (opened b j r) (record { stmt = j; mode = m }) (is_strong m))
+
+-- what is open is kept
+pub is_kept : (b : Lines) (j : ℕ) (r : Resource) (p : Past) → IsOpen b j r p → Contains (opened b j r) p
+is_kept b zero r p o = absurd (omega (arith, o.before))
+is_kept b (suc j) r p o = kept_step b j r p (use_at b j r) refl o (below_or_at p.stmt j o.before) (is_kept b j r p)
+
+-- ---- the statements for which uses wait
+
+not_true : (t : Bool) → not t ≡ true → t ≡ false
+not_true true e = absurd (cc)
+not_true false e = refl
+
+true_not : (t : Bool) → t ≡ false → not t ≡ true
+true_not true e = absurd (cc)
+true_not false e = refl
+
+-- a use that is kept, of this statement, in a mode that does not go with m
+pub from_waited : (m : Mode) (ps : List Past) (i : ℕ) → Contains (waited m ps) i → (p : Past) × Contains ps p × (p.stmt ≡ i) × (are_compatible p.mode m ≡ false)
+from_waited m ps i h =
+    let f = from_map (λ (p : Past). p.stmt) (filter (λ p. not (are_compatible p.mode m)) ps) i h in
+    let g = from_filter (λ (p : Past). not (are_compatible p.mode m)) ps f.0 f.1 in
+    (f.0, g.0, f.2, not_true (are_compatible f.0.mode m) g.1)
+
+pub in_waited : (m : Mode) (ps : List Past) (p : Past) → Contains ps p → are_compatible p.mode m ≡ false → Contains (waited m ps) p.stmt
+in_waited m ps p h e =
+    in_map (λ (q : Past). q.stmt) (filter (λ q. not (are_compatible q.mode m)) ps) p
+    (in_filter (λ (q : Past). not (are_compatible q.mode m)) ps p h (true_not (are_compatible p.mode m) e))
+
+used_at : (b : Lines) (j : ℕ) (a : Action) (r : Resource) → statement_at b j ≡ Some a → use_at b j r ≡ use_of a r
+used_at b j a r e = ap (λ o. used_by o r) e
+
+conflict_of : (x y : Option Mode) (m n : Mode) → x ≡ Some m → y ≡ Some n → are_compatible m n ≡ false → IsConflict x y
+conflict_of x y m n e f h = subst (λ (o : Option Mode). IsConflict o y) (sym e) (subst (λ (o : Option Mode). IsConflict (Some m) o) (sym f) h)
+
+-- both are uses, in modes that do not go together
+pub record Clash (x y : Option Mode) : Type 0 where
+  pub first : Mode
+  pub second : Mode
+  pub first_is : x ≡ Some first
+  pub second_is : y ≡ Some second
+  pub apart : are_compatible first second ≡ false
+
+clash : (x y : Option Mode) → IsConflict x y → Clash x y
+clash None y h = absurd h
+clash (Some m) None h = absurd h
+clash (Some m) (Some n) h = record { first = m; second = n; first_is = refl; second_is = refl; apart = h }
+
+edge_from : (b : Lines) (j : ℕ) (a : Action) (uses : List Use) → statement_at b j ≡ Some a → IsFootprint a uses
+    → (i : ℕ) → Contains (waited_by (opened b j) uses) i → IsEdge b i j
+edge_from b j a uses s f i h =
+    let g = from_flat_map (λ (u : Use). waited u.mode (opened b j u.what)) uses i h in
+    let u = g.0 in
+    let w = from_waited u.mode (opened b j u.what) i g.2 in
+    let o : IsOpen b j u.what w.0 = is_open b j u.what w.0 w.1 in
+    let used : use_at b j u.what ≡ Some u.mode = used_at b j a u.what s ∙ (f.exact u).0 g.1 in
+    subst (λ (n : ℕ). IsEdge b n j) w.2 (record {
+      before = o.before;
+      on = u.what;
+      conflict = conflict_of _ _ w.0.mode u.mode o.used used w.3;
+      clear = o.clear;
+    })
+
+to_edge : (b : Lines) (j : ℕ) (a : Action) (uses : List Use) → statement_at b j ≡ Some a → IsFootprint a uses
+    → (i : ℕ) → IsEdge b i j → Contains (waited_by (opened b j) uses) i
+to_edge b j a uses s f i e =
+    let c : Clash (use_at b i e.on) (use_at b j e.on) = clash _ _ e.conflict in
+    let p : Past = record { stmt = i; mode = c.first } in
+    let u : Use = record { what = e.on; mode = c.second } in
+    let o : IsOpen b j e.on p = record { before = e.before; used = c.first_is; clear = e.clear } in
+    let k : Contains uses u = (f.exact u).1 (sym (used_at b j a e.on s) ∙ c.second_is) in
+    in_flat_map (λ (v : Use). waited v.mode (opened b j v.what)) uses u i k
+    (in_waited c.second (opened b j e.on) p (is_kept b j e.on p o) c.apart)
+
+-- the statements for which the uses of statement j wait are those from which an edge leads to it
+pub preds_are : (b : Lines) (j : ℕ) (a : Action) (uses : List Use) (waits : List ℕ) → statement_at b j ≡ Some a → IsFootprint a uses
+    → IsRisingOf (waited_by (opened b j) uses) waits → ArePreds b j waits
+preds_are b j a uses waits s f r = record {
+  rising = r.in_order;
+  exact = λ i. ((λ h. edge_from b j a uses s f i ((r.same i).0 h)), (λ e. (r.same i).1 (to_edge b j a uses s f i e)));
+}
+
+-- ---- one more statement
+
+below_trans : (x y z : Resource) → IsBelow x y → IsBelow y z → IsBelow x z
+below_trans (Local x) (Local y) (Local z) h k = omega (arith, h, k)
+below_trans (Local x) (Local y) (Group z) h k = tt
+below_trans (Local x) (Group y) (Local z) h k = absurd k
+below_trans (Local x) (Group y) (Group z) h k = tt
+below_trans (Group x) (Local y) z h k = absurd h
+below_trans (Group x) (Group y) (Local z) h k = absurd k
+below_trans (Group x) (Group y) (Group z) h k = omega (arith, h, k)
+
+not_same : (x y : Resource) → IsBelow x y → is_same y x ≡ false
+not_same (Local x) (Local y) h = grind (arith, nat_tests, h)
+not_same (Local x) (Group y) h = refl
+not_same (Group x) (Local y) h = absurd h
+not_same (Group x) (Group y) h = grind (arith, nat_tests, h)
+
+true_false : (b : Bool) → b ≡ true → b ≡ false → ⊥
+true_false b e f = cc
+
+same_number : (x y : ℕ) → nat_eq x y ≡ true → x ≡ y
+same_number x y e = grind (arith, nat_tests)
+
+same_is : (x y : Resource) → is_same x y ≡ true → x ≡ y
+same_is (Local x) (Local y) e = ap Local (same_number x y e)
+same_is (Local x) (Group y) e = absurd (cc)
+same_is (Group x) (Local y) e = absurd (cc)
+same_is (Group x) (Group y) e = ap Group (same_number x y e)
+
+same_self : (x : Resource) → is_same x x ≡ true
+same_self (Local x) = grind (arith, nat_tests)
+same_self (Group x) = grind (arith, nat_tests)
+
+-- after one more of the uses
+abbrev pub one_more : ℕ → Resource → Use → List Past → List Past
+one_more j r u ps = if is_same u.what r then added ps (record { stmt = j; mode = u.mode }) else ps
+
+after_uses-push : (j : ℕ) (r : Resource) (ps : List Past) (us : List Use) (u : Use) → after_uses j r ps (us ++ u ∷ []) ≡ one_more j r u (after_uses j r ps us)
+after_uses-push j r ps [] u = refl
+after_uses-push j r ps (v ∷ us) u = after_uses-push j r (one_more j r v ps) us u
+
+pub after_uses-more : (j : ℕ) (r : Resource) (ps qs rs : List Past) (us : List Use) (i : ℕ) (d : Use) → i < length us
+    → qs ≡ after_uses j r ps (take i us) → rs ≡ one_more j r (get_or us i d) qs → rs ≡ after_uses j r ps (take (i + 1) us)
+after_uses-more j r ps qs rs us i d h e f =
+    f ∙ ap (one_more j r (get_or us i d)) e ∙ sym (after_uses-push j r ps (take i us) (get_or us i d)) ∙ ap (after_uses j r ps) (sym (take_more us i d h))
+
+tail_in_order : (u : Use) (us : List Use) → AreInOrder (u ∷ us) → AreInOrder us
+tail_in_order u [] h = tt
+tail_in_order u (v ∷ us) h = h.1
+
+above : (u : Use) (us : List Use) → AreInOrder (u ∷ us) → (v : Use) → Contains us v → IsBelow u.what v.what
+above u [] h v k = absurd (nowhere v k)
+above u (w ∷ us) h v k =
+    elim (uncons w us v k) [
+      | inl q ↦ subst (λ (x : Use). IsBelow u.what x.what) q h.0
+      | inr t ↦ below_trans u.what w.what v.what h.0 (above w us h.1 v t)
+    ]
+
+choice_false : (t : Bool) (ps qs : List Past) → t ≡ false → (if t then ps else qs) ≡ qs
+choice_false true ps qs e = absurd (cc)
+choice_false false ps qs e = refl
+
+choice_true : (t : Bool) (ps qs : List Past) → t ≡ true → (if t then ps else qs) ≡ ps
+choice_true true ps qs e = refl
+choice_true false ps qs e = absurd (cc)
+
+passed : (j : ℕ) (r : Resource) (ps : List Past) (us : List Use) → ((v : Use) → Contains us v → is_same v.what r ≡ false) → after_uses j r ps us ≡ ps
+passed j r ps [] h = refl
+passed j r ps (u ∷ us) h =
+    ap (λ (qs : List Past). after_uses j r qs us) (choice_false (is_same u.what r) _ ps (h u (here u us)))
+    ∙ passed j r ps us (λ v k. h v (there u us v k))
+
+-- the list has exactly this use of the resource
+abbrev IsUse : List Use → Resource → Option Mode → Type 0
+IsUse us r o = (m : Mode) → Contains us (record { what = r; mode = m }) ↔ (o ≡ Some m)
+
+after_none : (j : ℕ) (r : Resource) (ps : List Past) (o : Option Mode) → IsUse [] r o → ps ≡ added_if j ps o
+after_none j r ps None h = refl
+after_none j r ps (Some m) h = absurd (nowhere _ ((h m).1 refl))
+
+not_first : (u : Use) (us : List Use) (r : Resource) (m : Mode) → is_same u.what r ≡ false → (u ≡ record { what = r; mode = m }) ⊎ Contains us (record { what = r; mode = m }) → Contains us (record { what = r; mode = m })
+not_first u us r m q (inl e) =
+    let s : is_same u.what r ≡ true = subst (λ (x : Resource). is_same u.what x ≡ true) (ap (λ (v : Use). v.what) e) (same_self u.what) in
+    absurd (true_false (is_same u.what r) s q)
+not_first u us r m q (inr k) = k
+
+after_first : (j : ℕ) (r : Resource) (ps : List Past) (u : Use) (us : List Use) (o : Option Mode) → AreInOrder (u ∷ us) → IsUse (u ∷ us) r o
+    → (AreInOrder us → IsUse us r o → after_uses j r ps us ≡ added_if j ps o)
+    → (t : Bool) → is_same u.what r ≡ t → after_uses j r ps (u ∷ us) ≡ added_if j ps o
+after_first j r ps u us o h e go true q =
+    let s : u.what ≡ r = same_is u.what r q in
+    let k : Contains (u ∷ us) (record { what = r; mode = u.mode }) = subst (λ (x : Resource). Contains (u ∷ us) (record { what = x; mode = u.mode })) s (here u us) in
+    let is : o ≡ Some u.mode = (e u.mode).0 k in
+    ap (λ (qs : List Past). after_uses j r qs us) (choice_true (is_same u.what r) (added ps (record { stmt = j; mode = u.mode })) ps q)
+    ∙ passed j r (added ps (record { stmt = j; mode = u.mode })) us (λ v c. subst (λ (x : Resource). is_same v.what x ≡ false) s (not_same u.what v.what (above u us h v c)))
+    ∙ ap (added_if j ps) (sym is)
+after_first j r ps u us o h e go false q =
+    ap (λ (qs : List Past). after_uses j r qs us) (choice_false (is_same u.what r) (added ps (record { stmt = j; mode = u.mode })) ps q)
+    ∙ go (tail_in_order u us h) (λ m. (
+      (λ k. (e m).0 (there u us _ k)),
+      (λ p. not_first u us r m q (uncons u us _ ((e m).1 p))),
+    ))
+
+after_all : (j : ℕ) (r : Resource) (ps : List Past) (us : List Use) (o : Option Mode) → AreInOrder us → IsUse us r o → after_uses j r ps us ≡ added_if j ps o
+after_all j r ps [] o h e = after_none j r ps o e
+after_all j r ps (u ∷ us) o h e = after_first j r ps u us o h e (λ i k. after_all j r ps us o i k) (is_same u.what r) refl
+
+-- after the uses of a statement one more use of each resource is kept, if it has one
+pub after_footprint : (j : ℕ) (r : Resource) (ps : List Past) (a : Action) (us : List Use) → IsFootprint a us → after_uses j r ps us ≡ added_if j ps (use_of a r)
+after_footprint j r ps a us f = after_all j r ps us (use_of a r) f.in_order (λ m. f.exact (record { what = r; mode = m }))
+
+pub opened_next : (b : Lines) (j : ℕ) (a : Action) (us : List Use) (f g : Resource → List Past) → statement_at b j ≡ Some a → IsFootprint a us
+    → ((r : Resource) → f r ≡ opened b j r) → ((r : Resource) → g r ≡ after_uses j r (f r) us) → (r : Resource) → g r ≡ opened b (j + 1) r
+opened_next b j a us f g s k h e r =
+    e r ∙ after_footprint j r (f r) a us k ∙ ap (λ ps. added_if j ps (use_of a r)) (h r) ∙ ap (added_if j (opened b j r)) (sym (used_at b j a r s))
+    ∙ ap (λ n. opened b n r) (sym (add-one j))
+
+-- what a turn over statement j finds
+pub preds_found : (b : Lines) (j : ℕ) (a : Action) (uses us : List Use) (f : Resource → List Past) (waits : List ℕ) → statement_at b j ≡ Some a → IsFootprint a uses → us ≡ uses
+    → ((r : Resource) → f r ≡ opened b j r) → IsRisingOf (waited_by f us) waits → ArePreds b j waits
+preds_found b j a uses us f waits s k e h r =
+    let same : f ≡ opened b j = λ i. λ x. h x i in
+    let P : List Use → Type 0 = λ x. IsRisingOf (waited_by (opened b j) x) waits in
+    let Q : (Resource → List Past) → Type 0 = λ x. IsRisingOf (waited_by x us) waits in
+    preds_are b j a uses waits s k (subst P e (subst Q same r))
+
+pub opened_found : (b : Lines) (j : ℕ) (a : Action) (uses us : List Use) (f g : Resource → List Past) → statement_at b j ≡ Some a → IsFootprint a uses → us ≡ uses
+    → ((r : Resource) → f r ≡ opened b j r) → ((r : Resource) → g r ≡ after_uses j r (f r) us) → (r : Resource) → g r ≡ opened b (j + 1) r
+opened_found b j a uses us f g s k e h n r = opened_next b j a uses f g s k h (λ x. n x ∙ ap (after_uses j x (f x)) e) r

@@ -1,0 +1,14 @@
+use Rattle.std.proofs.Common.{subst, List, ℕ}
+use Rattle.ae_code.specs.Shown.{definition}
+use Rattle.ae_graph.specs.GraphText.{PutsMethod}
+use Rattle.ae_graph.proofs.Texts.{texts_more}
+use Rattle.ae_graph.proofs.text.graph_text.Goals as goal
+
+pub loop-method-preserved : goal.loop-method-preserved
+loop-method-preserved c =
+    let m = c.method-item.result in
+    let now = c.loop-method.text.items in
+    let new = c.put_method.new.text.items in
+    let P : List (List ℕ) → Type 0 = λ names. PutsMethod names (definition m) now new in
+    texts_more c.args.program.now.names c.as_slice-method-items.result.now c.loop-method.method-index m now new c.loop-method-test.true c.method-item.is c.loop-method.invariant
+    (subst P c.as_slice.ensures c.in_ok-put_method.ensures)
