@@ -6,5 +6,6 @@ mod report;
 mod run;
 mod value;
 
+pub use locals::Locals;
 pub use report::{Ending, Meant, RunReport};
-pub use run::evaluate;
+pub use run::{Running, Stop, evaluate, run_stmt};

@@ -1,0 +1,56 @@
+// Runs a block from a list of ready statements.
+ghost use Rattle.std.specs.Prelude.{◌≡◌, ◌<◌, ◌≤◌, ℕ, length, IfOk, Some, IsSome};
+ghost use Rattle.ae_code.specs.Shown.{code, lines_from};
+ghost use Rattle.ae_code.specs.Judgement.{Accepted};
+ghost use Rattle.ae_graph.specs.Graph.{IsGraph};
+ghost use Rattle.ae_meaning.specs.Meaning.{seq};
+
+use crate::course::Course;
+use crate::queue::Queue;
+use ae_code::{Program, Stmt};
+use ae_graph::BlockGraph;
+use ae_meaning::RunReport;
+use ae_text::{Gate, Memory};
+use std::alloc::Global;
+use std::thread::Threads;
+
+// Runs the statements of a block, the greatest ready one first, until none is left that stands before an ending.
+fn run_block(alloc: Global, stmts: &[Stmt], graph: &BlockGraph, count: u32) -> Result<Course, Memory>
+    requires size { length graph.now ≡ count }
+    requires graph { IsGraph (Some (lines_from stmts.now)) graph.now }
+{
+    let mut queue = Queue::new(alloc, graph, count).map_err(|_| Memory)?;
+    let mut course = Course::new(alloc, count).map_err(|_| Memory)?;
+    while let Some(j) = queue.take() {
+        if course.settle(alloc, stmts, j)? {
+            queue.release(graph.succs(j)).map_err(|_| Memory)?;
+        }
+    }
+    Ok(course)
+}
+
+/// Runs an accepted program in another order than the written one, on one thread.
+pub fn run<G: Gate>(
+    _rt: &(impl Threads + Sync),
+    alloc: Global,
+    program: &Program,
+    ints: &[i64],
+    fuel: u32,
+    workers: u32,
+    _gate: &G,
+) -> Result<RunReport, Memory>
+    requires accepted { Accepted (code program.now) }
+    requires some_workers { 1 ≤ workers }
+    requires most_workers { workers ≤ 64 }
+    requires some_fuel { 1 ≤ fuel }
+    requires most_fuel { fuel ≤ 1000000 }
+    requires most_ints { length ints.now ≤ 100000 }
+    ensures ending { IfOk result (λ r. Some r.ending ≡ (seq (code program.now) ints.now fuel).ending) }
+    ensures out { IfOk result (λ r. r.out ≡ (seq (code program.now) ints.now fuel).out) }
+{
+    let graph = BlockGraph::of(alloc, program, 0, 0)?;
+    let count = u32::try_from(graph.len()).map_err(|_| Memory)?;
+    let stmts = program.methods.as_slice()[0].body.stmts.as_slice();
+    let course = run_block(alloc, stmts, &graph, count)?;
+    course.report(alloc).map_err(|_| Memory)
+}
