@@ -26,13 +26,6 @@ fate_here fs j f l = get_or-set_same fs j f fate.Waiting l
 pub fate_other : (fs : List Fate) (j : ℕ) (f : Fate) (k : ℕ) → k ≢ j → fate_at (set fs j f) k ≡ fate_at fs k
 fate_other fs j f k n = get_or-set_other fs j k f fate.Waiting n
 
-pub settles : (fs : List Fate) (j : ℕ) (f : Fate) → j < length fs → is_taken f ≡ true → Settles fs (set fs j f) j (is_went f)
-settles fs j f l t = record {
-  size = length-set fs j f;
-  here = (ap is_taken (fate_here fs j f l) ∙ t, ap is_went (fate_here fs j f l));
-  others = fate_other fs j f;
-}
-
 untaken_left : (f : Fate) → is_taken f ≡ false → is_went f ≡ false
 untaken_left fate.Waiting h = refl
 untaken_left (fate.Went piece) h = absurd (cc)
@@ -155,8 +148,8 @@ alone-at (y ∷ xs) (suc j) x env l e = alone-at xs j x env (omega arith) e
 pub alone-here : (xs : List Stmt) (j : ℕ) (x : Stmt) (s : State) → j < length xs → x ≡ get_or xs j x → s.log ≡ [] → alone (lines_from xs) j s.env ≡ one x.at (action x.kind) s
 alone-here xs j x s l e n = alone-at xs j x s.env l e ∙ ap (one x.at (action x.kind)) (state_is s n)
 
-pub settled : (fs gs : List Fate) (j : ℕ) (f : Fate) → j < length fs → is_taken f ≡ true → gs ≡ set fs j f → Settles fs gs j (is_went f)
-settled fs gs j f l t e = subst (λ (x : List Fate). Settles fs x j (is_went f)) (sym e) (settles fs j f l t)
+pub settled : (fs gs : List Fate) (j : ℕ) (f : Fate) → is_taken f ≡ true → gs ≡ set fs j f → Settles fs gs j (is_went f)
+settled fs gs j f t e = record { fate = f; is = e; taken = t; went = refl }
 
 -- ---- before anything was run
 

@@ -6,3 +6,5 @@ pub mod Courses
 pub mod Lists
 pub mod Pieces
 pub mod Ends
+pub mod Counts
+pub mod Queues

@@ -26,10 +26,10 @@ pushed_other (x ∷ xs) y d (suc i) n = pushed_other xs y d i (λ (e : i ≡ len
 
 -- ---- the queue at its beginning
 
-same_number : (i : ℕ) → nat_eq i i ≡ true
+pub same_number : (i : ℕ) → nat_eq i i ≡ true
 same_number i = grind (arith, nat_tests)
 
-other_number : (i j : ℕ) → i ≢ j → nat_eq i j ≡ false
+pub other_number : (i j : ℕ) → i ≢ j → nat_eq i j ≡ false
 other_number i j n = grind (arith, nat_tests)
 
 pub begun_at : (ws : List ℕ) (p t u i j : ℕ) → j ≡ length ws → t ≡ zero_as_one (waits_of ws i)

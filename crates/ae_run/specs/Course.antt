@@ -1,5 +1,5 @@
 -- What became of the statements of a block, against its run in source order.
-use Rattle.std.specs.Prelude.{◌≡◌, ◌<◌, ◌≤◌, ◌≢◌, ◌⊎◌, ◌++◌, ℕ, Bool, true, false, List, [], ◌∷◌, length, slice_index_or, Option, None, Some, Contains}
+use Rattle.std.specs.Prelude.{◌≡◌, ◌<◌, ◌≤◌, ◌≢◌, ◌⊎◌, ◌++◌, ℕ, Bool, true, false, List, [], ◌∷◌, length, slice_index_or, slice_set, Option, None, Some, Contains}
 use Rattle.ae_code.specs.Plain.{Lines}
 use Rattle.ae_code.specs.Limits.{count}
 use Rattle.ae_meaning.specs.declared.report.Ending.{Ending}
@@ -87,9 +87,10 @@ Gives run env outcome.Lacks s = (run ≡ Stops s.log) × (s.env ≡ env)
 
 -- one statement's turn came, and it went through or not
 pub record Settles (old new : List Fate) (j : ℕ) (through : Bool) : Type 0 where
-  pub size : length new ≡ length old
-  pub here : (is_taken (fate_at new j) ≡ true) × (is_went (fate_at new j) ≡ through)
-  pub others : (k : ℕ) → k ≢ j → fate_at new k ≡ fate_at old k
+  pub fate : Fate
+  pub is : new ≡ slice_set old j fate
+  pub taken : is_taken fate ≡ true
+  pub went : is_went fate ≡ through
 
 -- the ending of a run that is over
 abbrev pub ending_of : Option First → Ending

@@ -9,7 +9,7 @@ ghost use Rattle.ae_run.specs.Course.{went, taken, fate_at, Gives, IsOnCourse, I
 
 use ae_code::Stmt;
 use ae_meaning::{Ending, Locals, RunReport, Running, Stop, run_stmt};
-use ae_text::{Items, Memory};
+use ae_text::Items;
 use std::alloc::{AllocError, Global};
 use std::mem;
 
@@ -60,7 +60,7 @@ pub struct Course {
 }
 
 // Runs a statement, and takes what it printed.
-fn run_alone(alloc: Global, stmt: &Stmt, state: &mut Running) -> Result<Outcome, Memory>
+fn run_alone(alloc: Global, stmt: &Stmt, state: &mut Running) -> Result<Outcome, AllocError>
     ensures { IfOk result (λ o. Gives (one stmt.now.at (action stmt.now.kind) (held state.old)) (env_of state.old.locals) o (held state.new)) }
 {
     match run_stmt(alloc, stmt, state) {
@@ -70,7 +70,7 @@ fn run_alone(alloc: Global, stmt: &Stmt, state: &mut Running) -> Result<Outcome,
         }
         Err(Stop::Ended(ending)) => Ok(Outcome::Ended(ending)),
         Err(Stop::Lack) => Ok(Outcome::Lacks),
-        Err(Stop::Memory) => Err(Memory),
+        Err(Stop::Memory) => Err(AllocError),
     }
 }
 
@@ -132,7 +132,7 @@ impl Course {
     }
 
     /// Runs a ready statement, or leaves it out where an ending before it is known. Says whether it went through.
-    pub fn settle(&mut self, alloc: Global, stmts: &[Stmt], j: u32) -> Result<bool, Memory>
+    pub fn settle(&mut self, alloc: Global, stmts: &[Stmt], j: u32) -> Result<bool, AllocError>
         requires within { j < length stmts.now }
         requires counted { j < length self.old.fates.items }
         requires course { IsOnCourse (lines_from stmts.now) self.old }

@@ -1,5 +1,5 @@
 // Which statements can be run.
-ghost use Rattle.std.specs.Prelude.{◌≡◌, ◌<◌, ◌≤◌, ◌+◌, ℕ, nat_eq, if◌then◌else◌, length, IfOk, OnOk, MatchOption, IsPermutation, ◌∷◌, slice_index, slice_index_or};
+ghost use Rattle.std.specs.Prelude.{◌≡◌, ◌<◌, ◌≤◌, ◌+◌, ℕ, nat_eq, if◌then◌else◌, length, IfOk, OnOk, MatchOption, IsPermutation, ◌∷◌, slice_index, slice_index_or, slice_set};
 ghost use Rattle.std.specs.BinaryHeap.{heap_items};
 ghost use Rattle.ae_graph.specs.Graph.{preds_in};
 ghost use Rattle.ae_run.specs.Queue.{times, zero_as_one, waits_of};
@@ -48,10 +48,23 @@ impl Queue {
 
     /// Takes the ready statement with the greatest number.
     pub fn take(&mut self) -> Option<u32>
-        ensures waits { self.new.waits ≡ self.old.waits }
+        ensures waits { self.new.waits.items ≡ self.old.waits.items }
         ensures ready { MatchOption result (length (heap_items self.old.ready) ≡ 0) (λ j. IsPermutation (heap_items self.old.ready) (j ∷ heap_items self.new.ready)) }
     {
         self.ready.pop()
+    }
+
+    // The statement waits for one less. Says for how many then.
+    fn lower(&mut self, j: u32) -> usize
+        requires within { j < length self.old.waits.items }
+        requires some { 1 ≤ slice_index self.old.waits.items j }
+        ensures left { result + 1 ≡ slice_index self.old.waits.items j }
+        ensures waits { self.new.waits.items ≡ slice_set self.old.waits.items j result }
+        ensures ready { self.new.ready ≡ self.old.ready }
+    {
+        let left = self.waits[j as usize] - 1;
+        self.waits[j as usize] = left;
+        left
     }
 
     /// A statement went through, and these wait for one less. Those that wait for none become ready.
@@ -62,8 +75,7 @@ impl Queue {
         ensures ready { OnOk result ((j : ℕ) → times j (heap_items self.new.ready) + zero_as_one (waits_of self.old.waits.items j) ≡ times j (heap_items self.old.ready) + zero_as_one (waits_of self.new.waits.items j)) }
     {
         for succ in succs {
-            let left = self.waits[*succ as usize] - 1;
-            self.waits[*succ as usize] = left;
+            let left = self.lower(*succ);
             self.admit(*succ, left)?;
         }
         Ok(())

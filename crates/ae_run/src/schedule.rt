@@ -4,6 +4,7 @@ ghost use Rattle.ae_code.specs.Shown.{code, lines_from};
 ghost use Rattle.ae_code.specs.Judgement.{Accepted};
 ghost use Rattle.ae_graph.specs.Graph.{IsGraph};
 ghost use Rattle.ae_meaning.specs.Meaning.{seq};
+ghost use Rattle.ae_run.specs.Course.{IsOnCourse, IsOver};
 
 use crate::course::Course;
 use crate::queue::Queue;
@@ -11,19 +12,22 @@ use ae_code::{Program, Stmt};
 use ae_graph::BlockGraph;
 use ae_meaning::RunReport;
 use ae_text::{Gate, Memory};
-use std::alloc::Global;
+use std::alloc::{AllocError, Global};
 use std::thread::Threads;
 
-// Runs the statements of a block, the greatest ready one first, until none is left that stands before an ending.
-fn run_block(alloc: Global, stmts: &[Stmt], graph: &BlockGraph, count: u32) -> Result<Course, Memory>
+// Runs the statements of a block, the greatest ready one first, until none is ready that stands before a known ending.
+fn run_block(alloc: Global, stmts: &[Stmt], graph: &BlockGraph, count: u32) -> Result<Course, AllocError>
     requires size { length graph.now ≡ count }
     requires graph { IsGraph (Some (lines_from stmts.now)) graph.now }
+    ensures course { IfOk result (IsOnCourse (lines_from stmts.now)) }
+    ensures over { IfOk result (λ c. IsOver graph.now c.fates.items) }
 {
-    let mut queue = Queue::new(alloc, graph, count).map_err(|_| Memory)?;
-    let mut course = Course::new(alloc, count).map_err(|_| Memory)?;
+    let mut queue = Queue::new(alloc, graph, count)?;
+    let mut course = Course::new(alloc, count)?;
     while let Some(j) = queue.take() {
-        if course.settle(alloc, stmts, j)? {
-            queue.release(graph.succs(j)).map_err(|_| Memory)?;
+        let through = course.settle(alloc, stmts, j)?;
+        if through {
+            queue.release(graph.succs(j))?;
         }
     }
     Ok(course)
@@ -51,6 +55,8 @@ pub fn run<G: Gate>(
     let graph = BlockGraph::of(alloc, program, 0, 0)?;
     let count = u32::try_from(graph.len()).map_err(|_| Memory)?;
     let stmts = program.methods.as_slice()[0].body.stmts.as_slice();
-    let course = run_block(alloc, stmts, &graph, count)?;
-    course.report(alloc).map_err(|_| Memory)
+    match run_block(alloc, stmts, &graph, count) {
+        Ok(course) => course.report(alloc).map_err(|_| Memory),
+        Err(_) => Err(Memory),
+    }
 }
