@@ -1,10 +1,10 @@
 -- Of what went through, all that it conflicts with before it went through.
-use Rattle.std.proofs.Common.{◌≡◌, ◌<◌, ◌≤◌, ◌+◌, ◌-◌, ℕ, zero, suc, Bool, true, false, Option, None, Some, refl, ap, sym, ◌∙◌, arith, subst}
+use Rattle.std.proofs.Common.{◌≡◌, ◌<◌, ◌≤◌, ◌+◌, ◌-◌, ℕ, zero, suc, Bool, true, false, Option, None, Some, refl, arith, subst}
 use Rattle.ae_code.specs.declared.uses.Resource.{Resource}
 use Rattle.ae_code.specs.declared.uses.Mode.{Mode}
 use Rattle.ae_code.specs.declared.uses.Mode.TheVariants.{Read, Write, GroupShared, GroupWhole}
 use Rattle.ae_code.specs.Plain.{Lines}
-use Rattle.ae_code.specs.Uses.{use_at, is_strong, are_compatible, IsConflict, IsWeak, IsEdge}
+use Rattle.ae_code.specs.Uses.{use_at, is_strong, are_compatible, IsConflict, IsWeak}
 use Rattle.ae_run.specs.Flow.{is_write, IsClosed}
 use Rattle.ae_run.proofs.Effects.{is_use}
 
@@ -114,8 +114,8 @@ conflict_step b went closed r n i k l m law c h (Nowhere none) =
       on = r;
       conflict = c;
       clear = λ x above under.
-        weak_from (use_at b x r)
-        (let e : i + 1 + (x - (i + 1)) ≡ x = omega arith in
+          weak_from (use_at b x r)
+          (let e : i + 1 + (x - (i + 1)) ≡ x = omega arith in
           subst (λ (z : ℕ). is_strong_use (use_at b z r) ≡ false) e (none (x - (i + 1)) (omega arith)));
     }) h
 

@@ -8,12 +8,12 @@ use Rattle.ae_code.specs.Shown.{action, lines_from}
 use Rattle.ae_code.specs.declared.tree.Stmt.{Stmt}
 use Rattle.ae_meaning.specs.declared.report.Ending.{Ending}
 use Rattle.ae_meaning.specs.Values.{Env, empty}
-use Rattle.ae_meaning.specs.Meaning.{State, Run, Went, Ends, Stops, one}
+use Rattle.ae_meaning.specs.Meaning.{State, Went, Ends, Stops, one}
 use Rattle.ae_meaning.proofs.Names.{same}
 use Rattle.ae_run.specs.declared.course.Fate.{Fate}
 use Rattle.ae_run.specs.declared.course.Fate.TheVariants as fate
 use Rattle.ae_run.specs.declared.course.First.{First}
-use Rattle.ae_run.specs.Flow.{alone, turn, IsClosed, HasValues, IsReady, Prints}
+use Rattle.ae_run.specs.Flow.{alone, turn, IsClosed, HasValues, IsReady}
 use Rattle.ae_run.specs.Course.{is_went, is_taken, fate_at, went, taken, IsBehind, IsAtOrBehind, IsFate, IsFirst, IsRight, Settles}
 use Rattle.ae_run.proofs.Deeds.{unprinted}
 use Rattle.ae_run.proofs.Flow.{IsWith, Stands, not_both as clash, closed_with, went_values, went_prints, ended_turn, stopped_turn, values_begin}

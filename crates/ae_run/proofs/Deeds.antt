@@ -1,12 +1,12 @@
 -- What the statements of a block do, by their numbers.
-use Rattle.std.proofs.Common.{◌≡◌, ◌<◌, ◌≤◌, ◌+◌, ℕ, zero, suc, Bool, true, false, List, [], Option, None, Some, refl, ap, sym, ◌∙◌, arith, subst}
+use Rattle.std.proofs.Common.{◌≡◌, ◌<◌, ◌≤◌, ◌+◌, ℕ, zero, suc, false, [], refl, ap, ◌∙◌, arith}
 use Rattle.ae_text.specs.declared.refusal.Spot.{Spot}
 use Rattle.ae_code.specs.declared.uses.Resource.TheVariants.{Local}
 use Rattle.ae_code.specs.Plain.{Lines, End, Next}
-use Rattle.ae_code.specs.Uses.{use_at, local_mode}
+use Rattle.ae_code.specs.Uses.{use_at}
 use Rattle.ae_meaning.specs.Values.{Env, empty}
-use Rattle.ae_meaning.specs.Meaning.{State, Run, Went, Ends, Stops, one}
-use Rattle.ae_run.specs.Flow.{alone, locals_after, found_from, found_by, turn, writes}
+use Rattle.ae_meaning.specs.Meaning.{State, one}
+use Rattle.ae_run.specs.Flow.{alone, locals_after, found_from, found_by, writes}
 use Rattle.ae_run.proofs.Effects.{Effect, Binds, Adds, Fails, Halts, SameOn, effect, perform, performs, effect_same, is_use, Allowed, allowed, moved, moved-unwritten}
 
 abbrev pub deed : Lines → ℕ → Env → Effect

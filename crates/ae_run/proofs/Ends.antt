@@ -1,13 +1,13 @@
 -- A run that is over has the ending and the output of the run in source order.
-use Rattle.std.proofs.Common.{◌≡◌, ◌<◌, ◌≤◌, ◌+◌, ◌⊎◌, inl, inr, ℕ, zero, suc, Bool, true, false, not, List, [], ◌∷◌, ◌++◌, length, take, append_assoc, Option, None, Some, IsSome, Contains, refl, ap, sym, ◌∙◌, arith, subst}
+use Rattle.std.proofs.Common.{◌≡◌, ◌<◌, ◌+◌, ◌⊎◌, inl, inr, ℕ, zero, suc, Bool, true, false, not, List, [], ◌∷◌, ◌++◌, length, take, append_assoc, Option, None, Some, IsSome, refl, ap, sym, ◌∙◌, arith, subst}
 use Rattle.std.proofs.lemmas.Bool.{cases_order}
 use Rattle.ae_text.specs.declared.refusal.Spot.{Spot}
 use Rattle.ae_code.specs.Plain.{Lines, End, Next}
 use Rattle.ae_code.specs.Limits.{count}
 use Rattle.ae_code.specs.Uses.{IsEdge}
-use Rattle.ae_graph.specs.Graph.{Graph, preds_in, IsGraph}
+use Rattle.ae_graph.specs.Graph.{Graph, IsGraph}
 use Rattle.ae_meaning.specs.declared.report.Ending.{Ending}
-use Rattle.ae_meaning.specs.declared.report.Ending.TheVariants.{Done, Trap}
+use Rattle.ae_meaning.specs.declared.report.Ending.TheVariants.{Trap}
 use Rattle.ae_meaning.specs.Values.{Env, empty, with}
 use Rattle.ae_meaning.specs.Meaning.{State, Run, Went, Ends, Stops, and_then, one, many, begin, ended}
 use Rattle.ae_run.specs.declared.course.Fate.{Fate}
@@ -60,7 +60,7 @@ many_prefix (Next at a rest) env log (f ∷ fs) (suc j) h =
     let w : one at a (state env log) ≡ Went (state (moved k env) (log ++ piece_of f)) = performs at a (state env log) ∙ perform_prints at k env log f p in
     let m : locals_after (one at a (unprinted env)) env ≡ moved k env = ap (λ r. locals_after r env) (performs at a (unprinted env)) ∙ after-perform at k env in
     let inner : (i : ℕ) → i < j → PrintsFate (alone rest i (found_from (moved k env) rest i)) (fate_at fs i) =
-        λ i l. subst (λ (e : Env). PrintsFate (alone rest i (found_from e rest i)) (fate_at fs i)) m (h (suc i) (omega arith)) in
+    λ i l. subst (λ (e : Env). PrintsFate (alone rest i (found_from e rest i)) (fate_at fs i)) m (h (suc i) (omega arith)) in
     ap (λ (x : Run). and_then x (many rest)) w
     ∙ many_prefix rest (moved k env) (log ++ piece_of f) fs j inner
     ∙ ap (λ l. many (rest_from j rest) (state (found_from (moved k env) rest j) l)) (append_assoc log (piece_of f) (pieces (take j fs)))
@@ -129,7 +129,7 @@ all_went : (b : Lines) (fs : List Fate) (known : Option First) (s : State) → I
 all_went b fs None s r f all =
     let e : rest_from (length fs) b ≡ End = ap (λ n. rest_from n b) r.size ∙ rest_over b in
     let m : many b begin ≡ Went (state (found_from empty b (length fs)) (pieces (take (length fs) fs))) =
-        before_end b fs None s r (length fs) all ∙ ap (λ (x : Lines). many x (state (found_from empty b (length fs)) (pieces (take (length fs) fs)))) e in
+    before_end b fs None s r (length fs) all ∙ ap (λ (x : Lines). many x (state (found_from empty b (length fs)) (pieces (take (length fs) fs)))) e in
     (ap (λ x. (ended x).ending) (sym m), ap (λ x. (ended x).out) (sym m))
 all_went b fs (Some first) s r f all = absurd (clash (went fs first.at) (from_not (went fs first.at) (all first.at f.0)) (stopped_not_went fs first.at f.1))
 
@@ -139,9 +139,9 @@ stopped_least : (b : Lines) (fs : List Fate) (known : Option First) (s : State) 
 stopped_least b fs None s r f d l all some (inl h) = absurd h
 stopped_least b fs (Some first) s r f d l all some (inl h) =
     let e : first.at ≡ d = elim (cases_order first.at d) [
-      inl q ↦ q
+      | inl q ↦ q
       | inr o ↦ elim o [
-        inl m ↦ absurd (clash (went fs first.at) (from_not (went fs first.at) (all first.at m)) (stopped_not_went fs first.at f.1))
+        | inl m ↦ absurd (clash (went fs first.at) (from_not (went fs first.at) (all first.at m)) (stopped_not_went fs first.at f.1))
         | inr m ↦ absurd (omega arith)
       ]
     ] in

@@ -1,5 +1,5 @@
 -- A statement all of whose predecessors went through finds what it finds in source order.
-use Rattle.std.proofs.Common.{◌≡◌, ◌≢◌, ◌<◌, ◌≤◌, ◌+◌, ◌-◌, ◌⊎◌, inl, inr, ℕ, ℤ, zero, suc, Bool, true, false, ◌||◌, if◌then◌else◌, nat_eq, List, [], ◌++◌, Option, None, Some, refl, ap, sym, ◌∙◌, arith, subst}
+use Rattle.std.proofs.Common.{◌≡◌, ◌≢◌, ◌<◌, ◌≤◌, ◌+◌, ◌-◌, ◌⊎◌, inl, inr, ℕ, ℤ, suc, Bool, true, false, ◌||◌, if◌then◌else◌, nat_eq, List, [], ◌++◌, Option, Some, refl, ap, sym, ◌∙◌, arith, subst}
 use Rattle.std.proofs.lemmas.Bool.{cases_eq, cases_order}
 use Rattle.std.proofs.lemmas.Bool.Decides.{nat_tests}
 use Rattle.ae_text.specs.declared.refusal.Spot.{Spot}
@@ -9,8 +9,8 @@ use Rattle.ae_code.specs.Uses.{use_at, IsEdge}
 use Rattle.ae_meaning.specs.declared.report.Ending.{Ending}
 use Rattle.ae_meaning.specs.declared.report.Ending.TheVariants.{Trap}
 use Rattle.ae_meaning.specs.Values.{Env, empty, with}
-use Rattle.ae_meaning.specs.Meaning.{State, Run, Went, Ends, Stops, bound}
-use Rattle.ae_run.specs.Flow.{alone, found_by, turn, is_write, writes, IsClosed, HasValues, IsReady, Prints}
+use Rattle.ae_meaning.specs.Meaning.{State, Run, Went, Ends, Stops}
+use Rattle.ae_run.specs.Flow.{alone, found_by, turn, writes, IsClosed, HasValues, IsReady, Prints}
 use Rattle.ae_run.proofs.Effects.{Effect, Binds, Adds, Fails, Halts, SameOn, perform, is_use, Allowed, moved}
 use Rattle.ae_run.proofs.Deeds.{deed, place, unprinted, alone-performs, deed-same, deed-allowed, found-next, found-unwritten}
 use Rattle.ae_run.proofs.Closed.{conflicts_closed, write_then_use, use_then_write, write_is_use}
@@ -61,14 +61,14 @@ pub agrees : (b : Lines) (went : ℕ → Bool) (j : ℕ) (env : Env) → IsClose
 agrees b went j env c r v = λ y u.
     v y j
     (λ k l w.
-      let closed : IsClosed b (also went j) = closed_with b went (also went j) j c r (record { here = also_here went j; others = also_others went j }) in
-      let n : k ≢ j = λ (q : k ≡ j). omega arith in
-      sym (also_others went j k n)
-      ∙ conflicts_closed b (also went j) closed (Local y) k j l (write_then_use (use_at b k (Local y)) (use_at b j (Local y)) w u) (also_here went j))
+    let closed : IsClosed b (also went j) = closed_with b went (also went j) j c r (record { here = also_here went j; others = also_others went j }) in
+    let n : k ≢ j = λ (q : k ≡ j). omega arith in
+    sym (also_others went j k n)
+    ∙ conflicts_closed b (also went j) closed (Local y) k j l (write_then_use (use_at b k (Local y)) (use_at b j (Local y)) w u) (also_here went j))
     (λ k l w. one_of (went k) (λ t.
-        let n : k ≢ j = not_here went k j r.left t in
-        let m : j < k = omega arith in
-        not_both (went j) (conflicts_closed b went c (Local y) j k m (use_then_write (use_at b j (Local y)) (use_at b k (Local y)) u w) t) r.left))
+    let n : k ≢ j = not_here went k j r.left t in
+    let m : j < k = omega arith in
+    not_both (went j) (conflicts_closed b went c (Local y) j k m (use_then_write (use_at b j (Local y)) (use_at b k (Local y)) u w) t) r.left))
 
 -- a local that statement j does not write
 unwritten_at : (b : Lines) (went later : ℕ → Bool) (j : ℕ) (env : Env) → IsWith went later j → HasValues b went env
@@ -85,10 +85,10 @@ written_at : (b : Lines) (went later : ℕ → Bool) (j : ℕ) → IsClosed b we
 written_at b went later j c r w y m t p l =
     let e : suc j + (m - suc j) ≡ m = omega arith in
     let none : (k : ℕ) → suc j ≤ k → k < suc j + (m - suc j) → writes b k y ≡ false = λ k above under.
-        one_of (writes b k y) (λ s.
-          let n : k ≢ j = λ (q : k ≡ j). omega arith in
-          let past : went k ≡ true = sym (w.others k n) ∙ p k (omega arith) s in
-          not_both (went j) (conflicts_closed b went c (Local y) j k (omega arith) (use_then_write (use_at b j (Local y)) (use_at b k (Local y)) (write_is_use (use_at b j (Local y)) t) s) past) r.left) in
+    one_of (writes b k y) (λ s.
+    let n : k ≢ j = λ (q : k ≡ j). omega arith in
+    let past : went k ≡ true = sym (w.others k n) ∙ p k (omega arith) s in
+    not_both (went j) (conflicts_closed b went c (Local y) j k (omega arith) (use_then_write (use_at b j (Local y)) (use_at b k (Local y)) (write_is_use (use_at b j (Local y)) t) s) past) r.left) in
     ap (λ n. found_by b n y) (sym e) ∙ found-unwritten b y (suc j) (m - suc j) none ∙ ap (λ (f : Env). f y) (found-next empty b j)
 
 hit : (t : Bool) (v : ℤ) (o p : Option ℤ) → t ≡ true → (if t then Some v else o) ≡ (if t then Some v else p)

@@ -8,3 +8,5 @@ pub mod Pieces
 pub mod Ends
 pub mod Counts
 pub mod Queues
+pub mod Programs
+pub mod Reports

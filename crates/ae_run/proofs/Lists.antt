@@ -1,7 +1,7 @@
 -- Lists: a last item, and how often a number stands in one.
-use Rattle.std.proofs.Common.{◌≡◌, ◌≢◌, ◌<◌, ◌≤◌, ◌+◌, ◌-◌, ◌⊎◌, inl, inr, ℕ, zero, suc, nat_eq, if◌then◌else◌, Bool, true, false, List, [], ◌∷◌, ◌++◌, length, get_or, take, set, get_or-set_same, get_or-set_other, IsPermutation, refl, ap, sym, ◌∙◌, arith, subst}
+use Rattle.std.proofs.Common.{◌≡◌, ◌≢◌, ◌<◌, ◌≤◌, ◌+◌, inl, inr, ℕ, zero, suc, nat_eq, if◌then◌else◌, Bool, true, false, List, [], ◌∷◌, ◌++◌, length, get_or, take, set, get_or-set_same, get_or-set_other, IsPermutation, refl, ap, sym, ◌∙◌, arith, subst}
 use Rattle.std.proofs.lemmas.List.{get_or_past, get_or_default}
-use Rattle.std.proofs.lemmas.List.Sums.{sum_by_more, sum_by_more_le, sum_by-cons}
+use Rattle.std.proofs.lemmas.List.Sums.{sum_by_more, sum_by_more_le}
 use Rattle.std.proofs.lemmas.List.Sorted.{sum_by_pushed, sum_by_popped}
 use Rattle.std.proofs.lemmas.Bool.{cases_eq}
 use Rattle.std.proofs.lemmas.Bool.Decides.{nat_tests}
@@ -36,28 +36,28 @@ pub begun_at : (ws : List ℕ) (p t u i j : ℕ) → j ≡ length ws → t ≡ z
     → u ≡ (if nat_eq j i then zero_as_one p else 0) + t → u ≡ zero_as_one (waits_of (ws ++ p ∷ []) i)
 begun_at ws p t u i j e h k =
     elim (cases_eq i j) [
-      inl q ↦
-        let w : waits_of (ws ++ p ∷ []) i ≡ p = ap (waits_of (ws ++ p ∷ [])) (q ∙ e) ∙ pushed_here ws p 1 in
-        let past : length ws ≤ i = omega arith in
-        let o : waits_of ws i ≡ 1 = get_or_past ws i 1 past in
-        let s : nat_eq j i ≡ true = subst (λ (x : ℕ). nat_eq x i ≡ true) q (same_number i) in
-        let t0 : t ≡ 0 = h ∙ ap zero_as_one o in
-        let v : u ≡ zero_as_one p + t = k ∙ ap (λ (b : Bool). (if b then zero_as_one p else 0) + t) s in
-        let z : u ≡ zero_as_one p = omega arith in
-        z ∙ ap zero_as_one (sym w)
+      | inl q ↦
+          let w : waits_of (ws ++ p ∷ []) i ≡ p = ap (waits_of (ws ++ p ∷ [])) (q ∙ e) ∙ pushed_here ws p 1 in
+          let past : length ws ≤ i = omega arith in
+          let o : waits_of ws i ≡ 1 = get_or_past ws i 1 past in
+          let s : nat_eq j i ≡ true = subst (λ (x : ℕ). nat_eq x i ≡ true) q (same_number i) in
+          let t0 : t ≡ 0 = h ∙ ap zero_as_one o in
+          let v : u ≡ zero_as_one p + t = k ∙ ap (λ (b : Bool). (if b then zero_as_one p else 0) + t) s in
+          let z : u ≡ zero_as_one p = omega arith in
+          z ∙ ap zero_as_one (sym w)
       | inr n ↦
-        let w : waits_of (ws ++ p ∷ []) i ≡ waits_of ws i = pushed_other ws p 1 i (λ (q : i ≡ length ws). n (q ∙ sym e)) in
-        let s : nat_eq j i ≡ false = other_number j i (λ q. n (sym q)) in
-        let v : u ≡ 0 + t = k ∙ ap (λ (b : Bool). (if b then zero_as_one p else 0) + t) s in
-        let z : u ≡ t = omega arith in
-        z ∙ h ∙ ap zero_as_one (sym w)
+          let w : waits_of (ws ++ p ∷ []) i ≡ waits_of ws i = pushed_other ws p 1 i (λ (q : i ≡ length ws). n (q ∙ sym e)) in
+          let s : nat_eq j i ≡ false = other_number j i (λ q. n (sym q)) in
+          let v : u ≡ 0 + t = k ∙ ap (λ (b : Bool). (if b then zero_as_one p else 0) + t) s in
+          let z : u ≡ t = omega arith in
+          z ∙ h ∙ ap zero_as_one (sym w)
     ]
 
 pub began_waits : (ws : List ℕ) (p : ℕ) (want : ℕ → ℕ) (j : ℕ) → j ≡ length ws → ((i : ℕ) → i < j → get_or ws i 0 ≡ want i) → p ≡ want j
     → (i : ℕ) → i < j + 1 → get_or (ws ++ p ∷ []) i 0 ≡ want i
 began_waits ws p want j e h q i l =
     elim (cases_eq i j) [
-      inl s ↦ ap (λ n. get_or (ws ++ p ∷ []) n 0) (s ∙ e) ∙ pushed_here ws p 0 ∙ q ∙ ap want (sym s)
+      | inl s ↦ ap (λ n. get_or (ws ++ p ∷ []) n 0) (s ∙ e) ∙ pushed_here ws p 0 ∙ q ∙ ap want (sym s)
       | inr n ↦ pushed_other ws p 0 i (λ (s : i ≡ length ws). n (s ∙ sym e)) ∙ h i (omega arith)
     ]
 
@@ -83,17 +83,17 @@ pub released_waits : (first ws xs : List ℕ) (k x left i : ℕ) → waits_of ws
 released_waits first ws xs k x left i waits l e b d =
     let m = times_more xs i k l in
     elim (cases_eq i x) [
-      inl q ↦
-        let s : nat_eq (get_or xs k 0) i ≡ true = subst (λ (y : ℕ). nat_eq y i ≡ true) (q ∙ e) (same_number i) in
-        let n : times i (take (k + 1) xs) ≡ times i (take k xs) + 1 = m ∙ ap (λ (b : Bool). times i (take k xs) + (if b then 1 else 0)) s in
-        let g : waits_of (set ws x left) i ≡ left = ap (waits_of (set ws x left)) q ∙ get_or-set_same ws x left 1 b in
-        let h : waits_of ws i ≡ left + 1 = ap (waits_of ws) q ∙ sym d in
-        omega arith
+      | inl q ↦
+          let s : nat_eq (get_or xs k 0) i ≡ true = subst (λ (y : ℕ). nat_eq y i ≡ true) (q ∙ e) (same_number i) in
+          let n : times i (take (k + 1) xs) ≡ times i (take k xs) + 1 = m ∙ ap (λ (b : Bool). times i (take k xs) + (if b then 1 else 0)) s in
+          let g : waits_of (set ws x left) i ≡ left = ap (waits_of (set ws x left)) q ∙ get_or-set_same ws x left 1 b in
+          let h : waits_of ws i ≡ left + 1 = ap (waits_of ws) q ∙ sym d in
+          omega arith
       | inr o ↦
-        let s : nat_eq (get_or xs k 0) i ≡ false = other_number (get_or xs k 0) i (λ p. o (sym p ∙ sym e)) in
-        let n : times i (take (k + 1) xs) ≡ times i (take k xs) + 0 = m ∙ ap (λ (b : Bool). times i (take k xs) + (if b then 1 else 0)) s in
-        let g : waits_of (set ws x left) i ≡ waits_of ws i = get_or-set_other ws x i left 1 o in
-        omega arith
+          let s : nat_eq (get_or xs k 0) i ≡ false = other_number (get_or xs k 0) i (λ p. o (sym p ∙ sym e)) in
+          let n : times i (take (k + 1) xs) ≡ times i (take k xs) + 0 = m ∙ ap (λ (b : Bool). times i (take k xs) + (if b then 1 else 0)) s in
+          let g : waits_of (set ws x left) i ≡ waits_of ws i = get_or-set_other ws x i left 1 o in
+          omega arith
     ]
 
 zero_of_suc : (n m : ℕ) → m + 1 ≡ n → zero_as_one n ≡ 0
@@ -104,17 +104,17 @@ pub released_ready : (ws : List ℕ) (x left i t u before zero_before : ℕ) →
     → u + zero_before ≡ before + zero_as_one (waits_of (set ws x left) i)
 released_ready ws x left i t u before zero_before b d h a =
     elim (cases_eq i x) [
-      inl q ↦
-        let s : nat_eq x i ≡ true = subst (λ (y : ℕ). nat_eq y i ≡ true) q (same_number i) in
-        let v : u ≡ zero_as_one left + t = a ∙ ap (λ (b : Bool). (if b then zero_as_one left else 0) + t) s in
-        let g : zero_as_one (waits_of (set ws x left) i) ≡ zero_as_one left = ap zero_as_one (ap (waits_of (set ws x left)) q ∙ get_or-set_same ws x left 1 b) in
-        let z : zero_as_one (waits_of ws i) ≡ 0 = ap zero_as_one (ap (waits_of ws) q) ∙ zero_of_suc (waits_of ws x) left d in
-        omega arith
+      | inl q ↦
+          let s : nat_eq x i ≡ true = subst (λ (y : ℕ). nat_eq y i ≡ true) q (same_number i) in
+          let v : u ≡ zero_as_one left + t = a ∙ ap (λ (b : Bool). (if b then zero_as_one left else 0) + t) s in
+          let g : zero_as_one (waits_of (set ws x left) i) ≡ zero_as_one left = ap zero_as_one (ap (waits_of (set ws x left)) q ∙ get_or-set_same ws x left 1 b) in
+          let z : zero_as_one (waits_of ws i) ≡ 0 = ap zero_as_one (ap (waits_of ws) q) ∙ zero_of_suc (waits_of ws x) left d in
+          omega arith
       | inr o ↦
-        let s : nat_eq x i ≡ false = other_number x i (λ p. o (sym p)) in
-        let v : u ≡ 0 + t = a ∙ ap (λ (b : Bool). (if b then zero_as_one left else 0) + t) s in
-        let g : zero_as_one (waits_of (set ws x left) i) ≡ zero_as_one (waits_of ws i) = ap zero_as_one (get_or-set_other ws x i left 1 o) in
-        omega arith
+          let s : nat_eq x i ≡ false = other_number x i (λ p. o (sym p)) in
+          let v : u ≡ 0 + t = a ∙ ap (λ (b : Bool). (if b then zero_as_one left else 0) + t) s in
+          let g : zero_as_one (waits_of (set ws x left) i) ≡ zero_as_one (waits_of ws i) = ap zero_as_one (get_or-set_other ws x i left 1 o) in
+          omega arith
     ]
 
 -- ---- heaps

@@ -1,6 +1,5 @@
 -- What statements printed, one more at a time.
 use Rattle.std.proofs.Common.{◌≡◌, ◌<◌, ◌+◌, ℕ, zero, suc, List, [], ◌∷◌, ◌++◌, length, get_or, take, append_assoc, refl, ap, sym, ◌∙◌, arith}
-use Rattle.std.proofs.Math.Seq.{take-suc}
 use Rattle.ae_run.specs.declared.course.Fate.{Fate}
 use Rattle.ae_run.specs.Course.{piece_of, pieces}
 

@@ -1,12 +1,10 @@
 -- Which statements are ready, and when none is left.
-use Rattle.std.proofs.Common.{◌≡◌, ◌≢◌, ◌<◌, ◌≤◌, ◌+◌, ◌⊎◌, inl, inr, ℕ, nat_eq, if◌then◌else◌, Bool, true, false, not, List, [], ◌∷◌, length, get_or, set, count_by, Contains, IsPermutation, Some, refl, ap, sym, ◌∙◌, arith, subst}
-use Rattle.std.proofs.Math.ListN.{length-set}
+use Rattle.std.proofs.Common.{◌≡◌, ◌≢◌, ◌<◌, ◌≤◌, ◌+◌, ◌⊎◌, inl, inr, ℕ, nat_eq, if◌then◌else◌, Bool, true, false, not, List, [], ◌∷◌, length, get_or, set, count_by, IsPermutation, Some, refl, ap, sym, ◌∙◌, arith, subst}
 use Rattle.std.proofs.lemmas.List.{get_or_past, get_or_default}
 use Rattle.std.proofs.lemmas.List.Sums.{sum_by-set}
 use Rattle.std.proofs.lemmas.Bool.{cases_eq, cases_order}
 use Rattle.std.proofs.lemmas.Bool.Decides.{nat_tests}
 use Rattle.ae_code.specs.Plain.{Lines}
-use Rattle.ae_code.specs.Uses.{IsEdge}
 use Rattle.ae_graph.specs.Graph.{Graph, preds_in, IsGraph, AreSuccs}
 use Rattle.ae_run.specs.declared.course.Fate.{Fate}
 use Rattle.ae_run.specs.declared.course.Fate.TheVariants as fate
@@ -62,9 +60,9 @@ taken_now fs waits ready rest j r p =
     let a : unit (taken fs j) ≡ 0 = omega arith in
     let z : waits_of waits j ≡ 0 = one_is_zero (waits_of waits j) (omega arith) in
     let l : j < length waits = elim (cases_order j (length waits)) [
-      inl q ↦ let past : length waits ≤ j = omega arith in let o : waits_of waits j ≡ 1 = get_or_past waits j 1 past in absurd (omega arith)
+      | inl q ↦ let past : length waits ≤ j = omega arith in let o : waits_of waits j ≡ 1 = get_or_past waits j 1 past in absurd (omega arith)
       | inr o ↦ elim o [
-        inl s ↦ s
+        | inl s ↦ s
         | inr s ↦ let past : length waits ≤ j = omega arith in let o2 : waits_of waits j ≡ 1 = get_or_past waits j 1 past in absurd (omega arith)
       ]
     ] in
@@ -86,16 +84,16 @@ taken_here : (fs gs : List Fate) (j : ℕ) (through : Bool) → j < length fs �
 taken_here fs gs j through l u s i =
     subst (λ (x : List Fate). unit (taken x i) ≡ unit (taken fs i) + unit (nat_eq j i)) (sym s.is)
     (elim (cases_eq i j) [
-        inl e ↦
+      | inl e ↦
           let a : taken (set fs j s.fate) i ≡ true = ap (taken (set fs j s.fate)) e ∙ ap is_taken (fate_here fs j s.fate l) ∙ s.taken in
           let b : taken fs i ≡ false = ap (taken fs) e ∙ u in
           let c : nat_eq j i ≡ true = subst (λ (x : ℕ). nat_eq j x ≡ true) (sym e) (same_number j) in
           ap unit a ∙ sym (ap (λ (x : Bool). unit x + unit (nat_eq j i)) b ∙ ap (λ (x : Bool). 0 + unit x) c)
-        | inr n ↦
+      | inr n ↦
           let a : unit (taken (set fs j s.fate) i) ≡ unit (taken fs i) = ap (λ x. unit (is_taken x)) (fate_other fs j s.fate i n) in
           let c : unit (nat_eq j i) ≡ 0 = ap unit (other_number j i (λ q. n (sym q))) in
           omega arith
-      ])
+    ])
 
 -- the list without the statement fits what became of it
 pub ready_rest : (fs gs : List Fate) (waits ready rest : List ℕ) (j : ℕ) (through : Bool) → j < length fs → taken fs j ≡ false
@@ -116,7 +114,7 @@ went_other fs gs j through s k n = ap (λ (x : List Fate). went x k) s.is ∙ ap
 pub waits_kept : (g : Graph) (fs gs : List Fate) (waits : List ℕ) (j : ℕ) → j < length fs → taken fs j ≡ false → Settles fs gs j false → AreWaits g (went fs) waits → AreWaits g (went gs) waits
 waits_kept g fs gs waits j l u s w =
     let same : (k : ℕ) → (k ≡ j) ⊎ (k ≢ j) → went fs k ≡ went gs k = λ k o. elim o [
-      inl e ↦ ap (went fs) e ∙ untaken_left (fate_at fs j) u ∙ sym (ap (went gs) e ∙ went_here fs gs j false l s)
+      | inl e ↦ ap (went fs) e ∙ untaken_left (fate_at fs j) u ∙ sym (ap (went gs) e ∙ went_here fs gs j false l s)
       | inr n ↦ sym (went_other fs gs j false s k n)
     ] in
     let f : went fs ≡ went gs = λ x. λ k. same k (cases_eq k j) x in
@@ -149,13 +147,13 @@ pub waits_after : (b : Lines) (g : Graph) → IsGraph (Some b) g → (fs gs : Li
 waits_after b g graph fs gs waits succs j l u s w a now n h = record {
   size = n ∙ w.size;
   counts = λ i m.
-    let e : get_or waits i 0 ≡ count_by (λ k. not (went gs k)) (preds_in g i) + times i succs = waits_before b g graph fs gs waits succs j l u s w a i m in
-    let m1 : i < length waits = subst (λ x. i < x) (sym w.size) m in
-    let m2 : i < length now = subst (λ x. i < x) (sym n) m1 in
-    let d : get_or waits i 0 ≡ waits_of waits i = get_or_default waits i 0 1 m1 in
-    let f : get_or now i 0 ≡ waits_of now i = get_or_default now i 0 1 m2 in
-    let k : waits_of now i + times i succs ≡ waits_of waits i = h i in
-    omega arith;
+      let e : get_or waits i 0 ≡ count_by (λ k. not (went gs k)) (preds_in g i) + times i succs = waits_before b g graph fs gs waits succs j l u s w a i m in
+      let m1 : i < length waits = subst (λ x. i < x) (sym w.size) m in
+      let m2 : i < length now = subst (λ x. i < x) (sym n) m1 in
+      let d : get_or waits i 0 ≡ waits_of waits i = get_or_default waits i 0 1 m1 in
+      let f : get_or now i 0 ≡ waits_of now i = get_or_default now i 0 1 m2 in
+      let k : waits_of now i + times i succs ≡ waits_of waits i = h i in
+      omega arith;
 }
 
 pub ready_after : (fs : List Fate) (waits now ready later : List ℕ) → AreReady (taken fs) waits ready

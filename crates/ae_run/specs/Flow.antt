@@ -6,7 +6,7 @@ use Rattle.ae_code.specs.declared.uses.Mode.TheVariants.{Read, Write, GroupShare
 use Rattle.ae_code.specs.Plain.{Lines, End, Next}
 use Rattle.ae_code.specs.Uses.{use_at, IsEdge}
 use Rattle.ae_meaning.specs.Values.{Env, empty}
-use Rattle.ae_meaning.specs.Meaning.{State, Run, Went, Ends, Stops, one}
+use Rattle.ae_meaning.specs.Meaning.{Run, Went, Ends, Stops, one}
 
 -- a statement alone: with these locals, and nothing printed before
 abbrev pub alone : Lines → ℕ → Env → Run

@@ -3,7 +3,7 @@ ghost use Rattle.std.specs.Prelude.{◌≡◌, ◌<◌, ◌≤◌, ℕ, length, 
 ghost use Rattle.ae_code.specs.Shown.{code, lines_from};
 ghost use Rattle.ae_code.specs.Judgement.{Accepted};
 ghost use Rattle.ae_graph.specs.Graph.{IsGraph};
-ghost use Rattle.ae_meaning.specs.Meaning.{seq};
+ghost use Rattle.ae_meaning.specs.Meaning.{many, begin, ended, seq};
 ghost use Rattle.ae_run.specs.Course.{IsOnCourse, IsOver};
 
 use crate::course::Course;
@@ -16,7 +16,12 @@ use std::alloc::{AllocError, Global};
 use std::thread::Threads;
 
 // Runs the statements of a block, the greatest ready one first, until none is ready that stands before a known ending.
-fn run_block(alloc: Global, stmts: &[Stmt], graph: &BlockGraph, count: u32) -> Result<Course, AllocError>
+fn run_block(
+    alloc: Global,
+    stmts: &[Stmt],
+    graph: &BlockGraph,
+    count: u32,
+) -> Result<Course, AllocError>
     requires size { length graph.now ≡ count }
     requires graph { IsGraph (Some (lines_from stmts.now)) graph.now }
     ensures course { IfOk result (IsOnCourse (lines_from stmts.now)) }
@@ -33,7 +38,29 @@ fn run_block(alloc: Global, stmts: &[Stmt], graph: &BlockGraph, count: u32) -> R
     Ok(course)
 }
 
-/// Runs an accepted program in another order than the written one, on one thread.
+// Runs a block that has an ending in source order, and reports that ending and what is printed before it.
+fn run_main(
+    alloc: Global,
+    stmts: &[Stmt],
+    graph: &BlockGraph,
+    count: u32,
+) -> Result<RunReport, AllocError>
+    requires size { length graph.now ≡ count }
+    requires graph { IsGraph (Some (lines_from stmts.now)) graph.now }
+    requires ends { IsSome (ended (many (lines_from stmts.now) begin)).ending }
+    ensures ending { IfOk result (λ r. Some r.ending ≡ (ended (many (lines_from stmts.now) begin)).ending) }
+    ensures out { IfOk result (λ r. r.out ≡ (ended (many (lines_from stmts.now) begin)).out) }
+{
+    let course = run_block(alloc, stmts, graph, count)?;
+    course.report(alloc)
+}
+
+/// Runs an accepted program on one thread, in another order than the written one: of the statements that can be run,
+/// the last one in the source comes first. The ending and the output are those of the written order. A statement after a
+/// known ending is left out, and a statement that ended leaves out all that wait for it.
+///
+/// The answer is `Memory` where memory is refused, or the statements of a block are more than a `u32` can number.
+/// The gate is not called yet, and `ints`, `fuel` and `workers` are not used yet.
 pub fn run<G: Gate>(
     _rt: &(impl Threads + Sync),
     alloc: Global,
@@ -55,8 +82,5 @@ pub fn run<G: Gate>(
     let graph = BlockGraph::of(alloc, program, 0, 0)?;
     let count = u32::try_from(graph.len()).map_err(|_| Memory)?;
     let stmts = program.methods.as_slice()[0].body.stmts.as_slice();
-    match run_block(alloc, stmts, &graph, count) {
-        Ok(course) => course.report(alloc).map_err(|_| Memory),
-        Err(_) => Err(Memory),
-    }
+    run_main(alloc, stmts, &graph, count).map_err(|_| Memory)
 }

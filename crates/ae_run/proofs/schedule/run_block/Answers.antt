@@ -1,4 +1,4 @@
-use Rattle.std.proofs.Common.{◌≡◌, ◌<◌, ◌≤◌, ◌+◌, ℕ, Bool, true, false, List, length, get_or, Option, None, ap, sym, subst, ◌∙◌, arith}
+use Rattle.std.proofs.Common.{◌≡◌, ◌<◌, ◌≤◌, ◌+◌, ℕ, Bool, true, false, List, length, get_or, Option, ap, sym, subst, ◌∙◌, arith}
 use Rattle.std.specs.BinaryHeap.{heap_items}
 use Rattle.ae_code.specs.Limits.{count}
 use Rattle.ae_code.specs.Shown.{lines_from}
@@ -7,7 +7,7 @@ use Rattle.ae_run.specs.declared.course.First.{First}
 use Rattle.ae_run.specs.Queue.{times, zero_as_one, waits_of, AreWaits, AreReady}
 use Rattle.ae_run.specs.Course.{IsRight, Settles, went, taken}
 use Rattle.ae_run.proofs.Courses.{fresh, count-lines}
-use Rattle.ae_run.proofs.Queues.{Taken, taken_now, ready_now, ready_rest, waits_kept, room, waits_after, ready_after, fresh_waits, fresh_ready, fewer_open, over}
+use Rattle.ae_run.proofs.Queues.{taken_now, ready_now, ready_rest, waits_kept, room, waits_after, ready_after, fresh_waits, fresh_ready, fewer_open, over}
 use Rattle.ae_run.proofs.schedule.run_block.Goals as goal
 
 pub settle-requires-clause-within : goal.settle-requires-clause-within
@@ -68,7 +68,7 @@ loop-j-init c =
     record {
       course = subst (λ (k : Option First). IsRight b fs k s) (sym c.in_ok-course.ensures.first) (fresh b fs s n c.in_ok-course.ensures.fates c.in_ok-course.ensures.locals c.in_ok-course.ensures.log);
       waits = fresh_waits c.args.graph.now fs c.in_ok-queue.queue.waits.items (c.in_ok-queue.ensures.size ∙ sym c.requires.size) c.in_ok-course.ensures.fates
-        (λ j l. c.in_ok-queue.ensures.waits j (subst (λ m. j < m) c.requires.size l));
+          (λ j l. c.in_ok-queue.ensures.waits j (subst (λ m. j < m) c.requires.size l));
       ready = fresh_ready fs c.in_ok-queue.queue.waits.items (heap_items c.in_ok-queue.queue.ready) c.in_ok-course.ensures.fates c.in_ok-queue.ensures.ready;
     }
 
@@ -103,7 +103,7 @@ loop-j-preserved c =
       course = c.in_ok-through.ensures.course;
       waits = subst (λ (xs : List ℕ). AreWaits c.args.graph.now (went gs) xs) (sym c.in-Some.ensures.waits) (waits_kept c.args.graph.now fs gs ws j l t.untaken s c.loop-j.invariant.waits);
       ready = subst (λ (xs : List ℕ). AreReady (taken gs) xs rest) (sym c.in-Some.ensures.waits)
-        (ready_rest fs gs ws ready rest j false l t.untaken c.loop-j.invariant.ready c.in-Some.ensures.ready s);
+          (ready_rest fs gs ws ready rest j false l t.untaken c.loop-j.invariant.ready c.in-Some.ensures.ready s);
     }
 
 pub loop-j-preserved-in-Continue-branch-4 : goal.loop-j-preserved-in-Continue-branch-4
@@ -124,9 +124,9 @@ loop-j-preserved-in-Continue-branch-4 c =
     record {
       course = c.in_ok-through.ensures.course;
       waits = waits_after b c.args.graph.now c.requires.graph fs gs ws c.succs.result.now j l t.untaken s c.loop-j.invariant.waits c.succs.ensures now (c.release.ensures.size ∙ ap length w)
-        (λ i. c.in_ok-release.ensures.waits i ∙ ap (λ xs. waits_of xs i) w);
+          (λ i. c.in_ok-release.ensures.waits i ∙ ap (λ xs. waits_of xs i) w);
       ready = ready_after gs ws now rest later (ready_rest fs gs ws ready rest j true l t.untaken c.loop-j.invariant.ready c.in-Some.ensures.ready s)
-        (λ i. ap (λ (xs : List ℕ). times i later + zero_as_one (waits_of xs i)) (sym w) ∙ c.in_ok-release.ensures.ready i);
+          (λ i. ap (λ (xs : List ℕ). times i later + zero_as_one (waits_of xs i)) (sym w) ∙ c.in_ok-release.ensures.ready i);
     }
 
 pub returns-clause-over : goal.returns-clause-over

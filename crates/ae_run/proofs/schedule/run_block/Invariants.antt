@@ -3,7 +3,6 @@ use Rattle.ae_code.specs.Shown.{lines_from}
 use Rattle.ae_run.specs.Queue.{AreWaits, AreReady}
 use Rattle.ae_run.specs.Course.{IsOnCourse, went, taken}
 use Rattle.ae_run.proofs.Queues.{open_count}
-use Rattle.ae_run.proofs.Ends.{finish}
 use Rattle.ae_run.proofs.schedule.run_block.Given as goal
 
 abbrev pub invariant-loop-j : goal.invariant-loop-j

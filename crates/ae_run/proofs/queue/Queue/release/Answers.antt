@@ -1,4 +1,4 @@
-use Rattle.std.proofs.Common.{◌≡◌, ◌<◌, ◌≤◌, ◌+◌, ℕ, List, length, get_or, take, set, nat_eq, if◌then◌else◌, ap, sym, ◌∙◌, arith, refl}
+use Rattle.std.proofs.Common.{◌≡◌, ◌<◌, ◌+◌, ℕ, List, length, get_or, take, set, nat_eq, if◌then◌else◌, ap, sym, ◌∙◌, refl}
 use Rattle.std.proofs.lemmas.List.{get_or_default}
 use Rattle.std.proofs.Math.ListN.{length-set}
 use Rattle.std.specs.BinaryHeap.{heap_items}
@@ -34,10 +34,10 @@ loop-succ-preserved c =
     record {
       size = ap length e ∙ length-set ws x left ∙ c.loop-succ.invariant.size;
       waits = λ i. ap (λ (ys : List ℕ). waits_of ys i + times i (take (k + 1) xs)) e
-        ∙ released_waits first ws xs k x left i (c.loop-succ.invariant.waits i) c.loop-succ-test.true refl l d;
+          ∙ released_waits first ws xs k x left i (c.loop-succ.invariant.waits i) c.loop-succ-test.true refl l d;
       ready = λ i.
-        let t : times i (heap_items c.admit.new.self.ready) ≡ (if nat_eq x i then zero_as_one left else 0) + times i (heap_items c.loop-succ.self.ready) =
-            c.in_ok-admit.ensures.ready i ∙ ap (λ h. (if nat_eq x i then zero_as_one left else 0) + times i (heap_items h)) c.lower-left.ensures.ready in
-        released_ready ws x left i (times i (heap_items c.loop-succ.self.ready)) (times i (heap_items c.admit.new.self.ready)) (times i (heap_items c.args.self.now.ready)) (zero_as_one (waits_of first i)) l d (c.loop-succ.invariant.ready i) t
-        ∙ ap (λ (ys : List ℕ). times i (heap_items c.args.self.now.ready) + zero_as_one (waits_of ys i)) (sym e);
+          let t : times i (heap_items c.admit.new.self.ready) ≡ (if nat_eq x i then zero_as_one left else 0) + times i (heap_items c.loop-succ.self.ready) =
+          c.in_ok-admit.ensures.ready i ∙ ap (λ h. (if nat_eq x i then zero_as_one left else 0) + times i (heap_items h)) c.lower-left.ensures.ready in
+          released_ready ws x left i (times i (heap_items c.loop-succ.self.ready)) (times i (heap_items c.admit.new.self.ready)) (times i (heap_items c.args.self.now.ready)) (zero_as_one (waits_of first i)) l d (c.loop-succ.invariant.ready i) t
+          ∙ ap (λ (ys : List ℕ). times i (heap_items c.args.self.now.ready) + zero_as_one (waits_of ys i)) (sym e);
     }
