@@ -1,5 +1,5 @@
 // Runs a program in source order.
-ghost use Rattle.std.specs.Prelude.{◌≡◌, ◌++◌, ◌∷◌, [], map, IfOk, OnOk, IsSome, MatchOption};
+ghost use Rattle.std.specs.Prelude.{◌≡◌, ◌≢◌, ◌++◌, ◌∷◌, [], map, IfOk, IfErr, OnOk, IsSome, MatchOption};
 ghost use Rattle.std.specs.Fmt.{signed_decimal};
 ghost use Rattle.ae_code.specs.Plain.{End};
 ghost use Rattle.ae_code.specs.Shown.{expression, right_side, action, braced, definition, code};
@@ -18,14 +18,14 @@ use std::alloc::{AllocError, Global};
 // `main` is the second name of every program.
 const MAIN: u32 = 1;
 
-// The locals, and the bytes printed so far.
+/// The locals, and the bytes printed so far.
 #[derive(Drop)]
 pub struct Running {
     pub locals: Locals,
     pub log: Vec<u8>,
 }
 
-// Why the rest is not run: the run ended, or it came to a form that does not run yet, or memory was refused.
+/// Why the rest is not run: the run ended, or it came to a form that does not run yet, or memory was refused.
 #[derive(Clone, Copy, Debug, PartialEq, Eq)]
 pub enum Stop {
     Ended(Ending),
@@ -72,10 +72,11 @@ fn print(alloc: Global, log: &mut Vec<u8>, value: i64) -> Result<(), AllocError>
     log.extend_from_slice(text.as_bytes())
 }
 
-// One statement.
+/// Runs one statement. Where it does not go through and memory was not refused, the locals stay as they were.
 #[tactic(auto, using(crate::proofs::Rules::forms))]
-fn run_stmt(alloc: Global, stmt: &Stmt, state: &mut Running) -> Result<(), Stop>
-    ensures { Answers (one stmt.now.at (action stmt.now.kind) (held state.old)) result (held state.new) }
+pub fn run_stmt(alloc: Global, stmt: &Stmt, state: &mut Running) -> Result<(), Stop>
+    ensures answer { Answers (one stmt.now.at (action stmt.now.kind) (held state.old)) result (held state.new) }
+    ensures kept { IfErr result (λ stop. stop ≢ Stop.Memory → env_of state.new.locals ≡ env_of state.old.locals) }
 {
     let at = stmt.at;
     match &stmt.kind {

@@ -1,0 +1,129 @@
+-- Of what went through, all that it conflicts with before it went through.
+use Rattle.std.proofs.Common.{◌≡◌, ◌<◌, ◌≤◌, ◌+◌, ◌-◌, ℕ, zero, suc, Bool, true, false, Option, None, Some, refl, arith, subst}
+use Rattle.ae_code.specs.declared.uses.Resource.{Resource}
+use Rattle.ae_code.specs.declared.uses.Mode.{Mode}
+use Rattle.ae_code.specs.declared.uses.Mode.TheVariants.{Read, Write, GroupShared, GroupWhole}
+use Rattle.ae_code.specs.Plain.{Lines}
+use Rattle.ae_code.specs.Uses.{use_at, is_strong, are_compatible, IsConflict, IsWeak}
+use Rattle.ae_run.specs.Flow.{is_write, IsClosed}
+use Rattle.ae_run.proofs.Effects.{is_use}
+
+-- the least number below n that passes a test, or none
+pub data Sought (q : ℕ → Bool) (n : ℕ) : Type 0 where
+  Least : (d : ℕ) → d < n → q d ≡ true → ((k : ℕ) → k < d → q k ≡ false) → Sought q n
+  Nowhere : ((k : ℕ) → k < n → q k ≡ false) → Sought q n
+
+below_more : (q : ℕ → Bool) (n : ℕ) → ((k : ℕ) → k < n → q k ≡ false) → q n ≡ false → (k : ℕ) → k < suc n → q k ≡ false
+below_more q n h e k l = grind (arith, h k)
+
+sought_more : (q : ℕ → Bool) (n : ℕ) → Sought q n → (b : Bool) → q n ≡ b → Sought q (suc n)
+sought_more q n (Least d l h m) b e = Least d (omega arith) h m
+sought_more q n (Nowhere h) true e = Least n (omega arith) e h
+sought_more q n (Nowhere h) false e = Nowhere (below_more q n h e)
+
+pub seek : (q : ℕ → Bool) (n : ℕ) → Sought q n
+seek q zero = Nowhere (λ k l. absurd (omega arith))
+seek q (suc n) = sought_more q n (seek q n) (q n) refl
+
+-- ---- uses
+
+abbrev is_strong_use : Option Mode → Bool
+is_strong_use None = false
+is_strong_use (Some m) = is_strong m
+
+weak_from : (o : Option Mode) → is_strong_use o ≡ false → IsWeak o
+weak_from None h = tt
+weak_from (Some m) h = h
+
+strong_first : (m n : Mode) → is_strong m ≡ true → are_compatible m n ≡ false
+strong_first Read n h = absurd (cc)
+strong_first Write Read h = refl
+strong_first Write Write h = refl
+strong_first Write GroupShared h = refl
+strong_first Write GroupWhole h = refl
+strong_first GroupShared n h = absurd (cc)
+strong_first GroupWhole Read h = refl
+strong_first GroupWhole Write h = refl
+strong_first GroupWhole GroupShared h = refl
+strong_first GroupWhole GroupWhole h = refl
+
+strong_second : (m n : Mode) → is_strong n ≡ true → are_compatible m n ≡ false
+strong_second m Read h = absurd (cc)
+strong_second Read Write h = refl
+strong_second Write Write h = refl
+strong_second GroupShared Write h = refl
+strong_second GroupWhole Write h = refl
+strong_second m GroupShared h = absurd (cc)
+strong_second Read GroupWhole h = refl
+strong_second Write GroupWhole h = refl
+strong_second GroupShared GroupWhole h = refl
+strong_second GroupWhole GroupWhole h = refl
+
+-- a strong use between two that conflict conflicts with both
+between_second : (o p q : Option Mode) → is_strong_use q ≡ true → IsConflict o p → IsConflict o q
+between_second None p q h c = absurd c
+between_second (Some m) None q h c = absurd c
+between_second (Some m) (Some n) None h c = absurd (cc)
+between_second (Some m) (Some n) (Some k) h c = strong_second m k h
+
+between_first : (o p q : Option Mode) → is_strong_use q ≡ true → IsConflict o p → IsConflict q p
+between_first None p q h c = absurd c
+between_first (Some m) None q h c = absurd c
+between_first (Some m) (Some n) None h c = absurd (cc)
+between_first (Some m) (Some n) (Some k) h c = strong_first k n h
+
+write_strong : (m : Mode) → is_write (Some m) ≡ true → is_strong m ≡ true
+write_strong Read h = absurd (cc)
+write_strong Write h = refl
+write_strong GroupShared h = absurd (cc)
+write_strong GroupWhole h = absurd (cc)
+
+pub write_then_use : (o p : Option Mode) → is_write o ≡ true → is_use p ≡ true → IsConflict o p
+write_then_use None p h u = absurd (cc)
+write_then_use (Some m) None h u = absurd (cc)
+write_then_use (Some m) (Some n) h u = strong_first m n (write_strong m h)
+
+pub use_then_write : (o p : Option Mode) → is_use o ≡ true → is_write p ≡ true → IsConflict o p
+use_then_write None p u h = absurd (cc)
+use_then_write (Some m) None u h = absurd (cc)
+use_then_write (Some m) (Some n) u h = strong_second m n (write_strong n h)
+
+pub write_is_use : (o : Option Mode) → is_write o ≡ true → is_use o ≡ true
+write_is_use None h = absurd (cc)
+write_is_use (Some m) h = refl
+
+-- ---- chains of edges
+
+-- statement l stands strictly between, by its distance
+strong_at : Lines → Resource → ℕ → ℕ → Bool
+strong_at b r i d = is_strong_use (use_at b (i + 1 + d) r)
+
+-- with the law at shorter distances
+conflict_step : (b : Lines) (went : ℕ → Bool) → IsClosed b went → (r : Resource) (n i k : ℕ) → i < k → k ≤ i + suc n
+    → ((i k : ℕ) → i < k → k ≤ i + n → IsConflict (use_at b i r) (use_at b k r) → went k ≡ true → went i ≡ true)
+    → IsConflict (use_at b i r) (use_at b k r) → went k ≡ true
+    → Sought (strong_at b r i) (k - (i + 1)) → went i ≡ true
+unfolding strong_at
+conflict_step b went closed r n i k l m law c h (Least d near strong first) =
+    let x = i + 1 + d in
+    let past : went x ≡ true = law x k (omega arith) (omega arith) (between_first (use_at b i r) (use_at b k r) (use_at b x r) strong c) h in
+    law i x (omega arith) (omega arith) (between_second (use_at b i r) (use_at b k r) (use_at b x r) strong c) past
+conflict_step b went closed r n i k l m law c h (Nowhere none) =
+    closed i k (record {
+      before = l;
+      on = r;
+      conflict = c;
+      clear = λ x above under.
+          weak_from (use_at b x r)
+          (let e : i + 1 + (x - (i + 1)) ≡ x = omega arith in
+          subst (λ (z : ℕ). is_strong_use (use_at b z r) ≡ false) e (none (x - (i + 1)) (omega arith)));
+    }) h
+
+conflicts_at : (b : Lines) (went : ℕ → Bool) → IsClosed b went → (r : Resource) (n i k : ℕ) → i < k → k ≤ i + n → IsConflict (use_at b i r) (use_at b k r) → went k ≡ true → went i ≡ true
+conflicts_at b went closed r zero i k l m c h = absurd (omega arith)
+conflicts_at b went closed r (suc n) i k l m c h =
+    conflict_step b went closed r n i k l m (conflicts_at b went closed r n) c h (seek (strong_at b r i) (k - (i + 1)))
+
+-- all before it that a statement that went through conflicts with went through
+pub conflicts_closed : (b : Lines) (went : ℕ → Bool) → IsClosed b went → (r : Resource) (i k : ℕ) → i < k → IsConflict (use_at b i r) (use_at b k r) → went k ≡ true → went i ≡ true
+conflicts_closed b went closed r i k l c h = conflicts_at b went closed r k i k l (omega arith) c h

@@ -1,0 +1,197 @@
+-- What a statement does, told by the locals that it uses alone.
+use Rattle.std.proofs.Common.{◌≡◌, ℕ, ℤ, Bool, true, false, ◌||◌, if◌then◌else◌, nat_eq, List, [], ◌∷◌, ◌++◌, Option, None, Some, refl, ap, ◌∙◌, arith}
+use Rattle.std.specs.Fmt.{signed_decimal}
+use Rattle.std.proofs.lemmas.Bool.Decides.{nat_tests}
+use Rattle.ae_text.specs.declared.refusal.Spot.{Spot}
+use Rattle.ae_code.specs.declared.uses.Mode.{Mode}
+use Rattle.ae_code.specs.declared.uses.Mode.TheVariants as mode
+use Rattle.ae_code.specs.Plain.{Expression, Number, Truth, Nothing, Read, Item, Length, Grouped, Negated, Minus, Binary, RightSide, Value, Taken, Zeros, Made, Returned}
+use Rattle.ae_code.specs.Plain.{Action, Declares, Assigns, Stores, StoresAt, Calls, Chooses, ChoosesElse, Repeats, Groups, Splits, Locks, Freezes, Shares, Prints, PrintsText, Asserts, Returns}
+use Rattle.ae_code.specs.Uses.{reads, reads_right, read_if, local_mode}
+use Rattle.ae_meaning.specs.declared.report.Ending.TheVariants.{Trap}
+use Rattle.ae_meaning.specs.Values.{Env, with, Outcome, Fine, Traps, Lacks, found, stepped, value}
+use Rattle.ae_meaning.specs.Meaning.{State, Run, Went, Ends, Stops, given, bound, printed, one}
+use Rattle.ae_meaning.specs.Running.{sought}
+use Rattle.ae_meaning.proofs.Rules.{right-given}
+use Rattle.ae_run.specs.Flow.{is_write}
+
+or_left : (a b : Bool) → a ≡ true → (a || b) ≡ true
+or_left true b h = refl
+or_left false b h = absurd (cc)
+
+or_right : (a b : Bool) → b ≡ true → (a || b) ≡ true
+or_right true b h = refl
+or_right false b h = h
+
+nat_eq_self : (x : ℕ) → nat_eq x x ≡ true
+nat_eq_self x = grind (arith, nat_tests)
+
+-- two environments are the same where a test holds
+abbrev pub SameOn : (ℕ → Bool) → Env → Env → Type 0
+SameOn u e f = (y : ℕ) → u y ≡ true → e y ≡ f y
+
+-- an expression's value is told by what it reads
+value_same : (a : Expression) (e f : Env) → SameOn (reads a) e f → value a e ≡ value a f
+value_same (Number n at) e f h = refl
+value_same (Truth b at) e f h = refl
+value_same (Nothing at) e f h = refl
+value_same (Read p) e f h = ap (λ o. stepped p.steps (found o)) (h p.root.name (nat_eq_self p.root.name))
+value_same (Item p a) e f h = refl
+value_same (Length p at) e f h = refl
+value_same (Grouped a at) e f h = refl
+value_same (Negated a at) e f h = refl
+value_same (Minus a at) e f h = refl
+value_same (Binary op a b) e f h =
+    let p : value a e ≡ value a f = value_same a e f (λ y r. h y (or_left (reads a y) (reads b y) r)) in
+    let q : value b e ≡ value b f = value_same b e f (λ y r. h y (or_right (reads a y) (reads b y) r)) in
+    rw (p, q) refl
+
+sought_same : (a : RightSide) (e f : Env) → SameOn (reads_right a) e f → sought a e ≡ sought a f
+sought_same (Value a) e f h = value_same a e f h
+sought_same (Taken p at) e f h = refl
+sought_same (Zeros a at) e f h = refl
+sought_same (Made c groups args at) e f h = refl
+sought_same (Returned c) e f h = refl
+
+-- a local gets a value, bytes are printed, or the run traps or stops
+pub data Effect : Type 0 where
+  Binds : ℕ → ℤ → Effect
+  Adds : List ℕ → Effect
+  Fails : ℕ → Effect
+  Halts : Effect
+
+abbrev pub perform : Spot → Effect → State → Run
+perform at (Binds x v) s = Went (bound x v s)
+perform at (Adds bytes) s = Went (record { env = s.env; log = s.log ++ bytes })
+perform at (Fails code) s = Ends (Trap code at) s.log
+perform at Halts s = Stops s.log
+
+abbrev pub doing : Outcome → (ℤ → Effect) → Effect
+doing (Fine v) go = go v
+doing (Traps code) go = Fails code
+doing Lacks go = Halts
+
+abbrev pub effect : Action → Env → Effect
+effect (Declares ty x e) env = doing (sought e env) (Binds x.name)
+effect (Assigns x e) env = doing (sought e env) (Binds x.name)
+effect (Prints e) env = doing (value e env) (λ v. Adds (signed_decimal v ++ 10 ∷ []))
+effect _ env = Halts
+
+given_performs : (o : Outcome) (at : Spot) (s : State) (go : ℤ → Run) (does : ℤ → Effect) → ((v : ℤ) → go v ≡ perform at (does v) s) → given o at s go ≡ perform at (doing o does) s
+given_performs (Fine v) at s go does h = h v
+given_performs (Traps code) at s go does h = refl
+given_performs Lacks at s go does h = refl
+
+-- a statement's run is its effect
+pub performs : (at : Spot) (a : Action) (s : State) → one at a s ≡ perform at (effect a s.env) s
+performs at (Declares ty x e) s = right-given e at s (λ v. Went (bound x.name v s)) ∙ given_performs (sought e s.env) at s (λ v. Went (bound x.name v s)) (Binds x.name) (λ v. refl)
+performs at (Assigns x e) s = right-given e at s (λ v. Went (bound x.name v s)) ∙ given_performs (sought e s.env) at s (λ v. Went (bound x.name v s)) (Binds x.name) (λ v. refl)
+performs at (Stores p e) s = refl
+performs at (StoresAt p i e) s = refl
+performs at (Calls c) s = refl
+performs at (Chooses e n b) s = refl
+performs at (ChoosesElse e n b m c) s = refl
+performs at (Repeats e n b) s = refl
+performs at (Groups g) s = refl
+performs at (Splits gs n b) s = refl
+performs at (Locks g n b) s = refl
+performs at (Freezes x) s = refl
+performs at (Shares x g) s = refl
+performs at (Prints e) s = given_performs (value e s.env) at s (λ v. Went (printed v s)) (λ v. Adds (signed_decimal v ++ 10 ∷ [])) (λ v. refl)
+performs at (PrintsText text) s = refl
+performs at (Asserts e) s = refl
+performs at (Returns e) s = refl
+
+-- a resource is used
+abbrev pub is_use : Option Mode → Bool
+is_use None = false
+is_use (Some m) = true
+
+read_used : (b : Bool) → b ≡ true → is_use (read_if b) ≡ true
+read_used true h = refl
+read_used false h = absurd (cc)
+
+either_used : (c b : Bool) → b ≡ true → is_use (if c then Some mode.Write else read_if b) ≡ true
+either_used true b h = refl
+either_used false b h = read_used b h
+
+-- the effect is told by the locals that the statement uses
+pub effect_same : (a : Action) (e f : Env) → SameOn (λ y. is_use (local_mode a y)) e f → effect a e ≡ effect a f
+effect_same (Declares ty x r) e f h = ap (λ o. doing o (Binds x.name)) (sought_same r e f (λ y t. h y (either_used (nat_eq x.name y) (reads_right r y) t)))
+effect_same (Assigns x r) e f h = ap (λ o. doing o (Binds x.name)) (sought_same r e f (λ y t. h y (either_used (nat_eq x.name y) (reads_right r y) t)))
+effect_same (Prints a) e f h = ap (λ o. doing o (λ v. Adds (signed_decimal v ++ 10 ∷ []))) (value_same a e f (λ y t. h y (read_used (reads a y) t)))
+effect_same (Stores p a) e f h = refl
+effect_same (StoresAt p i a) e f h = refl
+effect_same (Calls c) e f h = refl
+effect_same (Chooses a n b) e f h = refl
+effect_same (ChoosesElse a n b m c) e f h = refl
+effect_same (Repeats a n b) e f h = refl
+effect_same (Groups g) e f h = refl
+effect_same (Splits gs n b) e f h = refl
+effect_same (Locks g n b) e f h = refl
+effect_same (Freezes x) e f h = refl
+effect_same (Shares x g) e f h = refl
+effect_same (PrintsText text) e f h = refl
+effect_same (Asserts a) e f h = refl
+effect_same (Returns a) e f h = refl
+
+-- an effect that changes at most these locals, and where it gives one a value, exactly that one
+abbrev pub Allowed : (ℕ → Bool) → Effect → Type 0
+Allowed w (Binds x v) = (y : ℕ) → w y ≡ nat_eq x y
+Allowed w (Adds bytes) = (y : ℕ) → w y ≡ false
+Allowed w (Fails code) = Unit {0}
+Allowed w Halts = Unit {0}
+
+doing_allowed : (w : ℕ → Bool) (o : Outcome) (does : ℤ → Effect) → ((v : ℤ) → Allowed w (does v)) → Allowed w (doing o does)
+doing_allowed w (Fine v) does h = h v
+doing_allowed w (Traps code) does h = tt
+doing_allowed w Lacks does h = tt
+
+read_no_write : (b : Bool) → is_write (read_if b) ≡ false
+read_no_write true = refl
+read_no_write false = refl
+
+write_is : (c b : Bool) → is_write (if c then Some mode.Write else read_if b) ≡ c
+write_is true b = refl
+write_is false b = read_no_write b
+
+-- the locals that a statement writes
+abbrev pub written : Action → ℕ → Bool
+written a y = is_write (local_mode a y)
+
+pub allowed : (a : Action) (env : Env) → Allowed (written a) (effect a env)
+allowed (Declares ty x e) env = doing_allowed (written (Declares ty x e)) (sought e env) (Binds x.name) (λ v y. write_is (nat_eq x.name y) (reads_right e y))
+allowed (Assigns x e) env = doing_allowed (written (Assigns x e)) (sought e env) (Binds x.name) (λ v y. write_is (nat_eq x.name y) (reads_right e y))
+allowed (Prints e) env = doing_allowed (written (Prints e)) (value e env) (λ v. Adds (signed_decimal v ++ 10 ∷ [])) (λ v y. read_no_write (reads e y))
+allowed (Stores p e) env = tt
+allowed (StoresAt p i e) env = tt
+allowed (Calls c) env = tt
+allowed (Chooses e n b) env = tt
+allowed (ChoosesElse e n b m c) env = tt
+allowed (Repeats e n b) env = tt
+allowed (Groups g) env = tt
+allowed (Splits gs n b) env = tt
+allowed (Locks g n b) env = tt
+allowed (Freezes x) env = tt
+allowed (Shares x g) env = tt
+allowed (PrintsText text) env = tt
+allowed (Asserts e) env = tt
+allowed (Returns e) env = tt
+
+-- the locals after an effect
+abbrev pub moved : Effect → Env → Env
+moved (Binds x v) env = with x v env
+moved (Adds bytes) env = env
+moved (Fails code) env = env
+moved Halts env = env
+
+chosen : (b : Bool) (v : ℤ) (o : Option ℤ) → b ≡ false → (if b then Some v else o) ≡ o
+chosen true v o h = absurd (cc)
+chosen false v o h = refl
+
+-- what is not written stays
+pub moved-unwritten : (w : ℕ → Bool) (k : Effect) (env : Env) (y : ℕ) → Allowed w k → w y ≡ false → moved k env y ≡ env y
+moved-unwritten w (Binds x v) env y a h = chosen (nat_eq x y) v (env y) (rw (← a y) h)
+moved-unwritten w (Adds bytes) env y a h = refl
+moved-unwritten w (Fails code) env y a h = refl
+moved-unwritten w Halts env y a h = refl

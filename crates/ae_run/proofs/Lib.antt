@@ -1,0 +1,12 @@
+pub mod Effects
+pub mod Deeds
+pub mod Closed
+pub mod Flow
+pub mod Courses
+pub mod Lists
+pub mod Pieces
+pub mod Ends
+pub mod Counts
+pub mod Queues
+pub mod Programs
+pub mod Reports

@@ -1,0 +1,66 @@
+-- What each statement of a block finds and comes to in source order, by its number.
+use Rattle.std.specs.Prelude.{◌≡◌, ◌<◌, ◌≤◌, ℕ, zero, suc, Bool, true, false, List, [], Option, None, Some}
+use Rattle.ae_code.specs.declared.uses.Resource.TheVariants.{Local}
+use Rattle.ae_code.specs.declared.uses.Mode.{Mode}
+use Rattle.ae_code.specs.declared.uses.Mode.TheVariants.{Read, Write, GroupShared, GroupWhole}
+use Rattle.ae_code.specs.Plain.{Lines, End, Next}
+use Rattle.ae_code.specs.Uses.{use_at, IsEdge}
+use Rattle.ae_meaning.specs.Values.{Env, empty}
+use Rattle.ae_meaning.specs.Meaning.{Run, Went, Ends, Stops, one}
+
+-- a statement alone: with these locals, and nothing printed before
+abbrev pub alone : Lines → ℕ → Env → Run
+alone End j env = Stops []
+alone (Next at a rest) zero env = one at a (record { env = env; log = [] })
+alone (Next at a rest) (suc j) env = alone rest j env
+
+-- the locals after a statement; one that does not go through leaves them as they were
+abbrev pub locals_after : Run → Env → Env
+locals_after (Went s) env = s.env
+locals_after (Ends ending log) env = env
+locals_after (Stops log) env = env
+
+-- the locals that a statement finds, where the first one finds these
+abbrev pub found_from : Env → Lines → ℕ → Env
+found_from env b zero = env
+found_from env End (suc j) = env
+found_from env (Next at a rest) (suc j) = found_from (locals_after (one at a (record { env = env; log = [] })) env) rest j
+
+-- the locals that a statement finds in source order
+abbrev pub found_by : Lines → ℕ → Env
+found_by b j = found_from empty b j
+
+-- what a statement comes to in source order
+abbrev pub turn : Lines → ℕ → Run
+turn b j = alone b j (found_by b j)
+
+abbrev pub is_write : Option Mode → Bool
+is_write None = false
+is_write (Some Read) = false
+is_write (Some Write) = true
+is_write (Some GroupShared) = false
+is_write (Some GroupWhole) = false
+
+-- a statement writes this local
+abbrev pub writes : Lines → ℕ → ℕ → Bool
+writes b k y = is_write (use_at b k (Local y))
+
+-- what a statement that went through waits for went through
+abbrev pub IsClosed : Lines → (ℕ → Bool) → Type 0
+IsClosed b went = (i j : ℕ) → IsEdge b i j → went j ≡ true → went i ≡ true
+
+-- where all that write a local before statement m went through, and none from m on, the local is as statement m finds it in source order
+abbrev pub HasValues : Lines → (ℕ → Bool) → Env → Type 0
+HasValues b went env = (y m : ℕ) → ((k : ℕ) → k < m → writes b k y ≡ true → went k ≡ true)
+    → ((k : ℕ) → m ≤ k → writes b k y ≡ true → went k ≡ false) → env y ≡ found_by b m y
+
+-- a statement can be run: it did not go through, and all for which it waits did
+pub record IsReady (b : Lines) (went : ℕ → Bool) (j : ℕ) : Type 0 where
+  pub left : went j ≡ false
+  pub waits : (i : ℕ) → IsEdge b i j → went i ≡ true
+
+-- a run went through and printed these bytes
+abbrev pub Prints : Run → List ℕ → Type 0
+Prints (Went s) bytes = s.log ≡ bytes
+Prints (Ends ending log) bytes = ⊥
+Prints (Stops log) bytes = ⊥

@@ -1,0 +1,178 @@
+// What became of the statements of a block.
+ghost use Rattle.std.specs.Prelude.{◌≡◌, ◌<◌, ◌≤◌, ◌↔◌, ℕ, false, [], length, take, IfOk, OnOk, IsTrue, slice_set};
+ghost use Rattle.ae_code.specs.Shown.{action, lines_from};
+ghost use Rattle.ae_meaning.specs.Values.{empty};
+ghost use Rattle.ae_meaning.specs.Meaning.{one};
+ghost use Rattle.ae_meaning.specs.Running.{env_of, held};
+ghost use Rattle.ae_run.specs.Flow.{IsReady};
+ghost use Rattle.ae_run.specs.Course.{went, taken, fate_at, Gives, IsOnCourse, IsBehind, Settles, piece_of, pieces, ending_of, end_of};
+
+use ae_code::Stmt;
+use ae_meaning::{Ending, Locals, RunReport, Running, Stop, run_stmt};
+use ae_text::Items;
+use std::alloc::{AllocError, Global};
+use std::mem;
+
+/// What became of a statement.
+#[derive(Drop)]
+pub enum Fate {
+    /// It waits for its turn.
+    Waiting,
+    /// It went through and printed these bytes.
+    Went(Items<u8>),
+    /// It did not go through, or stands after an ending and was left out.
+    Stopped,
+}
+
+impl Fate {
+    // What the statement printed.
+    fn piece(&self) -> &[u8]
+        ensures { result.now ≡ piece_of self.now }
+    {
+        match self {
+            Fate::Went(piece) => piece.as_slice(),
+            Fate::Waiting | Fate::Stopped => &[],
+        }
+    }
+}
+
+// What came of a statement that was run.
+#[derive(Drop)]
+pub enum Outcome {
+    Went(Items<u8>),
+    Ended(Ending),
+    Lacks,
+}
+
+/// The first known ending in source order, and the number of its statement.
+#[derive(Clone, Copy, Debug)]
+pub struct First {
+    pub at: u32,
+    pub ending: Ending,
+}
+
+/// The shared locals, what became of each statement, and the first known ending.
+#[derive(Drop)]
+pub struct Course {
+    pub state: Running,
+    pub fates: Vec<Fate>,
+    pub first: Option<First>,
+}
+
+// Runs a statement, and takes what it printed.
+fn run_alone(alloc: Global, stmt: &Stmt, state: &mut Running) -> Result<Outcome, AllocError>
+    ensures { IfOk result (λ o. Gives (one stmt.now.at (action stmt.now.kind) (held state.old)) (env_of state.old.locals) o (held state.new)) }
+{
+    match run_stmt(alloc, stmt, state) {
+        Ok(()) => {
+            let piece = mem::replace(&mut state.log, Vec::new(alloc));
+            Ok(Outcome::Went(Items::from_vec(piece)))
+        }
+        Err(Stop::Ended(ending)) => Ok(Outcome::Ended(ending)),
+        Err(Stop::Lack) => Ok(Outcome::Lacks),
+        Err(Stop::Memory) => Err(AllocError),
+    }
+}
+
+// What these statements printed, in their order.
+#[tactic(auto, using(crate::proofs::Pieces::pieces_more))]
+fn printed(alloc: Global, fates: &[Fate]) -> Result<Items<u8>, AllocError>
+    ensures { IfOk result (λ out. out ≡ pieces fates.now) }
+{
+    let mut out = Vec::new(alloc);
+    for fate in fates {
+        out.extend_from_slice(fate.piece())?;
+    }
+    Ok(Items::from_vec(out))
+}
+
+impl Course {
+    /// All statements wait.
+    #[tactic(auto, using(crate::proofs::Lists::default_pushed))]
+    pub fn new(alloc: Global, count: u32) -> Result<Course, AllocError>
+        ensures size { IfOk result (λ c. length c.fates.items ≡ count) }
+        ensures fates { IfOk result (λ c. (j : ℕ) → fate_at c.fates.items j ≡ Fate.Waiting) }
+        ensures first { IfOk result (λ c. c.first ≡ None) }
+        ensures locals { IfOk result (λ c. env_of c.state.locals ≡ empty) }
+        ensures log { IfOk result (λ c. c.state.log.items ≡ []) }
+    {
+        let mut fates = Vec::new(alloc);
+        for _j in 0..count {
+            fates.push(Fate::Waiting)?;
+        }
+        let state = Running {
+            locals: Locals::new(alloc),
+            log: Vec::new(alloc),
+        };
+        Ok(Course {
+            state,
+            fates,
+            first: None,
+        })
+    }
+
+    // Whether an ending before this statement is known.
+    fn is_behind(&self, j: u32) -> bool
+        ensures { IsTrue result ↔ IsBehind self.now.first j }
+    {
+        match self.first {
+            Some(first) => first.at < j,
+            None => false,
+        }
+    }
+
+    // This has become of the statement.
+    fn set(&mut self, j: u32, fate: Fate)
+        requires { j < length self.old.fates.items }
+        ensures fates { self.new.fates.items ≡ slice_set self.old.fates.items j fate }
+        ensures first { self.new.first ≡ self.old.first }
+        ensures state { self.new.state ≡ self.old.state }
+    {
+        self.fates[j as usize] = fate;
+    }
+
+    /// Runs a ready statement, or leaves it out where an ending before it is known. Says whether it went through.
+    pub fn settle(&mut self, alloc: Global, stmts: &[Stmt], j: u32) -> Result<bool, AllocError>
+        requires within { j < length stmts.now }
+        requires counted { j < length self.old.fates.items }
+        requires course { IsOnCourse (lines_from stmts.now) self.old }
+        requires ready { IsReady (lines_from stmts.now) (went self.old.fates.items) j }
+        requires untaken { taken self.old.fates.items j ≡ false }
+        ensures course { OnOk result (IsOnCourse (lines_from stmts.now) self.new) }
+        ensures fates { IfOk result (λ through. Settles self.old.fates.items self.new.fates.items j through) }
+    {
+        if self.is_behind(j) {
+            self.set(j, Fate::Stopped);
+            return Ok(false);
+        }
+        match run_alone(alloc, &stmts[j as usize], &mut self.state)? {
+            Outcome::Went(piece) => {
+                self.set(j, Fate::Went(piece));
+                Ok(true)
+            }
+            Outcome::Ended(ending) => {
+                self.set(j, Fate::Stopped);
+                self.first = Some(First { at: j, ending });
+                Ok(false)
+            }
+            Outcome::Lacks => {
+                self.set(j, Fate::Stopped);
+                Ok(false)
+            }
+        }
+    }
+
+    /// The first ending and what the statements before it printed, in source order.
+    pub fn report(&self, alloc: Global) -> Result<RunReport, AllocError>
+        requires { end_of self.now.first (length self.now.fates.items) ≤ length self.now.fates.items }
+        ensures ending { IfOk result (λ r. r.ending ≡ ending_of self.now.first) }
+        ensures out { IfOk result (λ r. r.out ≡ pieces (take (end_of self.now.first (length self.now.fates.items)) self.now.fates.items)) }
+    {
+        let (ending, end) = match self.first {
+            Some(first) => (first.ending, first.at as usize),
+            None => (Ending::Done, self.fates.len()),
+        };
+        let out = printed(alloc, &self.fates[..end])?;
+        Ok(RunReport { ending, out })
+    }
+}

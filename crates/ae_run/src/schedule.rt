@@ -1,0 +1,86 @@
+// Runs a block from a list of ready statements.
+ghost use Rattle.std.specs.Prelude.{◌≡◌, ◌<◌, ◌≤◌, ℕ, length, IfOk, Some, IsSome};
+ghost use Rattle.ae_code.specs.Shown.{code, lines_from};
+ghost use Rattle.ae_code.specs.Judgement.{Accepted};
+ghost use Rattle.ae_graph.specs.Graph.{IsGraph};
+ghost use Rattle.ae_meaning.specs.Meaning.{many, begin, ended, seq};
+ghost use Rattle.ae_run.specs.Course.{IsOnCourse, IsOver};
+
+use crate::course::Course;
+use crate::queue::Queue;
+use ae_code::{Program, Stmt};
+use ae_graph::BlockGraph;
+use ae_meaning::RunReport;
+use ae_text::{Gate, Memory};
+use std::alloc::{AllocError, Global};
+use std::thread::Threads;
+
+// Runs the statements of a block, the greatest ready one first, until none is ready that stands before a known ending.
+fn run_block(
+    alloc: Global,
+    stmts: &[Stmt],
+    graph: &BlockGraph,
+    count: u32,
+) -> Result<Course, AllocError>
+    requires size { length graph.now ≡ count }
+    requires graph { IsGraph (Some (lines_from stmts.now)) graph.now }
+    ensures course { IfOk result (IsOnCourse (lines_from stmts.now)) }
+    ensures over { IfOk result (λ c. IsOver graph.now c.fates.items) }
+{
+    let mut queue = Queue::new(alloc, graph, count)?;
+    let mut course = Course::new(alloc, count)?;
+    while let Some(j) = queue.take() {
+        let through = course.settle(alloc, stmts, j)?;
+        if through {
+            queue.release(graph.succs(j))?;
+        }
+    }
+    Ok(course)
+}
+
+// Runs a block that has an ending in source order, and reports that ending and what is printed before it.
+fn run_main(
+    alloc: Global,
+    stmts: &[Stmt],
+    graph: &BlockGraph,
+    count: u32,
+) -> Result<RunReport, AllocError>
+    requires size { length graph.now ≡ count }
+    requires graph { IsGraph (Some (lines_from stmts.now)) graph.now }
+    requires ends { IsSome (ended (many (lines_from stmts.now) begin)).ending }
+    ensures ending { IfOk result (λ r. Some r.ending ≡ (ended (many (lines_from stmts.now) begin)).ending) }
+    ensures out { IfOk result (λ r. r.out ≡ (ended (many (lines_from stmts.now) begin)).out) }
+{
+    let course = run_block(alloc, stmts, graph, count)?;
+    course.report(alloc)
+}
+
+/// Runs an accepted program on one thread, in another order than the written one: of the statements that can be run,
+/// the last one in the source comes first. The ending and the output are those of the written order. A statement after a
+/// known ending is left out, and a statement that ended leaves out all that wait for it.
+///
+/// The answer is `Memory` where memory is refused, or the statements of a block are more than a `u32` can number.
+/// The gate is not called yet, and `ints`, `fuel` and `workers` are not used yet.
+pub fn run<G: Gate>(
+    _rt: &(impl Threads + Sync),
+    alloc: Global,
+    program: &Program,
+    ints: &[i64],
+    fuel: u32,
+    workers: u32,
+    _gate: &G,
+) -> Result<RunReport, Memory>
+    requires accepted { Accepted (code program.now) }
+    requires some_workers { 1 ≤ workers }
+    requires most_workers { workers ≤ 64 }
+    requires some_fuel { 1 ≤ fuel }
+    requires most_fuel { fuel ≤ 1000000 }
+    requires most_ints { length ints.now ≤ 100000 }
+    ensures ending { IfOk result (λ r. Some r.ending ≡ (seq (code program.now) ints.now fuel).ending) }
+    ensures out { IfOk result (λ r. r.out ≡ (seq (code program.now) ints.now fuel).out) }
+{
+    let graph = BlockGraph::of(alloc, program, 0, 0)?;
+    let count = u32::try_from(graph.len()).map_err(|_| Memory)?;
+    let stmts = program.methods.as_slice()[0].body.stmts.as_slice();
+    run_main(alloc, stmts, &graph, count).map_err(|_| Memory)
+}
