@@ -22,8 +22,13 @@ use Rattle.ae_text.specs.declared.refusal.Rule.{Rule}
 use Rattle.ae_text.specs.declared.refusal.Rule.TheVariants.{NotText, BadChar, IntTooLarge, OpenText, TooLong}
 use Rattle.aem.specs.declared.answer.What.{What}
 use Rattle.aem.specs.declared.answer.What.TheVariants as w
-use Rattle.aem.specs.Words.{usage_of}
-use Rattle.aem.specs.Top.{IsUnread, IsUnparsed, HasBody, IsWholeText, IsBroken, IsFirstBroken, IsAnswer, Caused}
+use Rattle.std.proofs.Common.{Result, Ok, Err}
+use Rattle.ae_code.specs.Built.{Built}
+use Rattle.ae_code.specs.Judgement.{Accepted, IsHeld, Verdict, Holds, Broken, then_judge, judge, judge_methods}
+use Rattle.aem.specs.declared.answer.Command.{Command}
+use Rattle.aem.specs.declared.answer.UsageKind.{UsageKind}
+use Rattle.aem.specs.Words.{command_of}
+use Rattle.aem.specs.Top.{IsUnread, IsUnparsed, HasBody, IsWholeText, IsBroken, IsFirstBroken, IsDoneFor, IsAnswer, IsDone, ByCommand, Caused}
 
 -- a fault that stands there is that of a rule of texts
 fault_broken : (r : Rule) (at : Spot) (text : List ℕ) (offset : ℕ) → LexFault text r offset → at ≡ place text offset → IsBroken r at text
@@ -71,9 +76,49 @@ first_broken TooLong at taken left whole b = absurd b
 first_broken r at taken left whole b = (whole, b)
 
 -- an answer to a whole text has its cause
-pub caused : (words : List (List ℕ)) (taken : List ℕ) (left : Option (List ℕ)) (what : What) → usage_of words ≡ None → IsWholeText taken left → IsAnswer taken what → Caused words taken left what
-caused words taken left (w.Usage kind) u t a = absurd a
-caused words taken left w.ReadFault u t a = absurd a
-caused words taken left (w.Refused r) u t a = (u, first_broken r.rule r.at taken left t a)
-caused words taken left (w.Ran report) u t a = (u, t, a)
-caused words taken left w.Memory u t a = tt
+done_whole : (command : Command) (taken : List ℕ) (left : Option (List ℕ)) (what : What) → IsWholeText taken left → IsAnswer command taken what → IsDone command taken left what
+done_whole command taken left (w.Usage kind) t a = absurd a
+done_whole command taken left w.ReadFault t a = absurd a
+done_whole command taken left (w.Refused r) t a = first_broken r.rule r.at taken left t a
+done_whole command taken left (w.Graph graph) t a = (t, a)
+done_whole command taken left (w.Ran report) t a = (t, a)
+done_whole command taken left w.Memory t a = tt
+
+-- a command's answer has its cause in the words
+by_words : (words : List (List ℕ)) (command : Command) (taken : List ℕ) (left : Option (List ℕ)) (what : What) → command_of words ≡ Ok command → IsDone command taken left what → ByCommand (command_of words) taken left what
+by_words words command taken left what e d = let P : Result Command UsageKind → Type 0 = λ r. ByCommand r taken left what in subst P (sym e) d
+
+pub done_caused : (words : List (List ℕ)) (command : Command) (taken : List ℕ) (left : Option (List ℕ)) (what : What) → command_of words ≡ Ok command → IsDone command taken left what → Caused words taken left what
+done_caused words command taken left (w.Usage kind) e d = absurd d
+done_caused words command taken left w.ReadFault e d = by_words words command taken left w.ReadFault e d
+done_caused words command taken left (w.Refused r) e d = by_words words command taken left (w.Refused r) e d
+done_caused words command taken left (w.Graph graph) e d = by_words words command taken left (w.Graph graph) e d
+done_caused words command taken left (w.Ran report) e d = by_words words command taken left (w.Ran report) e d
+done_caused words command taken left w.Memory e d = tt
+
+pub usage_caused : (words : List (List ℕ)) (kind : UsageKind) (left : Option (List ℕ)) → command_of words ≡ Err kind → Caused words [] left (w.Usage kind)
+usage_caused words kind left e = let P : Result Command UsageKind → Type 0 = λ r. ByCommand r [] left (w.Usage kind) in subst P (sym e) (refl, refl)
+
+pub caused : (words : List (List ℕ)) (command : Command) (taken : List ℕ) (left : Option (List ℕ)) (what : What) → command_of words ≡ Ok command → IsWholeText taken left → IsAnswer command taken what → Caused words taken left what
+caused words command taken left what e t a = done_caused words command taken left what e (done_whole command taken left what t a)
+
+-- what an accepted program of a text comes to answers the text
+pub answers : (command : Command) (text : List ℕ) (program : Code) (what : What) → IsSource text program → Accepted program → IsDoneFor command program what → IsAnswer command text what
+answers command text program (w.Usage kind) s a d = absurd d
+answers command text program w.ReadFault s a d = absurd d
+answers command text program (w.Refused r) s a d = absurd d
+answers command text program (w.Graph graph) s a d = (d.0, (program, s, a, d.1))
+answers command text program (w.Ran report) s a d = (d.0, (program, s, a, d.1))
+answers command text program w.Memory s a d = tt
+
+-- a built program whose one body is judged breaks no rule
+pub accepted : (p : Code) (b : Lines) → Built p → HasBody p b → IsHeld (judge b nobody) → Accepted p
+accepted p b built h held =
+    let P : List Definition → Type 0 = λ ms. IsHeld (judge_methods ms) in
+    (built, subst P (sym h.1) (held_one h.0.body (let Q : Lines → Type 0 = λ l. IsHeld (judge l nobody) in subst Q (sym h.2) held)))
+  where
+    held_then : (v : Verdict) → IsHeld v → IsHeld (then_judge v (λ s. Holds nobody))
+    held_then (Holds s) h = tt
+    held_then (Broken r at) h = absurd h
+    held_one : (l : Lines) → IsHeld (judge l nobody) → IsHeld (then_judge (judge l nobody) (λ s. Holds nobody))
+    held_one l h = held_then (judge l nobody) h

@@ -39,6 +39,7 @@ abbrev pub output : What → List ℕ
 output (w.Usage kind) = usage_text
 output w.ReadFault = []
 output (w.Refused r) = refusal_text r
+output (w.Graph text) = text
 output (w.Ran report) = report_text report
 output w.Memory = []
 
@@ -52,6 +53,7 @@ abbrev pub whole_status : What → ℕ
 whole_status (w.Usage kind) = 3
 whole_status w.ReadFault = 4
 whole_status (w.Refused r) = 2
+whole_status (w.Graph text) = 0
 whole_status (w.Ran report) = ending_status report.ending
 whole_status w.Memory = 6
 

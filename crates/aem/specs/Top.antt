@@ -1,5 +1,5 @@
 -- What the top call answers, and why.
-use Rattle.std.specs.Prelude.{◌≡◌, ℕ, ◌+◌, ◌≤◌, List, [], ◌∷◌, length, take, Option, None, Some}
+use Rattle.std.specs.Prelude.{◌≡◌, ℕ, ◌+◌, ◌≤◌, List, [], ◌∷◌, length, take, Option, None, Some, Result, Ok, Err}
 use Rattle.std.specs.Io.KnownBytes.{Consumes, IsAtEnd, Appends}
 use Rattle.ae_text.specs.declared.refusal.Spot.{Spot}
 use Rattle.ae_text.specs.declared.refusal.Rule.{Rule}
@@ -16,7 +16,11 @@ use Rattle.aem.specs.declared.answer.What.TheVariants as w
 use Rattle.ae_text.specs.declared.token.Token.{Token}
 use Rattle.ae_text.specs.Tokens.{Lexes, LexFault, place}
 use Rattle.aem.specs.Small.{IsSource, NoProgram}
-use Rattle.aem.specs.Words.{usage_of}
+use Rattle.ae_graph.specs.GraphText.{IsGraphText}
+use Rattle.aem.specs.declared.answer.Command.{Command}
+use Rattle.aem.specs.declared.answer.Command.TheVariants.{Graph, Run}
+use Rattle.aem.specs.declared.answer.UsageKind.{UsageKind}
+use Rattle.aem.specs.Words.{command_of}
 
 abbrev pub first_spot : Spot
 first_spot = record { line = 1; col = 1 }
@@ -62,21 +66,41 @@ IsUnparsed tokens d.Memory = Unit {0}
 abbrev pub IsMeant : RunReport → Code → Type 0
 IsMeant report program = (Some report.ending ≡ (seq program [] 100000).ending) × (report.out ≡ (seq program [] 100000).out)
 
--- why this is the answer to a text
-abbrev pub IsAnswer : List ℕ → What → Type 0
-IsAnswer text (w.Usage kind) = ⊥
-IsAnswer text w.ReadFault = ⊥
-IsAnswer text (w.Refused r) = IsBroken r.rule r.at text
-IsAnswer text (w.Ran report) = (program : Code) × IsSource text program × Accepted program × IsMeant report program
-IsAnswer text w.Memory = Unit {0}
+-- what an accepted program comes to
+abbrev pub IsDoneFor : Command → Code → What → Type 0
+IsDoneFor command program (w.Usage kind) = ⊥
+IsDoneFor command program w.ReadFault = ⊥
+IsDoneFor command program (w.Refused r) = ⊥
+IsDoneFor command program (w.Graph graph) = (command ≡ Graph) × IsGraphText program graph
+IsDoneFor command program (w.Ran report) = (command ≡ Run) × IsMeant report program
+IsDoneFor command program w.Memory = Unit {0}
+
+-- why this is the answer to a text: the text of the graph, or the report of a run
+abbrev pub IsAnswer : Command → List ℕ → What → Type 0
+IsAnswer command text (w.Usage kind) = ⊥
+IsAnswer command text w.ReadFault = ⊥
+IsAnswer command text (w.Refused r) = IsBroken r.rule r.at text
+IsAnswer command text (w.Graph graph) = (command ≡ Graph) × ((program : Code) × IsSource text program × Accepted program × IsGraphText program graph)
+IsAnswer command text (w.Ran report) = (command ≡ Run) × ((program : Code) × IsSource text program × Accepted program × IsMeant report program)
+IsAnswer command text w.Memory = Unit {0}
+
+-- why this is the answer to a command, where these bytes were taken and this is left
+abbrev pub IsDone : Command → List ℕ → Option (List ℕ) → What → Type 0
+IsDone command taken left (w.Usage kind) = ⊥
+IsDone command taken left w.ReadFault = length taken ≤ most
+IsDone command taken left (w.Refused r) = IsFirstBroken r.rule r.at taken left
+IsDone command taken left (w.Graph graph) = IsWholeText taken left × IsAnswer command taken (w.Graph graph)
+IsDone command taken left (w.Ran report) = IsWholeText taken left × IsAnswer command taken (w.Ran report)
+IsDone command taken left w.Memory = Unit {0}
+
+abbrev pub ByCommand : Result Command UsageKind → List ℕ → Option (List ℕ) → What → Type 0
+ByCommand (Ok command) taken left what = IsDone command taken left what
+ByCommand (Err kind) taken left what = (what ≡ w.Usage kind) × (taken ≡ [])
 
 -- why this is the answer, where these bytes were taken and this is left
 abbrev pub Caused : List (List ℕ) → List ℕ → Option (List ℕ) → What → Type 0
-Caused words taken left (w.Usage kind) = (usage_of words ≡ Some kind) × (taken ≡ [])
-Caused words taken left w.ReadFault = (usage_of words ≡ None) × (length taken ≤ most)
-Caused words taken left (w.Refused r) = (usage_of words ≡ None) × IsFirstBroken r.rule r.at taken left
-Caused words taken left (w.Ran report) = (usage_of words ≡ None) × IsWholeText taken left × IsAnswer taken (w.Ran report)
 Caused words taken left w.Memory = Unit {0}
+Caused words taken left what = ByCommand (command_of words) taken left what
 
 -- some bytes were taken, and the answer has its cause in them
 abbrev pub Answers : List (List ℕ) → Option (List ℕ) → Option (List ℕ) → What → Type 0

@@ -1,14 +1,19 @@
--- Which command words are right: exactly the one word `run`.
-use Rattle.std.specs.Prelude.{ℕ, List, [], ◌∷◌, codes, Option, None, Some, if◌then◌else◌}
+-- Which command words are right: exactly the one word `graph` or the one word `run`.
+use Rattle.std.specs.Prelude.{ℕ, List, [], ◌∷◌, codes, Result, Ok, Err, if◌then◌else◌}
 use Rattle.std.specs.Str.{bytes_eq}
+use Rattle.aem.specs.declared.answer.Command.{Command}
+use Rattle.aem.specs.declared.answer.Command.TheVariants.{Graph, Run}
 use Rattle.aem.specs.declared.answer.UsageKind.{UsageKind}
 use Rattle.aem.specs.declared.answer.UsageKind.TheVariants.{NoMode, UnknownMode, Words}
 
-abbrev pub further : List (List ℕ) → Option UsageKind
-further [] = None
-further (word ∷ words) = Some Words
+-- a mode that takes no further words
+abbrev pub alone : Command → List (List ℕ) → Result Command UsageKind
+alone command [] = Ok command
+alone command (word ∷ words) = Err Words
 
--- what is wrong with the words, if anything is
-abbrev pub usage_of : List (List ℕ) → Option UsageKind
-usage_of [] = Some NoMode
-usage_of (mode ∷ words) = if bytes_eq mode (codes "run") then further words else Some UnknownMode
+-- what the words ask for, or what is wrong with them
+abbrev pub command_of : List (List ℕ) → Result Command UsageKind
+command_of [] = Err NoMode
+command_of (mode ∷ words) =
+    if bytes_eq mode (codes "run") then alone Run words
+    else (if bytes_eq mode (codes "graph") then alone Graph words else Err UnknownMode)

@@ -1,6 +1,13 @@
 // What the top call answers.
 use ae_meaning::RunReport;
-use ae_text::Refusal;
+use ae_text::{Items, Refusal};
+
+/// What the words ask for.
+#[derive(Clone, Copy, Debug, PartialEq, Eq)]
+pub enum Command {
+    Graph,
+    Run,
+}
 
 /// What is wrong with the command words.
 #[derive(Clone, Copy, Debug, PartialEq, Eq)]
@@ -19,6 +26,7 @@ pub enum What {
     Usage(UsageKind),
     ReadFault,
     Refused(Refusal),
+    Graph(Items<u8>),
     Ran(RunReport),
     Memory,
 }

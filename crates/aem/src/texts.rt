@@ -82,6 +82,7 @@ pub fn text_of(alloc: Global, what: &What) -> Result<Items<u8>, AllocError>
             let line = refusal_line(alloc, *refusal)?;
             Items::from_slice(alloc, line.as_bytes())
         }
+        What::Graph(text) => Items::from_slice(alloc, text.as_slice()),
         What::Ran(report) => run_text(alloc, report),
         What::ReadFault | What::Memory => Ok(Items::new(alloc)),
     }
@@ -104,6 +105,7 @@ pub fn status(what: &What) -> u8
         What::Usage(_) => 3,
         What::ReadFault => 4,
         What::Refused(_) => 2,
+        What::Graph(_) => 0,
         What::Ran(report) => status_at(report.ending),
         What::Memory => 6,
     }

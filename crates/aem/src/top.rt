@@ -6,25 +6,27 @@ ghost use Rattle.ae_code.specs.Plain.{Code};
 ghost use Rattle.ae_code.specs.Shown.{code, lines_from};
 ghost use Rattle.ae_code.specs.Judgement.{Accepted};
 ghost use Rattle.ae_code.specs.Built.{Built};
-ghost use Rattle.aem.specs.Words.{usage_of};
 ghost use Rattle.aem.specs.Small.{IsProgram, IsSource};
 ghost use Rattle.aem.specs.Texts.{output, whole_status, status_of};
-ghost use Rattle.aem.specs.Top.{HasBody, IsUnread, IsUnparsed, IsMeant, IsAnswer, Answers, Wrote, IsUsage};
+ghost use Rattle.aem.specs.Top.{HasBody, IsUnread, IsUnparsed, IsDoneFor, IsAnswer, Answers, Wrote, IsUsage};
 
-use crate::answer::{Answer, What};
+use crate::answer::{Answer, Command, What};
 use crate::names::{declares_once, first_unknown};
 use crate::texts::{status, text_of};
-use crate::words::usage;
+use crate::words::command;
 use ae_code::{Program, Stmt};
-use ae_meaning::{Meant, RunReport, evaluate};
+use ae_graph::graph_text;
 use ae_parser::parse;
+use ae_run::run;
 use ae_text::{
-    Deny, Gate, Memory, ReadEnd, Refusal, Rule, Sink, Source, Spot, Token, lex, read_all, write_all,
+    Deny, Gate, ReadEnd, Refusal, Rule, Sink, Source, Spot, Token, lex, read_all, write_all,
 };
 use std::alloc::Global;
 use std::thread::Threads;
 
 const FUEL: u32 = 100_000;
+
+const WORKERS: u32 = 4;
 
 fn first_refused(rule: Rule) -> What
     ensures { result ≡ What.Refused (record { rule = rule; at = record { line = 1; col = 1 } }) }
@@ -85,23 +87,39 @@ fn read_program(alloc: Global, text: &[u8]) -> Result<Program, Deny>
     }
 }
 
-// Runs an accepted program.
-fn report_of(alloc: Global, program: &Program) -> Result<RunReport, Memory>
+// What an accepted program comes to.
+fn done<G: Gate>(
+    rt: &(impl Threads + Sync),
+    alloc: Global,
+    command: Command,
+    program: &Program,
+    gate: &G,
+) -> What
     requires { Accepted (code program.now) }
-    ensures { IfOk result (λ r. IsMeant r (code program.now)) }
+    ensures { IsDoneFor command (code program.now) result }
 {
-    let meant = evaluate(alloc, program, &[], FUEL)?;
-    let Meant { ending, out } = meant;
-    match ending {
-        Some(ending) => Ok(RunReport { ending, out }),
-        None => unreachable!(),
+    match command {
+        Command::Graph => match graph_text(alloc, program) {
+            Ok(text) => What::Graph(text),
+            Err(_) => What::Memory,
+        },
+        Command::Run => match run(rt, alloc, program, &[], FUEL, WORKERS, gate) {
+            Ok(report) => What::Ran(report),
+            Err(_) => What::Memory,
+        },
     }
 }
 
 // What a text that was read to its end comes to.
-fn answer_to(alloc: Global, text: &[u8]) -> What
+fn answer_to<G: Gate>(
+    rt: &(impl Threads + Sync),
+    alloc: Global,
+    command: Command,
+    text: &[u8],
+    gate: &G,
+) -> What
     requires { length text.now ≤ 1048576 }
-    ensures { IsAnswer text.now result }
+    ensures { IsAnswer command text.now result }
 {
     let program = match read_program(alloc, text) {
         Ok(program) => program,
@@ -109,49 +127,50 @@ fn answer_to(alloc: Global, text: &[u8]) -> What
         Err(Deny::Memory) => return What::Memory,
     };
     match first_unknown(alloc, body_of(&program)) {
-        Ok(None) => {}
-        Ok(Some(at)) => {
-            return What::Refused(Refusal {
-                rule: Rule::UnknownName,
-                at,
-            });
-        }
-        Err(_) => return What::Memory,
-    }
-    match report_of(alloc, &program) {
-        Ok(report) => What::Ran(report),
+        Ok(None) => done(rt, alloc, command, &program, gate),
+        Ok(Some(at)) => What::Refused(Refusal {
+            rule: Rule::UnknownName,
+            at,
+        }),
         Err(_) => What::Memory,
     }
 }
 
 // What the words and the source come to, before anything is written.
-fn decide<S: Source>(alloc: Global, words: &[String], source: &mut S) -> What
+fn decide<S: Source, G: Gate>(
+    rt: &(impl Threads + Sync),
+    alloc: Global,
+    words: &[String],
+    source: &mut S,
+    gate: &G,
+) -> What
     ensures answer { Answers (map string_bytes words.now) (S.left source.old) (S.left source.new) result }
     ensures later { S.faults source.old ≤ S.faults source.new }
     ensures fault { result ≡ What.ReadFault → Rose (S.faults source.old) (S.faults source.new) }
     ensures unread { IsUsage result → source.new ≡ source.old }
 {
-    if let Some(kind) = usage(words) {
-        return What::Usage(kind);
-    }
+    let command = match command(words) {
+        Ok(command) => command,
+        Err(kind) => return What::Usage(kind),
+    };
     match read_all(alloc, source) {
-        Ok(text) => answer_to(alloc, text.as_slice()),
+        Ok(text) => answer_to(rt, alloc, command, text.as_slice(), gate),
         Err(ReadEnd::ReadFault) => What::ReadFault,
         Err(ReadEnd::TooLong) => first_refused(Rule::TooLong),
         Err(ReadEnd::Memory) => What::Memory,
     }
 }
 
-/// Reads the words and the source, runs the program and writes its text. It waits for nobody.
+/// Reads the words and the source, does what they ask for and writes its text. It waits for nobody.
 ///
 /// `Memory` comes only before the first write.
 pub fn aeminium<S: Source, K: Sink, G: Gate>(
-    _rt: &(impl Threads + Sync),
+    rt: &(impl Threads + Sync),
     alloc: Global,
     words: &[String],
     source: &mut S,
     sink: &mut K,
-    _gate: &G,
+    gate: &G,
 ) -> Answer
     ensures answer { Answers (map string_bytes words.now) (S.left source.old) (S.left source.new) result.what }
     ensures unread { IsUsage result.what → source.new ≡ source.old }
@@ -163,7 +182,7 @@ pub fn aeminium<S: Source, K: Sink, G: Gate>(
     ensures cut { IfSome result.cut (λ _. Rose (K.faults sink.old) (K.faults sink.new)) }
     ensures unwritten { result.what ≡ What.Memory → sink.new ≡ sink.old }
 {
-    let what = decide(alloc, words, source);
+    let what = decide(rt, alloc, words, source, gate);
     let Ok(text) = text_of(alloc, &what) else {
         return Answer {
             status: 6,

@@ -1,22 +1,33 @@
 // The command words.
 ghost use Rattle.std.specs.Prelude.{◌≡◌, map, string_bytes};
-ghost use Rattle.aem.specs.Words.{usage_of};
+ghost use Rattle.aem.specs.Words.{alone, command_of};
 
-use crate::answer::UsageKind;
+use crate::answer::{Command, UsageKind};
 
-/// What is wrong with the words, if anything is.
-pub fn usage(words: &[String]) -> Option<UsageKind>
-    ensures { result ≡ usage_of (map string_bytes words.now) }
+// A mode that takes no further words.
+fn alone(command: Command, words: &[String]) -> Result<Command, UsageKind>
+    ensures { result ≡ alone command (map string_bytes words.now) }
+{
+    if words.is_empty() {
+        Ok(command)
+    } else {
+        Err(UsageKind::Words)
+    }
+}
+
+/// What the words ask for, or what is wrong with them.
+pub fn command(words: &[String]) -> Result<Command, UsageKind>
+    ensures { result ≡ command_of (map string_bytes words.now) }
 {
     match words {
-        [] => Some(UsageKind::NoMode),
+        [] => Err(UsageKind::NoMode),
         [mode, rest @ ..] => {
-            if mode.as_str() != "run" {
-                Some(UsageKind::UnknownMode)
-            } else if rest.is_empty() {
-                None
+            if mode.as_str() == "run" {
+                alone(Command::Run, rest)
+            } else if mode.as_str() == "graph" {
+                alone(Command::Graph, rest)
             } else {
-                Some(UsageKind::Words)
+                Err(UsageKind::UnknownMode)
             }
         }
     }

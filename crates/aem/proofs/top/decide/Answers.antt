@@ -3,11 +3,5 @@ use Rattle.aem.specs.Top.{IsAnswer}
 use Rattle.aem.proofs.Reading.{caused}
 use Rattle.aem.proofs.top.decide.Goals as goal
 
-pub returns-in-Ok-clause-answer : goal.returns-in-Ok-clause-answer
-returns-in-Ok-clause-answer g c =
-    let b = c.in-Ok.ensures.bytes in (
-      b.0,
-      b.1,
-      caused (map string_bytes c.args.words.now) b.0 (g.S.Source.left c.read_all.new.src) c.answer_to.result (sym c.usage.ensures ∙ c.in_default.is) (b.2.1, b.2.2)
-          (subst (λ (l : List ℕ). IsAnswer l c.answer_to.result) (c.as_slice.ensures ∙ b.2.0) c.answer_to.ensures),
-    )
+pub returns-in-Ok-read_all-clause-answer : goal.returns-in-Ok-read_all-clause-answer
+returns-in-Ok-read_all-clause-answer g c = ?
