@@ -13,7 +13,7 @@ use Rattle.ae_code.specs.Judgement.{nobody, and_also, all_new, DeclaresOnce}
 use Rattle.ae_text.specs.declared.refusal.Refusal.{Refusal}
 use Rattle.ae_text.specs.declared.token.Token.{Token}
 use Rattle.ae_text.specs.Tokens.{Lexes, LexFault, place}
-use Rattle.ae_text.specs.Scan.{IsDenied}
+use Rattle.ae_text.specs.Tokens.{IsDenied}
 use Rattle.ae_parser.specs.Denied.{IsDenied as ParserDenies}
 use Rattle.aem.specs.Small.{IsSource, IsProgram}
 use Rattle.std.proofs.Common.{Option, None}
@@ -120,5 +120,6 @@ accepted p b built h held =
     held_then : (v : Verdict) → IsHeld v → IsHeld (then_judge v (λ s. Holds nobody))
     held_then (Holds s) h = tt
     held_then (Broken r at) h = absurd h
+
     held_one : (l : Lines) → IsHeld (judge l nobody) → IsHeld (then_judge (judge l nobody) (λ s. Holds nobody))
     held_one l h = held_then (judge l nobody) h

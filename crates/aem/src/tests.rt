@@ -41,7 +41,19 @@ fn source_of(
     Ok(MemSource::new(bytes, most, Items::from_slice(alloc, fail)?))
 }
 
-const CASES: [Case; 14] = [
+const CASES: [Case; 16] = [
+    Case {
+        words: &["graph"],
+        source: SUM,
+        text: "method main\nblock 0 has 3\n2 after 0 1\n",
+        status: 0,
+    },
+    Case {
+        words: &["run"],
+        source: "method void main() with exclusive io { let int a = 1; let int b = a / 0; print a; let int c = 1 % 0; }",
+        text: "== trap 2 at 1:55\n",
+        status: 1,
+    },
     Case {
         words: &["run"],
         source: SUM,

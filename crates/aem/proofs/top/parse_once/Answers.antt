@@ -8,6 +8,9 @@ returns-in-Err-clause-refused c =
     refused_none c.args.tokens.now c.in-Err.deny c.in-Err.ensures.refused (λ p s. c.in-Err.ensures.only p s.derives s.within)
 
 pub returns-in-Ok-false-clause-refused : goal.returns-in-Ok-false-clause-refused
-returns-in-Ok-false-clause-refused c = (refl, λ p s.
-    not_once (code c.in-Ok.program) p (lines_from c.body_of.result.now) c.body_of.ensures (c.in-Ok.ensures.only p s.derives s.within)
-    (sym c.in-Ok-false.field-0-test ∙ c.in-Ok-false.ensures) s.once)
+returns-in-Ok-false-clause-refused c = (
+  refl,
+  λ p s.
+      not_once (code c.in-Ok.program) p (lines_from c.body_of.result.now) c.body_of.ensures (c.in-Ok.ensures.only p s.derives s.within)
+      (sym c.in-Ok-false.field-0-test ∙ c.in-Ok-false.ensures) s.once,
+)
