@@ -49,6 +49,7 @@ pub enum Rule {
     GroupTwice,
     GroupEscapes,
     NestedAtomic,
+    NotBuilt,
 }
 
 impl Rule {
@@ -94,6 +95,7 @@ impl Rule {
             Rule::GroupTwice => "G6 GroupTwice",
             Rule::GroupEscapes => "G7 GroupEscapes",
             Rule::NestedAtomic => "G8 NestedAtomic",
+            Rule::NotBuilt => "U1 NotBuilt",
         }
     }
 }
