@@ -1,5 +1,5 @@
 -- What is written and what is left, one step further.
-use Rattle.std.proofs.Common.{◌≡◌, ℕ, suc, ◌+◌, ◌<◌, ◌++◌, true, false, List, [], ◌∷◌, length, drop, get_or, slice_get, Option, sym, ◌∙◌, ap, append_assoc, append-nil, add-one, drop-cons}
+use Rattle.std.proofs.Common.{◌≡◌, ℕ, ◌+◌, ◌<◌, ◌++◌, List, [], ◌∷◌, length, drop, get_or, slice_get, sym, ◌∙◌, ap, append_assoc, append-nil, add-one, drop-cons}
 use Rattle.ae_text.specs.Tokens.{Text}
 use Rattle.ae_text.specs.declared.token.Keyword.TheVariants as word
 use Rattle.ae_text.specs.declared.token.Sign.TheVariants as sign

@@ -1,11 +1,11 @@
 -- Which programs are accepted, and which rule another one breaks first.
 -- Each form has its premises in order; the forms that are not built yet have none.
-use Rattle.std.specs.Prelude.{◌≡◌, ℕ, Bool, true, false, nat_eq, ◌||◌, ◌&&◌, not, IsTrue, if◌then◌else◌, List, [], ◌∷◌, Option, None, Some}
+use Rattle.std.specs.Prelude.{◌≡◌, ℕ, Bool, false, nat_eq, ◌||◌, if◌then◌else◌, List, [], ◌∷◌}
 use Rattle.ae_text.specs.declared.refusal.Spot.{Spot}
 use Rattle.ae_text.specs.declared.refusal.Rule.{Rule}
 use Rattle.ae_text.specs.declared.refusal.Rule.TheVariants as rule
 use Rattle.ae_code.specs.Plain.{Expression, Number, Truth, Nothing, Read, Item, Length, Grouped, Negated, Minus, Binary, RightSide, Value, Taken, Zeros, Made, Returned, Lines, End, Next, Definition, Code}
-use Rattle.ae_code.specs.Plain.{Action, Declares, Assigns, Stores, StoresAt, Calls, Chooses, ChoosesElse, Repeats, Groups, Splits, Locks, Freezes, Shares, Prints, PrintsText, Asserts, Returns}
+use Rattle.ae_code.specs.Plain.{Action, Declares, Assigns, Prints}
 use Rattle.ae_code.specs.Names.{io}
 use Rattle.ae_code.specs.Built.{Built}
 
@@ -33,6 +33,10 @@ then_judge (Broken rule at) next = Broken rule at
 abbrev pub visible : ℕ → Spot → Scope → Verdict
 visible x at scope = if scope x then Holds scope else Broken rule.UnknownName at
 
+-- a name may be declared: no local of that name is visible, and it is not the known group `io`
+abbrev pub free : ℕ → Spot → Scope → Verdict
+free x at scope = if nat_eq io x || scope x then Broken rule.DuplicateLocal at else Holds scope
+
 -- the names of an expression are visible, from left to right
 abbrev pub judge_expression : Expression → Scope → Verdict
 judge_expression (Number n at) scope = Holds scope
@@ -53,9 +57,9 @@ judge_right (Zeros e at) scope = Holds scope
 judge_right (Made c groups args at) scope = Holds scope
 judge_right (Returned c) scope = Holds scope
 
--- a statement: `let` makes its name visible behind it, an assigned name is visible before it
+-- a statement: the name of a `let` is free before it and visible behind it, an assigned name is visible before it
 abbrev pub judge_action : Action → Scope → Verdict
-judge_action (Declares ty x e) scope = then_judge (judge_right e scope) (λ s. Holds (and_also x.name s))
+judge_action (Declares ty x e) scope = then_judge (free x.name x.at scope) (λ s. then_judge (judge_right e s) (λ t. Holds (and_also x.name t)))
 judge_action (Assigns x e) scope = then_judge (visible x.name x.at scope) (judge_right e)
 judge_action (Prints e) scope = judge_expression e scope
 judge_action _ scope = Holds scope
@@ -80,22 +84,3 @@ Accepted p = Built p × IsHeld (judge_methods p.methods)
 -- the program breaks this rule first, there
 abbrev pub Breaks : Code → Rule → Spot → Type 0
 Breaks p rule at = judge_methods p.methods ≡ Broken rule at
-
--- ---- what a small source has besides
-
-abbrev pub is_new : Action → Scope → Bool
-is_new (Declares ty x e) old = not (old x.name)
-is_new _ old = true
-
-abbrev pub with_declared : Action → Scope → Scope
-with_declared (Declares ty x e) old = and_also x.name old
-with_declared _ old = old
-
--- each `let` declares a name that is new
-abbrev pub all_new : Lines → Scope → Bool
-all_new End old = true
-all_new (Next at a rest) old = is_new a old && all_new rest (with_declared a old)
-
--- no name is declared twice, and none is `io`
-abbrev pub DeclaresOnce : Lines → Type 0
-DeclaresOnce b = IsTrue (all_new b (and_also io nobody))

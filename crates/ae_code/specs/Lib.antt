@@ -3,6 +3,7 @@ pub mod Shown
 pub mod Names
 pub mod Grammar
 pub mod Limits
+pub mod Refused
 pub mod Built
 pub mod Judgement
 pub mod Uses

@@ -16,6 +16,9 @@ io = 0
 abbrev pub main : ℕ
 main = 1
 
+abbrev pub this : ℕ
+this = 2
+
 abbrev pub first_names : List (List ℕ)
 first_names = codes "io" ∷ codes "main" ∷ codes "this" ∷ []
 

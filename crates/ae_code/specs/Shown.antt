@@ -16,7 +16,7 @@ use Rattle.ae_code.specs.declared.tree.StmtKind.{StmtKind, fold-StmtKind, fold-r
 use Rattle.ae_code.specs.declared.tree.StmtKind.TheVariants as s
 use Rattle.ae_code.specs.declared.tree.StmtKind.TheOpen as so
 use Rattle.ae_code.specs.declared.tree.Stmt.{Stmt}
-use Rattle.ae_code.specs.declared.tree.StmtKind.TheFolds.{fold-Stmt, fold-roll-Stmt, fold_out-Stmt}
+use Rattle.ae_code.specs.declared.tree.StmtKind.TheFolds.{fold-Stmt, fold-roll-Stmt}
 use Rattle.ae_code.specs.declared.tree.Block.{Block, out-Block, roll-Block, fold-Block, fold_out-Block, fold-roll-Block}
 use Rattle.ae_code.specs.declared.tree.Method.{Method}
 use Rattle.ae_code.specs.declared.tree.Program.{Program}

@@ -3,6 +3,7 @@
 
 mod form;
 mod lexeme;
+mod limits;
 mod print_decl;
 mod print_expr;
 mod print_stmt;
@@ -14,6 +15,7 @@ mod uses;
 
 pub use form::{Form, Kind, Perm};
 pub use lexeme::{Lexeme, Lexical};
+pub use limits::Limit;
 pub use print_decl::print_program;
 pub use table::{ClassTable, Member};
 pub use tree::{
