@@ -1,0 +1,4 @@
+pub mod FirstLemmas
+pub mod PartLemmas
+pub mod TypeLemmas
+pub mod UniqueTypes
