@@ -1,0 +1,361 @@
+-- Right sides that begin with a word of their own: `take` and `new`.
+use Rattle.std.proofs.Common.{◌≡◌, ℕ, ◌++◌, List, [], ◌∷◌, length, inl, Option, Some, None, refl, sym, ap, ◌∙◌, append_assoc, append-nil, subst, Result, Err, Bor}
+use Rattle.ae_text.specs.declared.refusal.Spot.{Spot}
+use Rattle.ae_text.specs.declared.token.Keyword.TheVariants as word
+use Rattle.ae_text.specs.declared.token.Sign.TheVariants as sign
+use Rattle.ae_code.specs.declared.lexeme.Lexeme.{Lexeme}
+use Rattle.ae_code.specs.declared.lexeme.Lexical.{Lexical}
+use Rattle.ae_code.specs.declared.lexeme.Lexical.TheVariants as tok
+use Rattle.ae_code.specs.declared.limits.Limit.{Limit}
+use Rattle.ae_code.specs.declared.tree.NameAt.{NameAt}
+use Rattle.ae_code.specs.declared.tree.Path.{Path}
+use Rattle.ae_code.specs.Plain.{Expression, Invocation, RightSide, Value, Taken, Zeros, Made, Returned}
+use Rattle.ae_code.specs.Grammar.{Tokens, ◌⨾◌, one, one_at, name, step, path, whole, call, right_side}
+use Rattle.ae_code.specs.Limits.{Keeps, KeepsRight}
+use Rattle.ae_code.specs.Refused.{AreKnown}
+use Rattle.ae_reading.specs.declared.fail.Fail.{Fail}
+use Rattle.ae_reading.specs.declared.fail.Fail.TheVariants.{Refused}
+use Rattle.ae_reading.specs.declared.fail.Why.{Why}
+use Rattle.ae_reading.specs.declared.fail.Why.TheVariants.{Unexpected, Over}
+use Rattle.ae_reading.specs.Reads.{head, Always, Free, Is, Isnt, IsName, Took, Stopped, Failed, Beyond, Token, Reads, itself}
+use Rattle.ae_reading.proofs.ReadsLemmas.{Lang, Both, Pair, Limits, Has, Along, AreKnown-append, lead_here, none_back, failed_by, took_as, stopped_as, nowhere, io_name, each-append, each-one}
+use Rattle.ae_reading.proofs.UniqueLemmas.{not_both}
+use Rattle.ae_statements.specs.Productions.{ended, member, sized, filled, made, called, KeepsCalled}
+use Rattle.ae_statements.specs.Deciding.{IsPlain}
+use Rattle.ae_statements.proofs.ShapeLemmas.{Dep, DepLinks, HasEach, took_dep, dep_first, dep_second, Lets, Pre, Suf, has_pre, has_suf, has_whole}
+use Rattle.ae_statements.proofs.CallLemmas.{none_within}
+use Rattle.ae_statements.proofs.UniqueRightSides.{joined}
+use Rattle.ae_statements.proofs.SideLemmas.{Dot, call_elim, path_plain}
+use Rattle.ae_statements.proofs.SplitLemmas.{sign_at, io_at, closing, closing_known, called_none, pushed}
+use Rattle.ae_statements.proofs.ReturnedLemmas.{counts_all}
+use Rattle.ae_statements.proofs.ValueLemmas.{value_plain}
+
+-- ---- sequences, grouped otherwise
+
+pub to_right : {p q s : Tokens → Type 0} (us : Tokens) → ((p ⨾ q) ⨾ s) us → (p ⨾ (q ⨾ s)) us
+to_right us d = record {
+  front = d.first.front;
+  back = d.first.back ++ d.back;
+  parts = d.parts ∙ ap (λ l. l ++ d.back) d.first.parts ∙ append_assoc d.first.front d.first.back d.back;
+  first = d.first.first;
+  second = record { front = d.first.back; back = d.back; parts = refl; first = d.first.second; second = d.second };
+}
+
+pub to_left : {p q s : Tokens → Type 0} (us : Tokens) → (p ⨾ (q ⨾ s)) us → ((p ⨾ q) ⨾ s) us
+to_left us d =
+    let e = d.second in
+    record {
+      front = d.front ++ e.front;
+      back = e.back;
+      parts = d.parts ∙ ap (λ l. d.front ++ l) e.parts ∙ sym (append_assoc d.front e.front e.back);
+      first = record { front = d.front; back = e.front; parts = refl; first = d.first; second = e.first };
+      second = e.second;
+    }
+
+pub behind : {p q s : Tokens → Type 0} (us : Tokens) → ((vs : Tokens) → q vs → s vs) → (p ⨾ q) us → (p ⨾ s) us
+behind us f d = record { front = d.front; back = d.back; parts = d.parts; first = d.first; second = f d.back d.second }
+
+-- ---- paths with a step
+
+io_step : step io_name (sign_at sign.Dot ∷ io_at ∷ [])
+io_step = record { front = sign_at sign.Dot ∷ []; back = io_at ∷ []; parts = refl; first = (nowhere, refl); second = refl }
+
+abbrev io_text : Tokens
+io_text = sign_at sign.Dot ∷ io_at ∷ []
+
+longer : (p : Path) (us vs : Tokens) → path p (us ++ vs) → member (pushed p io_name) (us ++ (vs ++ io_text))
+longer p us vs d = (
+  not_nil p.steps,
+  record {
+    front = d.front;
+    back = d.back ++ io_text;
+    parts = sym (append_assoc us vs io_text) ∙ ap (λ l. l ++ io_text) d.parts ∙ append_assoc d.front d.back io_text;
+    first = d.first;
+    second = each-append step p.steps (io_name ∷ []) d.back io_text d.second (each-one step io_name io_text io_step);
+  },
+)
+  where
+    not_nil : (xs : List NameAt) → xs ++ io_name ∷ [] ≡ [] → ⊥
+    not_nil [] e = cc
+    not_nil (x ∷ xs) e = cc
+
+io_known : AreKnown io_text
+io_known = (tt, (refl, tt))
+
+pub member_took : (ts rest : Tokens) (p : Path) → (p.steps ≡ [] → ⊥) → Took path Free (Isnt (tok.Sign sign.Dot)) ts p rest → Took member Free (Isnt (tok.Sign sign.Dot)) ts p rest
+member_took ts rest p some t = record {
+  taken = t.taken;
+  whole = t.whole;
+  derives = (some, t.derives);
+  within = λ l. tt;
+  no_end = t.no_end;
+  only = λ y us r other d e h f. t.only y us r other d.1 e h f;
+}
+
+-- no step comes next
+pub member_short : (ts rest : Tokens) (p : Path) → p.steps ≡ [] → Took path Free (Isnt (tok.Sign sign.Dot)) ts p rest → Stopped member Free (Isnt (tok.Sign sign.Dot)) ts Unexpected (length rest)
+member_short ts rest p none t =
+    let P : Tokens → Type 0 = path p in
+    let goes : member (pushed p io_name) (t.taken ++ io_text) = longer p t.taken [] (subst P (sym (append-nil t.taken)) t.derives) in
+    record {
+      before = t.taken;
+      rest = rest;
+      whole = t.whole;
+      back = 0;
+      left_is = none_back (length rest);
+      placed = refl;
+      tree = pushed p io_name;
+      more = io_text;
+      goes = goes;
+      known = io_known;
+      within = λ l. tt;
+      lead = lead_here t.taken (pushed p io_name) io_text goes io_known (λ l. tt);
+      no_end = t.no_end;
+      stuck = λ y us r other d e h f w.
+          let o = t.only y us r other d.1 e h f in
+          d.0 (ap (λ (q : Path). q.steps) o.0 ∙ none);
+      beyond = tt;
+    }
+
+pub member_refused : (ts rest : Tokens) (p : Path) (r : Result (Path × Bor Tokens) Fail) → r ≡ Err (Refused Unexpected (length rest)) → p.steps ≡ [] → Took path Free (Isnt (tok.Sign sign.Dot)) ts p rest → Reads itself member Free (Isnt (tok.Sign sign.Dot)) ts r
+member_refused ts rest p r e none t =
+    let P : Result (Path × Bor Tokens) Fail → Type 0 = Reads itself member Free (Isnt (tok.Sign sign.Dot)) ts in
+    subst P (sym e) (record { why = member_short ts rest p none t })
+
+member_beyond : (before rest : Tokens) (why : Why) → Beyond path before rest why → Beyond member before rest why
+member_beyond before rest Unexpected b = tt
+member_beyond before rest (Over l) b = record {
+  next = b.next;
+  later = b.later;
+  rest_is = b.rest_is;
+  tree = pushed b.tree io_name;
+  after = b.after ++ io_text;
+  goes_on = longer b.tree before (b.next ∷ b.after) b.goes_on;
+  known = AreKnown-append b.after io_text b.known io_known;
+  passes = b.passes;
+}
+
+member_stopped : (ts : Tokens) (why : Why) (left : ℕ) → Stopped path Free (Isnt (tok.Sign sign.Dot)) ts why left → Stopped member Free (Isnt (tok.Sign sign.Dot)) ts why left
+member_stopped ts why left u = record {
+  before = u.before;
+  rest = u.rest;
+  whole = u.whole;
+  back = u.back;
+  left_is = u.left_is;
+  placed = u.placed;
+  tree = pushed u.tree io_name;
+  more = u.more ++ io_text;
+  goes = longer u.tree u.before u.more u.goes;
+  known = AreKnown-append u.more io_text u.known io_known;
+  within = λ l. tt;
+  lead = record {
+    start = u.lead.start;
+    ahead = u.lead.ahead;
+    parts = u.lead.parts;
+    leads = u.lead.leads;
+    tree = pushed u.lead.tree io_name;
+    more = u.lead.more ++ io_text;
+    goes = longer u.lead.tree u.lead.start u.lead.more u.lead.goes;
+    known = AreKnown-append u.lead.more io_text u.lead.known io_known;
+    within = λ l. tt;
+  };
+  no_end = u.no_end;
+  stuck = λ y us r other d e h f w. u.stuck y us r other d.1 e h f (counts_all why (λ l. tt));
+  beyond = member_beyond u.before u.rest why u.beyond;
+}
+
+pub member_failed : (ts : Tokens) (e : Fail) → Failed path Free (Isnt (tok.Sign sign.Dot)) ts e → Failed member Free (Isnt (tok.Sign sign.Dot)) ts e
+member_failed ts e f = failed_by (λ why left s. member_stopped ts why left s) f
+
+pub has_member : Has member Free
+has_member = record {
+  tree = pushed (record { root = io_name; steps = [] }) io_name;
+  tokens = io_at ∷ io_text;
+  is = longer (record { root = io_name; steps = [] }) (io_at ∷ []) [] (record { front = io_at ∷ []; back = []; parts = refl; first = inl refl; second = refl });
+  known = (refl, io_known);
+  within = λ l. tt;
+}
+
+pub ended_member : Has (ended member) Free
+ended_member = has_suf (tok.Sign sign.Semicolon) member tt has_member
+
+pub no_dot : Lets (tok.Sign sign.Semicolon) (Isnt (tok.Sign sign.Dot))
+no_dot t e = λ i. let h : tok.Sign sign.Semicolon ≡ Dot = sym e ∙ i in cc
+
+-- ---- what right sides begin with
+
+word_at : (k : Lexical) {at : Spot} {q s : Tokens → Type 0} (us r ts : Tokens) → ((one_at k at ⨾ q) ⨾ s) us → head (us ++ r) ≡ head ts → Is k (head ts)
+word_at k {at} us r ts d h =
+    let P : Option Lexeme → Type 0 = Is k in
+    subst P (sym (ap (λ l. head (l ++ r)) (d.parts ∙ ap (λ l. l ++ d.back) (d.first.parts ∙ ap (λ l. l ++ d.first.back) d.first.first))) ∙ h) refl
+
+-- neither word begins an expression or a call
+plain_head : (us r ts : Tokens) → IsPlain (us ++ r) → head (us ++ r) ≡ head ts → IsPlain ts
+plain_head us r ts p h =
+    let P : Option Lexeme → Type 0 = λ o. (Is (tok.Word word.Take) o → ⊥) × (Is (tok.Word word.New) o → ⊥) in
+    subst P h p
+
+call_plain : (c : Invocation) (us r : Tokens) → ended call c us → IsPlain (us ++ r)
+call_plain c us r d =
+    let t = call_elim c us d in
+    let P : Tokens → Type 0 = IsPlain in
+    subst P (sym (append_assoc t.front (t.middle ++ t.end) r) ∙ ap (λ l. l ++ r) (sym t.parts)) (path_plain (joined c.on c.method) t.front ((t.middle ++ t.end) ++ r) t.is_path)
+
+take_new : (o : Option Lexeme) → Is (tok.Word word.Take) o → Is (tok.Word word.New) o → ⊥
+take_new o i j = not_both (tok.Word word.Take) (tok.Word word.New) (λ e. cc) o i j
+
+-- ---- `take`
+
+abbrev pub taking : Lang (Spot × Path)
+taking = Both (Token (tok.Word word.Take)) (ended member)
+
+abbrev pub taken : Spot × Path → RightSide
+taken q = Taken q.1 q.0
+
+take_intro : (q : Spot × Path) (us : Tokens) → taking q us → ended right_side (taken q) us
+take_intro q us d =
+    let e = d.second in
+    record {
+      front = d.front ++ e.front;
+      back = e.back;
+      parts = d.parts ∙ ap (λ l. d.front ++ l) e.parts ∙ sym (append_assoc d.front e.front e.back);
+      first = (e.first.0, record { front = d.front; back = e.front; parts = refl; first = d.first; second = e.first.1 });
+      second = e.second;
+    }
+
+take_elim : (p : Path) (at : Spot) (us : Tokens) → ended right_side (Taken p at) us → taking (at, p) us
+take_elim p at us d =
+    let f = d.first.1 in
+    record {
+      front = f.front;
+      back = f.back ++ d.back;
+      parts = d.parts ∙ ap (λ l. l ++ d.back) f.parts ∙ append_assoc f.front f.back d.back;
+      first = f.first;
+      second = record { front = f.back; back = d.back; parts = refl; first = (d.first.0, f.second); second = d.second };
+    }
+
+take_cases : (ts : Tokens) → Is (tok.Word word.Take) (head ts) → (y : RightSide) (us r : Tokens) → ended right_side y us → head (us ++ r) ≡ head ts → (q : Spot × Path) × (y ≡ taken q) × taking q us
+take_cases ts i (Value e) us r d h = absurd ((plain_head us r ts (value_plain e us r d) h).0 i)
+take_cases ts i (Taken p at) us r d h = ((at, p), refl, take_elim p at us d)
+take_cases ts i (Zeros e at) us r d h = absurd (take_new (head ts) i (word_at (tok.Word word.New) us r ts d h))
+take_cases ts i (Made c gs es at) us r d h = absurd (take_new (head ts) i (word_at (tok.Word word.New) us r ts d h))
+take_cases ts i (Returned c) us r d h = absurd ((plain_head us r ts (call_plain c us r d) h).0 i)
+
+pub take_along : (ts : Tokens) → Is (tok.Word word.Take) (head ts) → Along (ended right_side) taking KeepsRight (Pair Free Free) ts taken
+take_along ts i = record { intro = take_intro; cases = λ y us r d h. take_cases ts i y us r d h; to = λ q us d l v. tt; from = λ q us d l v. (tt, tt) }
+
+-- ---- `new`
+
+abbrev pub making : Lang (Spot × RightSide)
+making = Dep (Token (tok.Word word.New)) made
+
+made_right : (at : Spot) (y : RightSide) (us vs ws : Tokens) → one_at (tok.Word word.New) at us → made at y vs → ws ≡ us ++ vs → ended right_side y ws
+made_right at (Zeros e k) us vs ws d m s =
+    let P : Spot → Type 0 = λ z. one_at (tok.Word word.New) z us in
+    to_left ws (record { front = us; back = vs; parts = s; first = subst P (sym m.0) d; second = m.1 })
+made_right at (Made c gs es k) us vs ws d m s =
+    let P : Spot → Type 0 = λ z. one_at (tok.Word word.New) z us in
+    to_left ws (record { front = us; back = vs; parts = s; first = subst P (sym m.0) d; second = to_left vs (behind vs (λ zs z. to_left zs z) m.1) })
+made_right at (Value e) us vs ws d m s = absurd m
+made_right at (Taken p k) us vs ws d m s = absurd m
+made_right at (Returned c) us vs ws d m s = absurd m
+
+new_cases : (ts : Tokens) → Is (tok.Word word.New) (head ts) → (y : RightSide) (us r : Tokens) → ended right_side y us → head (us ++ r) ≡ head ts → (q : Spot × RightSide) × (y ≡ q.1) × making q us
+new_cases ts i (Value e) us r d h = absurd ((plain_head us r ts (value_plain e us r d) h).1 i)
+new_cases ts i (Taken p at) us r d h =
+    let f : (one_at (tok.Word word.Take) at ⨾ path p) d.front = d.first.1 in
+    absurd (take_new (head ts) (word_at (tok.Word word.Take) {s = one (tok.Sign sign.Semicolon)} us r ts (record { front = d.front; back = d.back; parts = d.parts; first = f; second = d.second }) h) i)
+new_cases ts i (Zeros e at) us r d h = let f = to_right us d in ((at, Zeros e at), refl, record { front = f.front; back = f.back; parts = f.parts; first = f.first; second = (refl, f.second) })
+new_cases ts i (Made c gs es at) us r d h =
+    let f = to_right us d in
+    ((at, Made c gs es at), refl, record { front = f.front; back = f.back; parts = f.parts; first = f.first; second = (refl, behind f.back (λ zs z. to_right zs z) (to_right f.back f.second)) })
+new_cases ts i (Returned c) us r d h = absurd ((plain_head us r ts (call_plain c us r d) h).1 i)
+
+pub new_along : (ts : Tokens) → Is (tok.Word word.New) (head ts) → Along (ended right_side) making KeepsRight (Limits Free (λ l at. KeepsRight l)) ts (λ q. q.1)
+new_along ts i = record {
+  intro = λ q us d. made_right q.0 q.1 d.front d.back us d.first d.second d.parts;
+  cases = λ y us r d h. new_cases ts i y us r d h;
+  to = λ q us d l v. v.1;
+  from = λ q us d l v. (tt, v);
+}
+
+pub has_called : Has called KeepsCalled
+has_called = record { tree = ([], []); tokens = closing; is = called_none; known = closing_known; within = none_within }
+
+pub has_made : HasEach made Free (λ l at. KeepsRight l)
+has_made = record {
+  tree = λ at. Made io_name [] [] at;
+  tokens = λ at. io_at ∷ closing;
+  is = λ at. (refl, record { front = io_at ∷ []; back = closing; parts = refl; first = refl; second = called_none });
+  known = λ at. (refl, closing_known);
+  within = λ l at w. none_within l;
+}
+
+pub new_links : DepLinks made Always Always
+new_links at y us r d f = tt
+
+ints_name : (o : Option Lexeme) → Is (tok.Word word.Ints) o → IsName o → ⊥
+ints_name None i n = i
+ints_name (Some t) i n = let h : tok.Word word.Ints ≡ tok.Name n.0 = sym i ∙ n.1 in cc
+
+filled_name : (q : NameAt × (List NameAt × List Expression)) (us r ts : Tokens) → filled q us → head (us ++ r) ≡ head ts → IsName (head ts)
+filled_name q us r ts d h =
+    let P : Option Lexeme → Type 0 = IsName in
+    subst P (sym (ap (λ l. head (l ++ r)) (d.parts ∙ ap (λ l. l ++ d.back) d.first)) ∙ h) (q.0.name, refl)
+
+sized_ints : (e : Expression) (us r ts : Tokens) → ended sized e us → head (us ++ r) ≡ head ts → Is (tok.Word word.Ints) (head ts)
+sized_ints e us r ts d h =
+    let P : Option Lexeme → Type 0 = Is (tok.Word word.Ints) in
+    let f = d.first in
+    subst P (sym (ap (λ l. head (l ++ r)) (d.parts ∙ ap (λ l. l ++ d.back) (f.parts ∙ ap (λ l. l ++ f.back) f.first.1))) ∙ h) refl
+
+zeros_cases : (at : Spot) (ts : Tokens) → Is (tok.Word word.Ints) (head ts) → (y : RightSide) (us r : Tokens) → made at y us → head (us ++ r) ≡ head ts → (e : Expression) × (y ≡ Zeros e at) × ended sized e us
+zeros_cases at ts i (Zeros e k) us r d h = (e, ap (λ a. Zeros e a) d.0, d.1)
+zeros_cases at ts i (Made c gs es k) us r d h = absurd (ints_name (head ts) i (filled_name (c, (gs, es)) us r ts d.1 h))
+zeros_cases at ts i (Value e) us r d h = absurd d
+zeros_cases at ts i (Taken p k) us r d h = absurd d
+zeros_cases at ts i (Returned c) us r d h = absurd d
+
+pub zeros_along : (at : Spot) (ts : Tokens) → Is (tok.Word word.Ints) (head ts) → Along (made at) (ended sized) KeepsRight Keeps ts (λ e. Zeros e at)
+zeros_along at ts i = record { intro = λ q us d. (refl, d); cases = λ y us r d h. zeros_cases at ts i y us r d h; to = λ q us d l v. v; from = λ q us d l v. v }
+
+abbrev pub Filled : Type 0
+Filled = NameAt × (List NameAt × List Expression)
+
+abbrev pub object_of : Spot → Filled → RightSide
+object_of at q = Made q.0 q.1.0 q.1.1 at
+
+object_cases : (at : Spot) (ts : Tokens) → (Is (tok.Word word.Ints) (head ts) → ⊥) → (y : RightSide) (us r : Tokens) → made at y us → head (us ++ r) ≡ head ts → (q : Filled) × (y ≡ object_of at q) × Both name called q us
+object_cases at ts i (Zeros e k) us r d h = absurd (i (sized_ints e us r ts d.1 h))
+object_cases at ts i (Made c gs es k) us r d h = ((c, (gs, es)), ap (λ a. Made c gs es a) d.0, d.1)
+object_cases at ts i (Value e) us r d h = absurd d
+object_cases at ts i (Taken p k) us r d h = absurd d
+object_cases at ts i (Returned c) us r d h = absurd d
+
+pub object_along : (at : Spot) (ts : Tokens) → (Is (tok.Word word.Ints) (head ts) → ⊥) → Along (made at) (Both name called) KeepsRight (Pair Free KeepsCalled) ts (object_of at)
+object_along at ts i = record { intro = λ q us d. (refl, d); cases = λ y us r d h. object_cases at ts i y us r d h; to = λ q us d l v. v.1; from = λ q us d l v. (tt, v) }
+
+-- ---- the length of a new array
+
+abbrev pub parted : Lang Expression
+parted = Pre (tok.Sign sign.OpenParen) (Suf whole (tok.Sign sign.CloseParen))
+
+pub has_closed : Has (Suf whole (tok.Sign sign.CloseParen)) Keeps
+has_closed = has_suf (tok.Sign sign.CloseParen) whole tt has_whole
+
+pub has_parted : Has parted Keeps
+has_parted = has_pre (tok.Sign sign.OpenParen) (Suf whole (tok.Sign sign.CloseParen)) tt has_closed
+
+-- ---- what is read behind `new`
+
+abbrev new_limit : Limit → Spot → RightSide → Type 0
+new_limit l at = KeepsRight l
+
+pub new_first : (ts : Tokens) (e : Fail) → Is (tok.Word word.New) (head ts) → Failed (Token (tok.Word word.New)) Free Always ts e → Failed (ended right_side) KeepsRight Always ts e
+new_first ts e i f = failed_by (λ why left s. stopped_as (ended right_side) making (λ q. q.1) (new_along ts i) (dep_first {F = Always} {G = Always} new_limit new_links has_made s)) f
+
+pub new_second : (ts mid : Tokens) (at : Spot) (e : Fail) → Is (tok.Word word.New) (head ts) → Took (Token (tok.Word word.New)) Free Always ts at mid → Failed (made at) KeepsRight Always mid e → Failed (ended right_side) KeepsRight Always ts e
+new_second ts mid at e i t f = failed_by (λ why left s. stopped_as (ended right_side) making (λ q. q.1) (new_along ts i) (dep_second new_limit new_links t s)) f
+
+pub new_took : (ts mid rest : Tokens) (at : Spot) (y : RightSide) → Is (tok.Word word.New) (head ts) → Took (Token (tok.Word word.New)) Free Always ts at mid → Took (made at) KeepsRight Always mid y rest → Took (ended right_side) KeepsRight Always ts y rest
+new_took ts mid rest at y i t u = took_as (ended right_side) making (λ q. q.1) (new_along ts i) (took_dep new_limit new_links t u)

@@ -1,0 +1,234 @@
+-- Right sides that are expressions.
+use Rattle.std.proofs.Common.{◌≡◌, ℕ, ◌+◌, ◌≤◌, ◌<◌, ◌++◌, [], ◌∷◌, length, ◌⊎◌, inl, inr, Bool, true, false, if◌then◌else◌, Option, refl, sym, ap, ◌∙◌, append_assoc, append-nil, length-append, subst, arith}
+use Rattle.std.proofs.lemmas.Bool.{cases_lt}
+use Rattle.ae_text.specs.declared.token.Keyword.TheVariants as word
+use Rattle.ae_text.specs.declared.token.Sign.TheVariants as sign
+use Rattle.ae_code.specs.declared.lexeme.Lexeme.{Lexeme}
+use Rattle.ae_code.specs.declared.lexeme.Lexical.TheVariants as tok
+use Rattle.ae_code.specs.declared.limits.Limit.TheVariants as limit
+use Rattle.ae_code.specs.Plain.{Expression, RightSide, Value, Returned}
+use Rattle.ae_code.specs.Grammar.{Tokens, one, whole, right_side}
+use Rattle.ae_code.specs.Limits.{Keeps, KeepsRight, marks, early}
+use Rattle.ae_code.specs.Refused.{IsUndecided, IsEarlier, is_mark, marks_in}
+use Rattle.ae_reading.specs.declared.fail.Fail.{Fail}
+use Rattle.ae_reading.specs.declared.fail.Why.{Why}
+use Rattle.ae_reading.specs.declared.fail.Why.TheVariants.{Unexpected, Over}
+use Rattle.ae_reading.specs.Reads.{head, Always, Is, NoEnd, Took, Stopped, Failed, Counts}
+use Rattle.ae_reading.proofs.ReadsLemmas.{head-append, NoEnd-append, lead_here, failed_by}
+use Rattle.ae_reading.proofs.UniqueLemmas.{none_at}
+use Rattle.ae_reading.proofs.Begins.{stopped_on}
+use Rattle.ae_expressions.proofs.UniqueExpressions.{form_of}
+use Rattle.ae_expressions.proofs.LeadingOperands.{IsStart, begins_expression}
+use Rattle.ae_statements.specs.Productions.{ended}
+use Rattle.ae_statements.specs.Deciding.{Calling, Comparing, IsValue, IsPlain}
+use Rattle.ae_statements.proofs.UniqueRightSides.{no_call}
+use Rattle.ae_statements.proofs.MarkLemmas.{weight, marks_in-append, expression_marks}
+use Rattle.ae_statements.proofs.SideLemmas.{PlainSide, plain_side}
+use Rattle.ae_statements.proofs.SplitLemmas.{Filled, undecided_filled}
+use Rattle.ae_statements.proofs.GoesLemmas.{end, closed}
+use Rattle.ae_statements.proofs.DecideLemmas.{calling_within, front_of, path_no_end}
+
+-- ---- expressions that are read
+
+start_plain : (o : Option Lexeme) → IsStart o → (Is (tok.Word word.Take) o → ⊥) × (Is (tok.Word word.New) o → ⊥)
+start_plain o s = (none_at form_of (tok.Word word.Take) (λ at. refl) o s, none_at form_of (tok.Word word.New) (λ at. refl) o s)
+
+pub value_plain : (e : Expression) (us r : Tokens) → ended whole e us → IsPlain (us ++ r)
+value_plain e us r d =
+    let f = front_of e us r d in
+    let P : Tokens → Type 0 = IsPlain in
+    subst P (sym f.same) (start_plain (head (f.front ++ f.back)) (begins_expression 0 e f.front f.back f.is))
+
+pub value_took : (ts rest : Tokens) (e : Expression) → Took (ended whole) Keeps Always ts e rest → Took (ended right_side) KeepsRight Always ts (Value e) rest
+value_took ts rest e t = record {
+  taken = t.taken;
+  whole = t.whole;
+  derives = t.derives;
+  within = λ l. t.within l;
+  no_end = t.no_end;
+  only = λ y us r other d same h f. by_side y us r other same h (plain_side y us r (t.taken ++ other) d same (value_plain e t.taken other t.derives));
+}
+  where
+    by_side : (y : RightSide) (us r other : Tokens) → us ++ r ≡ t.taken ++ other → head other ≡ head rest → PlainSide y us → (y ≡ Value e) × (r ≡ other)
+    by_side y us r other same h (inl s) = let o = t.only s.0 us r other s.2 same h tt in (s.1 ∙ ap Value o.0, o.1)
+    by_side y us r other same h (inr s) =
+        let f = front_of e t.taken other t.derives in
+        let c = s.2 in
+        let all : f.front ++ f.back ≡ c.front ++ (c.back ++ r) = sym f.same ∙ sym same ∙ ap (λ z. z ++ r) c.parts ∙ append_assoc c.front c.back r in
+        absurd (no_call e s.0 f.front c.front f.back (c.back ++ r) f.is c.first all f.ends)
+
+-- ---- where the refused token stands
+
+-- two cuttings of a text: the second is no earlier, or it is
+meet : (a b c d : Tokens) → a ++ b ≡ c ++ d → ((e : Tokens) × (c ≡ a ++ e) × (b ≡ e ++ d)) ⊎ ((t : Lexeme) × (e : Tokens) × (a ≡ c ++ t ∷ e) × (d ≡ t ∷ (e ++ b)))
+meet [] b c d e = inl (c, refl, e)
+meet (x ∷ a) b [] d e = inr (x, a, refl, sym e)
+meet (x ∷ a) b (y ∷ c) d e =
+    let h : x ≡ y = cc in
+    let rest : a ++ b ≡ c ++ d = cc in
+    elim (meet a b c d rest) [
+      | inl q ↦ inl (q.0, ap (λ l. y ∷ l) q.1 ∙ ap (λ z. z ∷ (a ++ q.0)) (sym h), q.2)
+      | inr q ↦ inr (q.0, q.1, ap (λ z. z ∷ a) h ∙ ap (λ l. y ∷ l) q.2, q.3)
+    ]
+
+is_value : (y : RightSide) (us : Tokens) (e : Expression) → y ≡ Value e → ended right_side y us → ended whole e us
+is_value y us e same d = let P : RightSide → Type 0 = λ z. ended right_side z us in subst P same d
+
+-- the refused token is not before the deciding one
+stopped_later : (ts : Tokens) (why : Why) (left : ℕ) → (k : IsValue ts) → (u : Stopped (ended whole) Keeps Always ts why left) → (c : Tokens) → u.before ≡ k.before ++ c → k.rest ≡ c ++ u.rest → Stopped (ended right_side) KeepsRight Always ts why left
+stopped_later ts why left k u c b rest = stopped_on (ended right_side) (ended whole) Value (λ q us d. d) (λ l q us d v. v) (λ l q us d v. v) u
+    (λ y us r other d e h f.
+    let o = k.only y us r (c ++ other) d (e ∙ ap (λ l. l ++ other) b ∙ append_assoc k.before c other) (head-append c other u.rest h ∙ ap head (sym rest)) in
+    (o.0, o.1, is_value y us o.0 o.1 d))
+
+-- ---- a token before the deciding one
+
+less_no_end : (us : Tokens) → one (tok.Sign sign.Less) us → NoEnd us
+less_no_end us d = let P : Tokens → Type 0 = NoEnd in subst P (sym d.1) ((λ e. cc), tt)
+
+undecided_no_end : (us : Tokens) → IsUndecided us → NoEnd us
+undecided_no_end us (p, inl d) = path_no_end p us d
+undecided_no_end us (p, inr (inl d)) = let P : Tokens → Type 0 = NoEnd in subst P (sym d.parts) (NoEnd-append d.front d.back (path_no_end p d.front d.first) (less_no_end d.back d.second))
+undecided_no_end us (p, inr (inr (g, d))) =
+    let P : Tokens → Type 0 = NoEnd in
+    let s = d.second in
+    let name : NoEnd s.back = subst P (sym s.second) ((λ e. cc), tt) in
+    subst P (sym d.parts) (NoEnd-append d.front d.back (path_no_end p d.front d.first) (subst P (sym s.parts) (NoEnd-append s.front s.back (less_no_end s.front s.first) name)))
+
+abbrev count : Bool → ℕ
+count b = if b then 1 else 0
+
+by_weight : (b : Bool) → ((b ≡ true) × (count b ≡ 1)) ⊎ (count b ≡ 0)
+by_weight true = inl (refl, refl)
+by_weight false = inr refl
+
+-- how many tokens count before the refused one
+marks_before : (e : Expression) (before more : Tokens) → ended whole e (before ++ more) → marks e ≤ 256 → marks_in before ≤ 256
+marks_before e before more d few =
+    let a : marks_in (before ++ more) ≡ marks_in before + marks_in more = marks_in-append before more in
+    let b : marks_in (before ++ more) ≡ marks_in d.front + marks_in d.back = ap marks_in d.parts ∙ marks_in-append d.front d.back in
+    let c : marks_in d.back ≡ 0 = ap marks_in d.second.1 in
+    let m : marks e ≡ marks_in d.front = expression_marks e 0 d.front d.first in
+    omega (arith, a, b, c, m, few)
+
+marks_next : (e : Expression) (before more : Tokens) (t : Lexeme) → whole e (before ++ t ∷ more) → marks_in more ≡ 0 → (marks e ≤ 256 → ⊥) → 256 < marks_in before + weight t.kind
+marks_next e before more t d none many =
+    let m : marks e ≡ marks_in (before ++ t ∷ more) = expression_marks e 0 (before ++ t ∷ more) d in
+    let a : marks_in (before ++ t ∷ more) ≡ marks_in before + (weight t.kind + marks_in more) = marks_in-append before (t ∷ more) in
+    by_cases (cases_lt 256 (marks e)) m a
+  where
+    by_cases : (256 < marks e) ⊎ (marks e ≤ 256) → marks e ≡ marks_in (before ++ t ∷ more) → marks_in (before ++ t ∷ more) ≡ marks_in before + (weight t.kind + marks_in more) → 256 < marks_in before + weight t.kind
+    by_cases (inl h) m a = omega (arith, h, m, a, none)
+    by_cases (inr h) m a = absurd (many h)
+
+-- no refused token stands farther before
+no_earlier : (before : Tokens) (back : ℕ) → marks_in before ≤ 256 → IsEarlier before back → ⊥
+no_earlier before back few e =
+    let a : marks_in before ≡ marks_in e.front + (marks_in e.early + (weight e.mark.kind + marks_in e.late)) =
+    ap marks_in e.whole ∙ marks_in-append e.front (e.early ++ e.mark ∷ e.late) ∙ ap (λ n. marks_in e.front + n) (marks_in-append e.early (e.mark ∷ e.late)) in
+    let w : weight e.mark.kind ≡ 1 = ap count e.counts in
+    omega (arith, a, w, e.is_257th, few)
+
+record Overrun (before : Tokens) (t : Lexeme) : Type 0 where
+  counts : is_mark t.kind ≡ true
+  many : marks_in before ≡ 256
+
+overrun : (before : Tokens) (t : Lexeme) → marks_in before ≤ 256 → 256 < marks_in before + weight t.kind → Overrun before t
+overrun before t few many = by_cases (by_weight (is_mark t.kind))
+  where
+    by_cases : ((is_mark t.kind ≡ true) × (count (is_mark t.kind) ≡ 1)) ⊎ (count (is_mark t.kind) ≡ 0) → Overrun before t
+    by_cases (inl c) = record { counts = c.0; many = omega (arith, few, many, c.1) }
+    by_cases (inr z) = absurd (omega (arith, few, many, z))
+
+-- the 257th token that counts stands before the deciding one
+stopped_early : (ts : Tokens) (left : ℕ) → (k : IsValue ts) → (u : Stopped (ended whole) Keeps Always ts (Over limit.Depth) left) → (t : Lexeme) (c : Tokens) → k.before ≡ u.before ++ t ∷ c → u.rest ≡ t ∷ (c ++ k.rest) →
+    IsUndecided k.before → Overrun u.before t → u.back ≡ 0 → Calling k.before → Comparing k.before k.rest → Stopped (ended right_side) KeepsRight Always ts (Over limit.Depth) left
+stopped_early ts left k u t c b rest undecided o here calling comparing = record {
+  before = k.before;
+  rest = k.rest;
+  whole = k.whole;
+  back = 1 + length c;
+  left_is = omega (arith, u.left_is, here, ap length rest, length-append c k.rest);
+  placed = inr (record {
+    front = [];
+    early = u.before;
+    mark = t;
+    late = c;
+    whole = b;
+    undecided = let P : Tokens → Type 0 = IsUndecided in subst P b undecided;
+    counts = o.counts;
+    is_257th = o.many;
+    back_is = refl;
+  });
+  tree = Returned calling.tree;
+  more = calling.more;
+  goes = calling.goes;
+  known = calling.known;
+  within = λ l. calling_within calling.tree calling.none (early l);
+  lead = lead_here k.before (Returned calling.tree) calling.more calling.goes calling.known (calling_within calling.tree calling.none);
+  no_end = undecided_no_end k.before undecided;
+  stuck = λ y us r other d e h f w.
+      let q = k.only y us r other d e h in
+      let P : RightSide → Type 0 = KeepsRight limit.Depth in
+      u.stuck q.0 us r (t ∷ (c ++ other)) (is_value y us q.0 q.1 d) (e ∙ ap (λ l. l ++ other) b ∙ append_assoc u.before (t ∷ c) other) (ap head (sym rest)) tt (subst P q.1 w);
+  beyond = record {
+    next = comparing.next;
+    later = comparing.later;
+    rest_is = comparing.rest_is;
+    tree = Value comparing.tree;
+    after = comparing.after;
+    goes_on = comparing.goes_on;
+    known = comparing.known;
+    passes = tt;
+  };
+}
+
+-- an expression goes on with the refused token
+goes_on : (ts : Tokens) (why : Why) (left : ℕ) → (u : Stopped (ended whole) Keeps Always ts why left) → (t : Lexeme) (later : Tokens) → u.rest ≡ t ∷ later → (f : Filled Expression whole u.before t) → Counts why (λ l. Keeps l f.tree) → ⊥
+goes_on ts why left u t later rest f w =
+    u.stuck f.tree (u.before ++ (t ∷ (f.more ++ end))) [] (t ∷ (f.more ++ end)) (closed f.tree u.before (t ∷ f.more) f.goes) (append-nil (u.before ++ (t ∷ (f.more ++ end)))) (ap head (sym rest)) tt w
+
+none_at_back : (before : Tokens) (back : ℕ) → marks_in before ≤ 256 → (back ≡ 0) ⊎ IsEarlier before back → back ≡ 0
+none_at_back before back few (inl e) = e
+none_at_back before back few (inr e) = absurd (no_earlier before back few e)
+
+some_marks : (ts : Tokens) (k : IsValue ts) (before c : Tokens) (t : Lexeme) → k.before ≡ before ++ t ∷ c → marks_in before ≡ 256 → marks_in k.before ≡ 0 → ⊥
+some_marks ts k before c t b many none =
+    let a : marks_in k.before ≡ marks_in before + marks_in (t ∷ c) = ap marks_in b ∙ marks_in-append before (t ∷ c) in
+    omega (arith, a, many, none)
+
+stopped_before : (ts : Tokens) (why : Why) (left : ℕ) → (k : IsValue ts) → (u : Stopped (ended whole) Keeps Always ts why left) → (t : Lexeme) (c : Tokens) → k.before ≡ u.before ++ t ∷ c → u.rest ≡ t ∷ (c ++ k.rest) →
+    IsUndecided k.before → Filled Expression whole u.before t → Stopped (ended right_side) KeepsRight Always ts why left
+stopped_before ts Unexpected left k u t c b rest undecided f = absurd (goes_on ts Unexpected left u t (c ++ k.rest) rest f tt)
+stopped_before ts (Over limit.Statements) left k u t c b rest undecided f = absurd (goes_on ts (Over limit.Statements) left u t (c ++ k.rest) rest f tt)
+stopped_before ts (Over limit.Levels) left k u t c b rest undecided f = absurd (goes_on ts (Over limit.Levels) left u t (c ++ k.rest) rest f tt)
+stopped_before ts (Over limit.Params) left k u t c b rest undecided f = absurd (goes_on ts (Over limit.Params) left u t (c ++ k.rest) rest f tt)
+stopped_before ts (Over limit.Depth) left k u t c b rest undecided f = by_both k.both
+  where
+    few : marks_in u.before ≤ 256
+    few = marks_before u.tree u.before u.more u.goes (u.within limit.Depth)
+
+    found : Overrun u.before t
+    found = overrun u.before t few (marks_next f.tree u.before f.more t f.goes f.none (goes_on ts (Over limit.Depth) left u t (c ++ k.rest) rest f))
+
+    by_both : (marks_in k.before ≡ 0) ⊎ (Calling k.before × Comparing k.before k.rest) → Stopped (ended right_side) KeepsRight Always ts (Over limit.Depth) left
+    by_both (inl none) = absurd (some_marks ts k u.before c t b found.many none)
+    by_both (inr (calling, comparing)) = stopped_early ts left k u t c b rest undecided found (none_at_back u.before u.back few u.placed) calling comparing
+
+no_cut : (before c : Tokens) (t : Lexeme) → [] ≡ before ++ t ∷ c → ⊥
+no_cut [] c t e = cc
+no_cut (x ∷ before) c t e = cc
+
+pub value_stopped : (ts : Tokens) (why : Why) (left : ℕ) → IsValue ts → Stopped (ended whole) Keeps Always ts why left → Stopped (ended right_side) KeepsRight Always ts why left
+value_stopped ts why left k u = by_meet (meet k.before k.rest u.before u.rest (sym k.whole ∙ u.whole))
+  where
+    by_undecided : (t : Lexeme) (c : Tokens) → k.before ≡ u.before ++ t ∷ c → u.rest ≡ t ∷ (c ++ k.rest) → (k.before ≡ []) ⊎ IsUndecided k.before → Stopped (ended right_side) KeepsRight Always ts why left
+    by_undecided t c b rest (inl none) = absurd (no_cut u.before c t (sym none ∙ b))
+    by_undecided t c b rest (inr w) = stopped_before ts why left k u t c b rest w (undecided_filled k.before u.before c t w b)
+
+    by_meet : ((e : Tokens) × (u.before ≡ k.before ++ e) × (k.rest ≡ e ++ u.rest)) ⊎ ((t : Lexeme) × (e : Tokens) × (k.before ≡ u.before ++ t ∷ e) × (u.rest ≡ t ∷ (e ++ k.rest))) → Stopped (ended right_side) KeepsRight Always ts why left
+    by_meet (inl q) = stopped_later ts why left k u q.0 q.1 q.2
+    by_meet (inr q) = by_undecided q.0 q.1 q.2 q.3 k.undecided
+
+pub value_failed : (ts : Tokens) (e : Fail) → IsValue ts → Failed (ended whole) Keeps Always ts e → Failed (ended right_side) KeepsRight Always ts e
+value_failed ts e k f = failed_by (λ why left s. value_stopped ts why left k s) f

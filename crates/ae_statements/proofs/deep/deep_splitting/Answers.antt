@@ -1,0 +1,8 @@
+use Rattle.ae_statements.proofs.DeepLemmas.{split_heads, head_failed, head_read}
+use Rattle.ae_statements.proofs.deep.deep_splitting.Goals as goal
+
+pub returns-in-Err : goal.returns-in-Err
+returns-in-Err c = λ n. head_failed (split_heads c.args.ts.now n c.requires) c.in-Err.ensures
+
+pub returns : goal.returns
+returns c = λ n. record { why = head_read c.opening.result (split_heads c.args.ts.now n c.requires) c.in-Ok.ensures c.opening.ensures }
