@@ -1,7 +1,8 @@
 pub mod NumberLemmas
-pub mod ReadsLemmas
-pub mod ProductionLemmas
-pub mod ChainLemmas
-pub mod StatementLemmas
+pub mod NamesLemmas
 pub mod ProgramLemmas
-pub mod UniqueLemmas
+pub mod PlaceLemmas
+pub mod ParamLemmas
+pub mod MethodLemmas
+pub mod ClassLemmas
+pub mod DeclarationLemmas

@@ -1,5 +1,3 @@
 pub mod Slices
-pub mod Reads
+pub mod Reading
 pub mod Productions
-pub mod Denied
-pub mod Laws

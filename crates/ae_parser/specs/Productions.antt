@@ -1,135 +1,108 @@
--- The productions as the functions read them, with the tokens that may follow.
-use Rattle.std.specs.Prelude.{◌≡◌, ◌≢◌, ◌≤◌, ◌<◌, ℕ, ◌++◌, [], ◌∷◌, Option, Some, None, Result, Ok, Err}
+-- Forms of a production as the functions read them, and what may come next.
+use Rattle.std.specs.Prelude.{◌≡◌, ◌≢◌, ◌⊎◌, ◌≤◌, ℕ, ◌+◌, ◌++◌, List, [], ◌∷◌, length, map, All, Option, Some, None, Result, Ok, Err}
+use Rattle.std.specs.Borrow.{Bor}
 use Rattle.ae_text.specs.declared.refusal.Spot.{Spot}
-use Rattle.ae_text.specs.declared.token.Sign.{Sign}
+use Rattle.ae_text.specs.declared.token.Keyword.{Keyword}
+use Rattle.ae_text.specs.declared.token.Keyword.TheVariants as word
 use Rattle.ae_text.specs.declared.token.Sign.TheVariants as sign
-use Rattle.ae_code.specs.declared.lexeme.Lexical.{Lexical}
 use Rattle.ae_code.specs.declared.lexeme.Lexical.TheVariants as tok
 use Rattle.ae_code.specs.declared.lexeme.Lexeme.{Lexeme}
-use Rattle.ae_code.specs.declared.tree.NameAt.{NameAt}
-use Rattle.ae_code.specs.declared.tree.Op.{Op}
-use Rattle.ae_code.specs.declared.tree.Op.TheVariants as op
-use Rattle.ae_code.specs.declared.tree.Ty.{Ty}
-use Rattle.ae_code.specs.declared.tree.Stmt.{Stmt}
-use Rattle.ae_parser.specs.declared.expressions.Counted.{Counted}
-use Rattle.ae_code.specs.Plain.{Expression, RightSide, Definition, Action, Declares, Assigns, Prints}
+use Rattle.ae_code.specs.declared.limits.Limit.{Limit}
+use Rattle.ae_code.specs.declared.limits.Limit.TheVariants as limit
+use Rattle.ae_code.specs.declared.tree.Class.{Class}
+use Rattle.ae_code.specs.declared.tree.Me.{Me}
+use Rattle.ae_code.specs.declared.tree.Param.{Param}
+use Rattle.ae_code.specs.declared.tree.GroupNeed.{GroupNeed}
+use Rattle.ae_code.specs.Plain.{Definition}
 use Rattle.ae_code.specs.Shown as shown
-use Rattle.ae_code.specs.Grammar.{Tokens, Then, ◌⨾◌, one_at, one, a_sign, level, sign_of, name, type_, right_side, sum, statement}
+use Rattle.ae_code.specs.Grammar.{Tokens, ◌⨾◌, one_at, a_word, separated, Declaration, OfClass, OfMethod, classes_in, methods_in, declared, declaration}
 use Rattle.ae_code.specs.Grammar as grammar
-use Rattle.ae_parser.specs.declared.fail.Why.{Why}
-use Rattle.ae_parser.specs.declared.fail.Why.TheVariants.{Unexpected, Over}
-use Rattle.ae_parser.specs.declared.fail.Fail.{Fail}
-use Rattle.ae_parser.specs.Reads.{head, Always, Is, Took, Failed}
-use Rattle.ae_code.specs.declared.tree.Method.{Method}
-use Rattle.ae_code.specs.Limits.{operators, HasShort, IsWithin}
+use Rattle.ae_code.specs.Limits.{KeepsMethod, one_for}
+use Rattle.ae_reading.specs.declared.fail.Fail.{Fail}
+use Rattle.ae_reading.specs.declared.fail.Why.{Why}
+use Rattle.ae_reading.specs.declared.fail.Why.TheVariants.{Unexpected, Over}
+use Rattle.ae_reading.specs.Reads.{head, Always, Is, Took, Failed}
+use Rattle.ae_parser.specs.declared.params.Given.{Given}
+use Rattle.ae_parser.specs.declared.classes.WithMethods.{WithMethods}
+use Rattle.ae_parser.specs.declared.declarations.Parts.{Parts}
 
--- ---- tokens
+-- ---- parameters
 
--- a token of this kind, at the place that is its tree
-abbrev pub Token : Lexical → Spot → Tokens → Type 0
-Token k = one_at k
+-- the first word of a type
+abbrev pub BeginsType : Option Lexeme → Type 0
+BeginsType o = Is (tok.Word word.Int) o ⊎ Is (tok.Word word.Bool) o ⊎ Is (tok.Word word.Unique) o ⊎ Is (tok.Word word.Immutable) o ⊎ Is (tok.Word word.Lent) o ⊎ Is (tok.Word word.Shared) o
 
--- a token of this kind, whose place is not kept
-abbrev pub Mark : Lexical → Unit {0} → Tokens → Type 0
-Mark k x = one k
+abbrev pub NoType : Option Lexeme → Type 0
+NoType o = BeginsType o → ⊥
 
--- ---- expressions
+-- `>> none` that is written
+abbrev pub given_away : Option Spot → Tokens → Type 0
+given_away a ts = (at : Spot) × (a ≡ Some at) × (one_at (tok.Sign sign.Away) at ⨾ a_word word.None) ts
 
--- no operator that stands at this level or above
-abbrev pub Ends : ℕ → Option Lexeme → Type 0
-Ends l None = Unit {0}
-Ends l (Some t) = (o : Op) → t.kind ≡ tok.Sign (sign_of o) → level o < l
+-- as many parameters as may be
+abbrev pub AtMost : ℕ → Limit → List Param → Type 0
+AtMost n limit.Params ps = length ps ≤ n
+AtMost n l ps = Unit {0}
 
--- no operator of this level
-abbrev pub NoOperator : ℕ → Tokens → Type 0
-NoOperator l [] = Unit {0}
-NoOperator l (t ∷ ts) = (o : Op) → t.kind ≡ tok.Sign (sign_of o) → level o ≢ l
+-- why no further parameter is taken: one may begin here and is over the limit, or none does
+abbrev pub ParamNext : Tokens → Why → Type 0
+ParamNext ts Unexpected = NoType (head ts)
+ParamNext ts (Over l) = (l ≡ limit.Params) × BeginsType (head ts)
 
--- an operator of this level, and then rest
-pub record IsOperator (l : ℕ) (ts : Tokens) (o : Op) (rest : Tokens) : Type 0 where
-  pub token : Lexeme
-  pub whole : ts ≡ token ∷ rest
-  pub kind : token.kind ≡ tok.Sign (sign_of o)
-  pub at_level : level o ≡ l
+-- a method of a class has a receiver, and one at the top has none
+abbrev pub HasMe : Option ℕ → Option Me → Type 0
+HasMe None m = m ≡ None
+HasMe (Some c) m = m ≢ None
 
--- the operator that a sign is
-abbrev pub operator_of : Sign → Option Op
-operator_of sign.OrOr = Some op.Or
-operator_of sign.AndAnd = Some op.And
-operator_of sign.Equal = Some op.Eq
-operator_of sign.NotEqual = Some op.Ne
-operator_of sign.Less = Some op.Lt
-operator_of sign.LessEqual = Some op.Le
-operator_of sign.Greater = Some op.Gt
-operator_of sign.GreaterEqual = Some op.Ge
-operator_of sign.Plus = Some op.Add
-operator_of sign.Minus = Some op.Sub
-operator_of sign.Star = Some op.Mul
-operator_of sign.Slash = Some op.Div
-operator_of sign.Percent = Some op.Rem
-operator_of _ = None
+-- what a method of this class, or one at the top, is given
+abbrev pub given : Option ℕ → Given → Tokens → Type 0
+given c g ts = HasMe c g.me × grammar.parameters g.me g.params ts
 
-abbrev pub counted : Counted → Expression
-counted c = shown.expression c.tree
+-- at most 16 parameters, with the receiver
+abbrev pub FewGiven : Limit → Given → Type 0
+FewGiven limit.Params g = one_for g.me + length g.params ≤ 16
+FewGiven l g = Unit {0}
 
--- an expression at this level
-abbrev pub at_level : ℕ → Expression → Tokens → Type 0
-at_level l e = grammar.expression e l
+-- ---- needs
 
--- an expression with at most n operators
-abbrev pub AtMost : ℕ → Expression → Type 0
-AtMost n e = operators e ≤ n
+-- a need with this word
+abbrev pub need_by : Keyword → GroupNeed → Tokens → Type 0
+need_by w n ts = (grammar.need_word n.need ≡ w) × grammar.need n ts
 
--- ---- statements
+-- needs that are written
+abbrev pub some_needs : List GroupNeed → Tokens → Type 0
+some_needs ns = a_word word.With ⨾ separated grammar.need ns
 
--- a statement with its place
-abbrev pub stmt : Spot × Action → Tokens → Type 0
-stmt q = statement q.0 q.1
+-- ---- classes
 
-abbrev pub IsShortStmt : Spot × Action → Type 0
-IsShortStmt q = HasShort q.1
+abbrev pub AllKeep : Limit → List Definition → Type 0
+AllKeep l = All (KeepsMethod l)
 
-abbrev pub shown_stmt : Stmt → Spot × Action
-shown_stmt s = (s.at, shown.action s.kind)
+-- a class with its methods, as a declaration
+abbrev pub shown_class : WithMethods → Declaration
+shown_class w = OfClass w.class (map shown.definition w.methods)
 
--- one of the statements of a form
-abbrev pub declaration : Spot × Action → Tokens → Type 0
-declaration q us = (t : Ty) × (x : NameAt) × (e : RightSide) × (q.1 ≡ Declares t x e) × statement q.0 (Declares t x e) us
+-- a class behind c classes and m methods
+abbrev pub class_at : ℕ → ℕ → Declaration → Tokens → Type 0
+class_at c m x ts = (k : Class) × (ms : List Definition) × (x ≡ OfClass k ms) × declaration c m (OfClass k ms) ts
 
-abbrev pub assignment : Spot × Action → Tokens → Type 0
-assignment q us = (x : NameAt) × (e : RightSide) × (q ≡ (x.at, Assigns x e)) × (name x ⨾ a_sign sign.Assign ⨾ right_side e ⨾ a_sign sign.Semicolon) us
+abbrev pub KeepsOne : Limit → Declaration → Type 0
+KeepsOne l x = AllKeep l (methods_in x)
 
-abbrev pub printing : Spot × Action → Tokens → Type 0
-printing q us = (e : Expression) × (q.1 ≡ Prints e) × statement q.0 (Prints e) us
+-- a method at the top, as a declaration
+abbrev pub method_at : ℕ → ℕ → Declaration → Tokens → Type 0
+method_at c m x ts = (d : Definition) × (x ≡ OfMethod d) × grammar.method None d ts
 
--- a statement that begins with the next token
-pub record Starts (ts : Tokens) : Type 0 where
-  pub next : Lexeme
-  pub later : Tokens
-  pub whole : ts ≡ next ∷ later
-  pub tree : Spot × Action
-  pub after : Tokens
-  pub is : stmt tree (next ∷ after)
+-- ---- declarations
 
--- why no further statement is taken: one begins here and is over the limit, or none does
-abbrev pub Further : Tokens → Why → Type 0
-Further ts Over = Starts ts
-Further ts Unexpected = (y : Spot × Action) (us r : Tokens) → stmt y us → head (us ++ r) ≡ head ts → ⊥
+-- one declaration more, where D says which it is behind so many classes and methods
+pub record Added (D : ℕ → ℕ → Declaration → Tokens → Type 0) (before behind : Parts) (ts rest : Tokens) : Type 0 where
+  pub one : Declaration
+  pub took : Took (D (length before.classes) (length before.methods)) KeepsOne Always ts one rest
+  pub classes : behind.classes ≡ before.classes ++ classes_in one
+  pub methods : map shown.definition behind.methods ≡ map shown.definition before.methods ++ methods_in one
+  pub decls : behind.decls ≡ before.decls ++ declared (length before.classes) (length before.methods) one ∷ []
 
--- ---- methods and programs
-
--- a method whose body is within the limits
-abbrev pub HasWithin : Definition → Type 0
-HasWithin m = IsWithin m.body
-
--- a method, and then the end
-abbrev pub whole : Definition × Unit {0} → Tokens → Type 0
-whole q = grammar.method q.0 ⨾ Mark tok.End q.1
-
-abbrev pub IsWholeWithin : Definition × Unit {0} → Type 0
-IsWholeWithin q = HasWithin q.0 × Unit {0}
-
--- the method before the end
-abbrev pub ReadsAll : Tokens → Result Method Fail → Type 0
-ReadsAll ts (Ok m) = (rest : Tokens) × Took grammar.method HasWithin Always ts (shown.definition m) rest × Is tok.End (head rest)
-ReadsAll ts (Err e) = Failed whole IsWholeWithin Always ts e
+abbrev pub ReadsOne : (ℕ → ℕ → Declaration → Tokens → Type 0) → Parts → Parts → Tokens → Result (Bor Tokens) Fail → Type 0
+ReadsOne D before behind ts (Ok rest) = Added D before behind ts rest.now
+ReadsOne D before behind ts (Err e) = Failed (D (length before.classes) (length before.methods)) KeepsOne Always ts e

@@ -1,14 +1,12 @@
 //! Reads a program from its tokens.
 #![tactic(auto)]
 
-mod expressions;
-mod fail;
-mod laws;
+mod classes;
+mod declarations;
 mod methods;
+mod needs;
 mod numbers;
+mod params;
 mod program;
-mod statements;
-mod terminals;
 
-pub use laws::tokens_stand_for_one_program;
 pub use program::parse;

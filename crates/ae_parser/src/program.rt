@@ -1,77 +1,105 @@
-// Whole programs.
-ghost use Rattle.std.specs.Prelude.{◌≡◌, ◌≤◌, length, [], ◌∷◌, IfOk, IfErr, MatchResult};
+// Whole programs, and the place of a refusal.
+ghost use Rattle.std.specs.Prelude.{◌≡◌, ◌≤◌, length, IfOk, IfErr, MatchResult};
 ghost use Rattle.ae_text.specs.Tokens.{IsWhole};
 ghost use Rattle.ae_code.specs.Plain.{Code};
-ghost use Rattle.ae_code.specs.Names.{names_of};
-ghost use Rattle.ae_code.specs.Shown.{code, definition};
+ghost use Rattle.ae_code.specs.Names.{names_of, numbered};
+ghost use Rattle.ae_code.specs.Shown.{code};
 ghost use Rattle.ae_code.specs.Grammar.{Derives};
 ghost use Rattle.ae_code.specs.Limits.{Within};
-ghost use Rattle.ae_code.specs.Built.{Built};
-ghost use Rattle.ae_parser.specs.Denied.{IsDenied};
+ghost use Rattle.ae_code.specs.Refused.{IsRefused, IsDenied};
+ghost use Rattle.ae_reading.specs.Reads.{Always, Stopped, Failed};
+ghost use Rattle.ae_parser.specs.Reading.{whole_program, KeepsAllWhole, rule_of};
 
-use crate::fail::Fail;
-use crate::methods::only_method;
+use crate::declarations::{Parts, read_all_declarations};
 use crate::numbers::{Numbered, number_names};
-use ae_code::{Decl, Method, Program};
-use ae_text::{Deny, Items, Refusal, Rule, Spot, Token};
-use std::alloc::{AllocError, Global};
-
-fn program_of(alloc: Global, names: Items<Items<u8>>, method: Method) -> Result<Program, AllocError>
-    ensures { IfOk result (λ p. code p ≡ record { names = names; classes = []; methods = definition method ∷ []; decls = Decl.Method 0 ∷ [] }) }
-{
-    let mut methods = Items::new(alloc);
-    methods.push(method)?;
-    let mut decls = Items::new(alloc);
-    decls.push(Decl::Method(0))?;
-    Ok(Program {
-        names,
-        classes: Items::new(alloc),
-        methods,
-        decls,
-    })
-}
+use ae_code::{Limit, Program};
+use ae_reading::{Fail, Why};
+use ae_text::{Deny, Refusal, Rule, Token};
+use std::alloc::Global;
 
 fn program(alloc: Global, tokens: &[Token]) -> Result<Program, Fail>
     requires whole { IsWhole tokens.now }
     requires short { length tokens.now ≤ 1048577 }
     ensures ok { IfOk result (λ p. Derives tokens.now (code p)) }
     ensures within { IfOk result (λ p. Within (code p)) }
-    ensures built { IfOk result (λ p. Built (code p)) }
     ensures only { (p : Code) → Derives tokens.now p → Within p → MatchResult result (λ q. code q ≡ p) (λ e. e ≡ Fail.Memory) }
+    ensures fails { IfErr result (λ e. Failed whole_program KeepsAllWhole Always (numbered (names_of tokens.now) tokens.now) e) }
 {
     let Numbered { names, lexemes } = number_names(alloc, tokens)?;
-    let method = only_method(alloc, lexemes.as_slice())?;
-    Ok(program_of(alloc, names, method)?)
+    let Parts {
+        classes,
+        methods,
+        decls,
+    } = read_all_declarations(alloc, lexemes.as_slice())?;
+    Ok(Program {
+        names,
+        classes,
+        methods,
+        decls,
+    })
 }
 
-/// The refusal of a source that is no program: until every form is read, it stands at the first place.
-fn deny(fail: Fail) -> Deny
-    ensures denied { IsDenied result }
+fn rule_over(limit: Limit) -> Rule
+    ensures { result ≡ rule_of (Why.Over limit) }
+{
+    match limit {
+        Limit::Statements => Rule::BlockTooLong,
+        Limit::Levels => Rule::TooDeep,
+        Limit::Depth => Rule::TooDeep,
+        Limit::Params => Rule::TooManyParams,
+    }
+}
+
+fn broken_rule(why: Why) -> Rule
+    ensures { result ≡ rule_of why }
+{
+    match why {
+        Why::Unexpected => Rule::Unexpected,
+        Why::Over(limit) => rule_over(limit),
+    }
+}
+
+/// The refusal of the token from which on this many are left.
+fn refusal(tokens: &[Token], why: Why, left: usize) -> Refusal
+    requires whole { IsWhole tokens.now }
+    requires stopped { Stopped whole_program KeepsAllWhole Always (numbered (names_of tokens.now) tokens.now) why left }
+    ensures { IsRefused tokens.now result.rule result.at }
+{
+    let refused = &tokens[tokens.len() - left];
+    Refusal {
+        rule: broken_rule(why),
+        at: refused.at,
+    }
+}
+
+fn deny(tokens: &[Token], fail: Fail) -> Deny
+    requires whole { IsWhole tokens.now }
+    requires fails { Failed whole_program KeepsAllWhole Always (numbered (names_of tokens.now) tokens.now) fail }
+    ensures denied { IsDenied tokens.now result }
     ensures memory { fail ≡ Fail.Memory → result ≡ Deny.Memory }
 {
     match fail {
-        Fail::Refused(_, _) => Deny::Refused(Refusal {
-            rule: Rule::Unexpected,
-            at: Spot { line: 1, col: 1 },
-        }),
+        Fail::Refused(why, left) => Deny::Refused(refusal(tokens, why, left)),
         Fail::Memory => Deny::Memory,
     }
 }
 
 /// Reads the program that the tokens of a source stand for.
 ///
-/// A source that is no program within the limits is refused as `Unexpected`, at line 1 and column 1.
+/// A source that is no program within the limits is refused at the first token with which no
+/// such program goes on: as `Unexpected` where no program of any size does, and else for the
+/// limit that each is over. A block that is too deep is refused at its `{`, and a parameter too many
+/// at its first token, though what stands before them already leads there.
 pub fn parse(alloc: Global, tokens: &[Token]) -> Result<Program, Deny>
     requires whole { IsWhole tokens.now }
     requires short { length tokens.now ≤ 1048577 }
     ensures ok { IfOk result (λ p. Derives tokens.now (code p)) }
     ensures within { IfOk result (λ p. Within (code p)) }
-    ensures built { IfOk result (λ p. Built (code p)) }
     ensures only { (p : Code) → Derives tokens.now p → Within p → MatchResult result (λ q. code q ≡ p) (λ e. e ≡ Deny.Memory) }
-    ensures refused { IfErr result IsDenied }
+    ensures refused { IfErr result (IsDenied tokens.now) }
 {
     match program(alloc, tokens) {
         Ok(program) => Ok(program),
-        Err(fail) => Err(deny(fail)),
+        Err(fail) => Err(deny(tokens, fail)),
     }
 }
