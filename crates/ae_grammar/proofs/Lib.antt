@@ -1,0 +1,2 @@
+pub mod UniqueMethods
+pub mod UniquePrograms
