@@ -1,0 +1,14 @@
+pub mod Escapes
+pub mod Written
+pub mod Behind
+pub mod Cut
+pub mod Forms
+pub mod Sources
+pub mod Productions
+pub mod Programs
+pub mod Spelled
+pub mod Moved
+pub mod MovedLines
+pub mod MovedPrograms
+pub mod Kept
+pub mod Again
