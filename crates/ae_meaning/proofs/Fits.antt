@@ -1,5 +1,5 @@
 -- A program that is built and judged has an ending: each visible name has a value.
-use Rattle.std.specs.Prelude.{IsSome, ◌+ℤ◌, ◌-ℤ◌, ◌*ℤ◌, int_div, int_rem}
+use Rattle.std.specs.Prelude.{IsSome, ◌+ℤ◌, ◌-ℤ◌, ◌*ℤ◌, neg_ℤ, int_div, int_rem}
 use Rattle.std.proofs.Common.{◌≡◌, ◌≤◌, ◌^◌, ℕ, ℤ, pos, negsuc, Bool, true, false, ◌||◌, if◌then◌else◌, nat_eq, nat_lt, List, [], ◌∷◌, Option, None, Some, Result, Ok, Err, IfOk, refl, ap, sym, ◌∙◌, subst, arith}
 use Rattle.ae_text.specs.declared.refusal.Spot.{Spot}
 use Rattle.ae_text.specs.declared.refusal.Rule.{Rule}
@@ -9,10 +9,10 @@ use Rattle.ae_code.specs.declared.tree.Op.{Op}
 use Rattle.ae_code.specs.declared.tree.Op.TheVariants as op
 use Rattle.ae_code.specs.Plain.{Expression, Number, Truth, Nothing, Read, Item, Length, Grouped, Negated, Minus, Binary, Value, Taken, Zeros, Made, Returned, Lines, End, Next, Definition, Code}
 use Rattle.ae_code.specs.Plain.{Action, Declares, Assigns, Stores, StoresAt, Calls, Chooses, ChoosesElse, Repeats, Groups, Splits, Locks, Freezes, Shares, Prints, PrintsText, Asserts, Returns}
-use Rattle.ae_code.specs.Names.{main}
+use Rattle.ae_code.specs.Names.{io, main}
 use Rattle.ae_code.specs.Grammar.{level}
 use Rattle.ae_code.specs.Built.{IsBuiltExpression, IsBuiltAction, AreBuilt}
-use Rattle.ae_code.specs.Judgement.{Scope, nobody, and_also, Verdict, Holds, Broken, then_judge, visible, judge_expression, judge_action, judge, judge_methods, IsHeld, Accepted}
+use Rattle.ae_code.specs.Judgement.{Scope, nobody, and_also, Verdict, Holds, Broken, then_judge, visible, free, judge_expression, judge_action, judge, judge_methods, IsHeld, Accepted}
 use Rattle.ae_meaning.specs.declared.report.Ending.{Ending}
 use Rattle.ae_meaning.specs.declared.report.Meant.{Meant}
 use Rattle.ae_meaning.specs.Values.{Env, with, Outcome, Fine, Traps, Lacks, then_value, found, fitted, unless_zero, applied, value}
@@ -81,6 +81,10 @@ seen_name : (b : Bool) (at : Spot) (rule : Rule) (scope : Scope) (next : Scope �
 seen_name true at rule scope next h = refl
 seen_name false at rule scope next h = absurd h
 
+free_name : (b : Bool) (at : Spot) (scope : Scope) (next : Scope → Verdict) → IsHeld (then_judge (if b then Broken rule.DuplicateLocal at else Holds scope) next) → IsHeld (next scope)
+free_name true at scope next h = absurd h
+free_name false at scope next h = h
+
 pub knows : (e : Expression) → IsBuiltExpression e → (scope : Scope) (env : Env) → Fits scope env → (next : Scope → Verdict)
     → IsHeld (then_judge (judge_expression e scope) next) → Knows (judge_expression e scope) scope (value e env)
 knows (Number n at) b scope env f next h = record { holds = refl; known = tt }
@@ -88,12 +92,14 @@ knows (Truth t at) b scope env f next h = absurd b
 knows (Nothing at) b scope env f next h = absurd b
 knows (Read p) b scope env f next h =
     let t : scope p.root.name ≡ true = seen_name (scope p.root.name) _ _ scope next h in
-    record { holds = rw t refl; known = rw b (found_known (env p.root.name) (f p.root.name t)) }
+    record { holds = rw t refl; known = rw b.0 (found_known (env p.root.name) (f p.root.name t)) }
 knows (Item p e) b scope env f next h = absurd b
 knows (Length p at) b scope env f next h = absurd b
-knows (Grouped e at) b scope env f next h = absurd b
+knows (Grouped e at) b scope env f next h = knows e b scope env f next h
 knows (Negated e at) b scope env f next h = absurd b
-knows (Minus e at) b scope env f next h = absurd b
+knows (Minus e at) b scope env f next h =
+    let k : Knows (judge_expression e scope) scope (value e env) = knows e b scope env f next h in
+    record { holds = k.holds; known = then_known (value e env) _ k.known (λ v. fitted_known (neg_ℤ v)) }
 knows (Binary o x y) b scope env f next h =
     let h1 : IsHeld (then_judge (judge_expression x scope) (λ s. then_judge (judge_expression y s) next)) = subst IsHeld (then_judge-assoc (judge_expression x scope) (judge_expression y) next) h in
     let k : Knows (judge_expression x scope) scope (value x env) = knows x b.1 scope env f (λ s. then_judge (judge_expression y s) next) h1 in
@@ -135,16 +141,19 @@ pub action_ends : (at : Spot) (a : Action) → IsBuiltAction a → (scope : Scop
     → ((after : Scope) (t : State) → Fits after t.env → IsHeld (next after) → HasEnding (rest t))
     → HasEnding (and_then (one at a s) rest)
 action_ends at (Declares ty x (Value e)) b scope s f next h rest r =
+    let then_right : Scope → Verdict = λ t. then_judge (judge_expression e t) (λ u. Holds (and_also x.name u)) in
     let then_next : Scope → Verdict = λ t. next (and_also x.name t) in
-    let h1 : IsHeld (then_judge (judge_expression e scope) then_next) = subst IsHeld (then_judge-assoc (judge_expression e scope) (λ t. Holds (and_also x.name t)) next) h in
-    let k : Knows (judge_expression e scope) scope (value e s.env) = knows e b scope s.env f then_next h1 in
-    let h2 : IsHeld (next (and_also x.name scope)) = subst (λ (v : Verdict). IsHeld (then_judge v then_next)) k.holds h1 in
+    let h1 : IsHeld (then_judge (free x.name x.at scope) (λ t. then_judge (then_right t) next)) = subst IsHeld (then_judge-assoc (free x.name x.at scope) then_right next) h in
+    let h2 : IsHeld (then_judge (then_right scope) next) = free_name (nat_eq io x.name || scope x.name) x.at scope (λ t. then_judge (then_right t) next) h1 in
+    let h3 : IsHeld (then_judge (judge_expression e scope) then_next) = subst IsHeld (then_judge-assoc (judge_expression e scope) (λ t. Holds (and_also x.name t)) next) h2 in
+    let k : Knows (judge_expression e scope) scope (value e s.env) = knows e b.1 scope s.env f then_next h3 in
+    let h4 : IsHeld (next (and_also x.name scope)) = subst (λ (v : Verdict). IsHeld (then_judge v then_next)) k.holds h3 in
     given_ends (value e s.env) k.known at s (λ v. Went (bound x.name v s)) rest
-    (λ v. r (and_also x.name scope) (bound x.name v s) (fits-declared scope s.env f x.name v) h2)
-action_ends at (Declares ty x (Taken p place)) b scope s f next h rest r = absurd b
-action_ends at (Declares ty x (Zeros e place)) b scope s f next h rest r = absurd b
-action_ends at (Declares ty x (Made c groups args place)) b scope s f next h rest r = absurd b
-action_ends at (Declares ty x (Returned c)) b scope s f next h rest r = absurd b
+    (λ v. r (and_also x.name scope) (bound x.name v s) (fits-declared scope s.env f x.name v) h4)
+action_ends at (Declares ty x (Taken p place)) b scope s f next h rest r = absurd b.1
+action_ends at (Declares ty x (Zeros e place)) b scope s f next h rest r = absurd b.1
+action_ends at (Declares ty x (Made c groups args place)) b scope s f next h rest r = absurd b.1
+action_ends at (Declares ty x (Returned c)) b scope s f next h rest r = absurd b.1
 action_ends at (Assigns x (Value e)) b scope s f next h rest r =
     let then_next : Scope → Verdict = λ t. then_judge (judge_expression e t) next in
     let h1 : IsHeld (then_judge (visible x.name x.at scope) then_next) = subst IsHeld (then_judge-assoc (visible x.name x.at scope) (judge_expression e) next) h in

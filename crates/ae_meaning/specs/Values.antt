@@ -1,5 +1,5 @@
 -- Values, and what an expression comes to.
-use Rattle.std.specs.Prelude.{ℕ, ◌^◌, ℤ, pos, negsuc, ◌+ℤ◌, ◌-ℤ◌, ◌*ℤ◌, int_div, int_rem, nat_lt, nat_eq, if◌then◌else◌, List, [], ◌∷◌, Option, None, Some}
+use Rattle.std.specs.Prelude.{ℕ, ◌^◌, ℤ, pos, negsuc, ◌+ℤ◌, ◌-ℤ◌, ◌*ℤ◌, neg_ℤ, int_div, int_rem, nat_lt, nat_eq, if◌then◌else◌, List, [], ◌∷◌, Option, None, Some}
 use Rattle.ae_code.specs.declared.tree.Op.{Op}
 use Rattle.ae_code.specs.declared.tree.Op.TheVariants as op
 use Rattle.ae_code.specs.declared.tree.NameAt.{NameAt}
@@ -69,7 +69,7 @@ value (Nothing at) env = Lacks
 value (Read p) env = stepped p.steps (found (env p.root.name))
 value (Item p e) env = Lacks
 value (Length p at) env = Lacks
-value (Grouped e at) env = Lacks
+value (Grouped e at) env = value e env
 value (Negated e at) env = Lacks
-value (Minus e at) env = Lacks
+value (Minus e at) env = then_value (value e env) (λ x. fitted (neg_ℤ x))
 value (Binary op a b) env = then_value (value a env) (λ x. then_value (value b env) (λ y. applied op x y))

@@ -1,5 +1,5 @@
 // The values of expressions.
-ghost use Rattle.std.specs.Prelude.{◌≡◌, ◌≢◌, pos, int_div, int_rem};
+ghost use Rattle.std.specs.Prelude.{◌≡◌, ◌≢◌, pos, neg_ℤ, int_div, int_rem};
 ghost use Rattle.ae_code.specs.Shown.{expression};
 ghost use Rattle.ae_meaning.specs.Values.{Fine, value, found, fitted, unless_zero, applied, stepped};
 ghost use Rattle.ae_meaning.specs.Running.{env_of, Comes};
@@ -51,6 +51,13 @@ fn apply(op: Op, a: i64, b: i64) -> Result<i64, Fault>
     }
 }
 
+// The negation of the least number does not fit.
+fn negate(a: i64) -> Result<i64, Fault>
+    ensures { Comes (fitted (neg_ℤ a)) result }
+{
+    a.checked_neg().ok_or(OVERFLOW)
+}
+
 // A local's value. Fields are not read yet.
 fn read(path: &Path, locals: &Locals) -> Result<i64, Fault>
     ensures { Comes (stepped path.now.steps (found (env_of locals.now path.now.root.name))) result }
@@ -69,17 +76,15 @@ pub fn value_of(expr: &Expr, locals: &Locals) -> Result<i64, Fault>
     match expr {
         Expr::Int(n, _) => Ok(*n),
         Expr::Path(path) => read(path, locals),
+        Expr::Paren(inner, _) => value_of(inner.get(), locals),
+        Expr::Neg(inner, _) => negate(value_of(inner.get(), locals)?),
         Expr::Bin(op, a, b) => {
             let x = value_of(a.get(), locals)?;
             let y = value_of(b.get(), locals)?;
             apply(*op, x, y)
         }
-        Expr::Bool(..)
-        | Expr::Null(_)
-        | Expr::Index(..)
-        | Expr::Len(..)
-        | Expr::Paren(..)
-        | Expr::Not(..)
-        | Expr::Neg(..) => Err(Fault::Lack),
+        Expr::Bool(..) | Expr::Null(_) | Expr::Index(..) | Expr::Len(..) | Expr::Not(..) => {
+            Err(Fault::Lack)
+        }
     }
 }

@@ -1,5 +1,6 @@
 -- What a statement does, told by the locals that it uses alone.
 use Rattle.std.proofs.Common.{◌≡◌, ℕ, ℤ, Bool, true, false, ◌||◌, if◌then◌else◌, nat_eq, List, [], ◌∷◌, ◌++◌, Option, None, Some, refl, ap, ◌∙◌, arith}
+use Rattle.std.specs.Prelude.{neg_ℤ}
 use Rattle.std.specs.Fmt.{signed_decimal}
 use Rattle.std.proofs.lemmas.Bool.Decides.{nat_tests}
 use Rattle.ae_text.specs.declared.refusal.Spot.{Spot}
@@ -9,7 +10,7 @@ use Rattle.ae_code.specs.Plain.{Expression, Number, Truth, Nothing, Read, Item, 
 use Rattle.ae_code.specs.Plain.{Action, Declares, Assigns, Stores, StoresAt, Calls, Chooses, ChoosesElse, Repeats, Groups, Splits, Locks, Freezes, Shares, Prints, PrintsText, Asserts, Returns}
 use Rattle.ae_code.specs.Uses.{reads, reads_right, read_if, local_mode}
 use Rattle.ae_meaning.specs.declared.report.Ending.TheVariants.{Trap}
-use Rattle.ae_meaning.specs.Values.{Env, with, Outcome, Fine, Traps, Lacks, found, stepped, value}
+use Rattle.ae_meaning.specs.Values.{Env, with, Outcome, Fine, Traps, Lacks, then_value, found, fitted, stepped, value}
 use Rattle.ae_meaning.specs.Meaning.{State, Run, Went, Ends, Stops, given, bound, printed, one}
 use Rattle.ae_meaning.specs.Running.{sought}
 use Rattle.ae_meaning.proofs.Rules.{right-given}
@@ -38,9 +39,9 @@ value_same (Nothing at) e f h = refl
 value_same (Read p) e f h = ap (λ o. stepped p.steps (found o)) (h p.root.name (nat_eq_self p.root.name))
 value_same (Item p a) e f h = refl
 value_same (Length p at) e f h = refl
-value_same (Grouped a at) e f h = refl
+value_same (Grouped a at) e f h = value_same a e f h
 value_same (Negated a at) e f h = refl
-value_same (Minus a at) e f h = refl
+value_same (Minus a at) e f h = ap (λ o. then_value o (λ x. fitted (neg_ℤ x))) (value_same a e f h)
 value_same (Binary op a b) e f h =
     let p : value a e ≡ value a f = value_same a e f (λ y r. h y (or_left (reads a y) (reads b y) r)) in
     let q : value b e ≡ value b f = value_same b e f (λ y r. h y (or_right (reads a y) (reads b y) r)) in
