@@ -2,7 +2,6 @@
 use Rattle.std.specs.Prelude.{ℕ, ◌-◌, List, [], ◌∷◌, ◌++◌, length, slice_get, Option, None, Some, codes, nat_eq, if◌then◌else◌}
 use Rattle.std.specs.Fmt.{decimal}
 use Rattle.ae_text.specs.declared.refusal.Refusal.{Refusal}
-use Rattle.ae_text.specs.declared.refusal.Spot.{Spot}
 use Rattle.ae_text.specs.Rules.{rule_text}
 use Rattle.ae_meaning.specs.declared.report.Ending.{Ending}
 use Rattle.ae_meaning.specs.declared.report.Ending.TheVariants.{Done, Trap, Fuel}

@@ -3,11 +3,13 @@ use Rattle.std.specs.Prelude.{◌≡◌, ℕ, ◌+◌, ◌≤◌, List, [], ◌�
 use Rattle.std.specs.Io.KnownBytes.{Consumes, IsAtEnd, Appends}
 use Rattle.ae_text.specs.declared.refusal.Spot.{Spot}
 use Rattle.ae_text.specs.declared.refusal.Rule.{Rule}
-use Rattle.ae_text.specs.declared.refusal.Rule.TheVariants.{NotText, BadChar, IntTooLarge, OpenText, TooLong, Unexpected, UnknownName}
+use Rattle.ae_text.specs.declared.refusal.Rule.TheVariants.{NotText, BadChar, IntTooLarge, OpenText, TooLong, Unexpected, BlockTooLong, TooDeep, TooManyParams, NotBuilt, UnknownName, DuplicateLocal}
 use Rattle.ae_text.specs.Whole.{most}
 use Rattle.ae_text.specs.declared.refusal.Deny.{Deny}
 use Rattle.ae_text.specs.declared.refusal.Deny.TheVariants as d
 use Rattle.ae_code.specs.Plain.{Code, Definition, Lines}
+use Rattle.ae_code.specs.Refused.{IsRefused}
+use Rattle.ae_code.specs.Built.{Built}
 use Rattle.ae_code.specs.Judgement.{Accepted, Breaks}
 use Rattle.ae_meaning.specs.declared.report.RunReport.{RunReport}
 use Rattle.ae_meaning.specs.Meaning.{seq}
@@ -15,7 +17,7 @@ use Rattle.aem.specs.declared.answer.What.{What}
 use Rattle.aem.specs.declared.answer.What.TheVariants as w
 use Rattle.ae_text.specs.declared.token.Token.{Token}
 use Rattle.ae_text.specs.Tokens.{Lexes, LexFault, place}
-use Rattle.aem.specs.Small.{IsSource, NoProgram}
+use Rattle.aem.specs.Small.{IsSource}
 use Rattle.ae_graph.specs.GraphText.{IsGraphText}
 use Rattle.aem.specs.declared.answer.Command.{Command}
 use Rattle.aem.specs.declared.answer.Command.TheVariants.{Graph, Run}
@@ -33,14 +35,27 @@ IsWholeText taken left = (length taken ≤ most) × IsAtEnd left
 abbrev pub IsFaultAt : Rule → Spot → List ℕ → Type 0
 IsFaultAt rule at text = (offset : ℕ) × LexFault text rule offset × (at ≡ place text offset)
 
+-- the text has tokens, and one of them is refused by this rule, at its place
+abbrev pub IsTokenAt : Rule → Spot → List ℕ → Type 0
+IsTokenAt rule at text = (tokens : List Token) × Lexes text tokens × IsRefused tokens rule at
+
+-- the text is a source of forms that run today, and a name in it breaks this rule first
+abbrev pub IsNameAt : Rule → Spot → List ℕ → Type 0
+IsNameAt rule at text = (program : Code) × IsSource text program × Built program × Breaks program rule at
+
 -- why a rule is the first that a whole text breaks, and where
 abbrev pub IsBroken : Rule → Spot → List ℕ → Type 0
 IsBroken NotText at text = IsFaultAt NotText at text
 IsBroken BadChar at text = IsFaultAt BadChar at text
 IsBroken IntTooLarge at text = IsFaultAt IntTooLarge at text
 IsBroken OpenText at text = IsFaultAt OpenText at text
-IsBroken Unexpected at text = (at ≡ first_spot) × ((tokens : List Token) × Lexes text tokens × NoProgram tokens)
-IsBroken UnknownName at text = (program : Code) × IsSource text program × Breaks program UnknownName at
+IsBroken Unexpected at text = IsTokenAt Unexpected at text
+IsBroken BlockTooLong at text = IsTokenAt BlockTooLong at text
+IsBroken TooDeep at text = IsTokenAt TooDeep at text
+IsBroken TooManyParams at text = IsTokenAt TooManyParams at text
+IsBroken NotBuilt at text = (at ≡ first_spot) × ((program : Code) × IsSource text program × (Built program → ⊥))
+IsBroken UnknownName at text = IsNameAt UnknownName at text
+IsBroken DuplicateLocal at text = IsNameAt DuplicateLocal at text
 IsBroken _ at text = ⊥
 
 -- a source with a byte too many breaks no other rule, and otherwise it was read to its end
@@ -56,11 +71,6 @@ HasBody program b = (m : Definition) × (program.methods ≡ m ∷ []) × (m.bod
 abbrev pub IsUnread : List ℕ → Deny → Type 0
 IsUnread text (d.Refused r) = IsBroken r.rule r.at text
 IsUnread text d.Memory = Unit {0}
-
--- why tokens give no program
-abbrev pub IsUnparsed : List Token → Deny → Type 0
-IsUnparsed tokens (d.Refused r) = (r ≡ record { rule = Unexpected; at = first_spot }) × NoProgram tokens
-IsUnparsed tokens d.Memory = Unit {0}
 
 -- the report is that of the source's meaning, with no integers and a fuel of 100,000
 abbrev pub IsMeant : RunReport → Code → Type 0

@@ -2,6 +2,9 @@
 #![tactic(auto)]
 
 mod answer;
+mod built;
+#[cfg(test)]
+mod layout_tests;
 mod names;
 #[cfg(test)]
 mod tests;

@@ -41,18 +41,12 @@ fn source_of(
     Ok(MemSource::new(bytes, most, Items::from_slice(alloc, fail)?))
 }
 
-const CASES: [Case; 16] = [
+const CASES: [Case; 60] = [
     Case {
         words: &["graph"],
         source: SUM,
         text: "method main\nblock 0 has 3\n2 after 0 1\n",
         status: 0,
-    },
-    Case {
-        words: &["run"],
-        source: "method void main() with exclusive io { let int a = 1; let int b = a / 0; print a; let int c = 1 % 0; }",
-        text: "== trap 2 at 1:55\n",
-        status: 1,
     },
     Case {
         words: &["run"],
@@ -62,27 +56,15 @@ const CASES: [Case; 16] = [
     },
     Case {
         words: &["run"],
-        source: "method void main() with exclusive io { }",
-        text: "== done\n",
+        source: "method void main()with exclusive io{print(1+2)*3;}",
+        text: "9\n== done\n",
         status: 0,
     },
     Case {
         words: &["run"],
-        source: "method void main() with exclusive io { let int a = 9223372036854775807; print a + 1; }",
-        text: "== trap 1 at 1:73\n",
-        status: 1,
-    },
-    Case {
-        words: &["run"],
-        source: "method void main() with exclusive io { print b; }",
-        text: "refused N5 UnknownName at 1:46\n",
-        status: 2,
-    },
-    Case {
-        words: &["run"],
-        source: "method void main() with exclusive io {\nprint 7;\nlet int z = 1 / 0;\nlet int w = 9223372036854775807 + 1;\n}\n",
-        text: "7\n== trap 2 at 3:1\n",
-        status: 1,
+        source: "method void main() with exclusive io { }",
+        text: "== done\n",
+        status: 0,
     },
     Case {
         words: &["run"],
@@ -98,9 +80,51 @@ const CASES: [Case; 16] = [
     },
     Case {
         words: &["run"],
+        source: "method void main() with exclusive io { print -3; print --3; print -3 - -4; print -(1 + 2) * 2; }",
+        text: "-3\n3\n1\n-6\n== done\n",
+        status: 0,
+    },
+    Case {
+        words: &["run"],
+        source: "method void main() with exclusive io { let int a = ((5)); print -a; print 10 - (3 - 2); }",
+        text: "-5\n9\n== done\n",
+        status: 0,
+    },
+    Case {
+        words: &["run"],
+        source: "method void main() with exclusive io { print -9223372036854775807 - 1; }",
+        text: "-9223372036854775808\n== done\n",
+        status: 0,
+    },
+    Case {
+        words: &["run"],
         source: "method void main() with exclusive io { let int a = 0 - 9223372036854775807 - 1; print a % (0 - 1); }",
-        text: "refused S1 Unexpected at 1:1\n",
-        status: 2,
+        text: "0\n== done\n",
+        status: 0,
+    },
+    Case {
+        words: &["run"],
+        source: "method void main() with exclusive io { let int a = 1; let int b = a / 0; print a; let int c = 1 % 0; }",
+        text: "== trap 2 at 1:55\n",
+        status: 1,
+    },
+    Case {
+        words: &["run"],
+        source: "method void main() with exclusive io { let int a = 9223372036854775807; print a + 1; }",
+        text: "== trap 1 at 1:73\n",
+        status: 1,
+    },
+    Case {
+        words: &["run"],
+        source: "method void main() with exclusive io { let int a = 0 - 9223372036854775807 - 1; print -a; }",
+        text: "== trap 1 at 1:81\n",
+        status: 1,
+    },
+    Case {
+        words: &["run"],
+        source: "method void main() with exclusive io {\nprint 7;\nlet int z = 1 / 0;\nlet int w = 9223372036854775807 + 1;\n}\n",
+        text: "7\n== trap 2 at 3:1\n",
+        status: 1,
     },
     Case {
         words: &["run"],
@@ -110,14 +134,254 @@ const CASES: [Case; 16] = [
     },
     Case {
         words: &["run"],
+        source: "method void main() with exclusive io { print b; }",
+        text: "refused N5 UnknownName at 1:46\n",
+        status: 2,
+    },
+    Case {
+        words: &["run"],
+        source: "method void main() with exclusive io { print io; }",
+        text: "refused N5 UnknownName at 1:46\n",
+        status: 2,
+    },
+    Case {
+        words: &["run"],
+        source: "method void main() with exclusive io { print -(1 + b); }",
+        text: "refused N5 UnknownName at 1:52\n",
+        status: 2,
+    },
+    Case {
+        words: &["run"],
+        source: "method void main() with exclusive io { let int a = 1 + a; }",
+        text: "refused N5 UnknownName at 1:56\n",
+        status: 2,
+    },
+    Case {
+        words: &["run"],
+        source: "method void main() with exclusive io { b = c; }",
+        text: "refused N5 UnknownName at 1:40\n",
+        status: 2,
+    },
+    Case {
+        words: &["run"],
         source: "method void main() with exclusive io { let int a = 1; let int a = 2; }",
-        text: "refused S1 Unexpected at 1:1\n",
+        text: "refused N6 DuplicateLocal at 1:63\n",
+        status: 2,
+    },
+    Case {
+        words: &["run"],
+        source: "method void main() with exclusive io { let int a = 1; let int a = b; }",
+        text: "refused N6 DuplicateLocal at 1:63\n",
         status: 2,
     },
     Case {
         words: &["run"],
         source: "method void main() with exclusive io { let int io = 1; }",
+        text: "refused N6 DuplicateLocal at 1:48\n",
+        status: 2,
+    },
+    Case {
+        words: &["run"],
+        source: "",
+        text: "refused U1 NotBuilt at 1:1\n",
+        status: 2,
+    },
+    Case {
+        words: &["run"],
+        source: "method void main() { }",
+        text: "refused U1 NotBuilt at 1:1\n",
+        status: 2,
+    },
+    Case {
+        words: &["run"],
+        source: "method void other() with exclusive io { }",
+        text: "refused U1 NotBuilt at 1:1\n",
+        status: 2,
+    },
+    Case {
+        words: &["run"],
+        source: "method void main(int a) with exclusive io { }",
+        text: "refused U1 NotBuilt at 1:1\n",
+        status: 2,
+    },
+    Case {
+        words: &["run"],
+        source: "method void main() with shared io { }",
+        text: "refused U1 NotBuilt at 1:1\n",
+        status: 2,
+    },
+    Case {
+        words: &["run"],
+        source: "method void main() with exclusive io, exclusive io { }",
+        text: "refused U1 NotBuilt at 1:1\n",
+        status: 2,
+    },
+    Case {
+        words: &["run"],
+        source: "class main { } method void main() with exclusive io { }",
+        text: "refused U1 NotBuilt at 1:1\n",
+        status: 2,
+    },
+    Case {
+        words: &["run"],
+        source: "method void main() with exclusive io { } method void other() { }",
+        text: "refused U1 NotBuilt at 1:1\n",
+        status: 2,
+    },
+    Case {
+        words: &["run"],
+        source: "method void main() with exclusive io { print true; }",
+        text: "refused U1 NotBuilt at 1:1\n",
+        status: 2,
+    },
+    Case {
+        words: &["run"],
+        source: "method void main() with exclusive io { print 1 < 2; }",
+        text: "refused U1 NotBuilt at 1:1\n",
+        status: 2,
+    },
+    Case {
+        words: &["run"],
+        source: "method void main() with exclusive io { print !b; }",
+        text: "refused U1 NotBuilt at 1:1\n",
+        status: 2,
+    },
+    Case {
+        words: &["run"],
+        source: "method void main() with exclusive io { print b; print \"a\"; }",
+        text: "refused U1 NotBuilt at 1:1\n",
+        status: 2,
+    },
+    Case {
+        words: &["run"],
+        source: "method void main() with exclusive io { print a.b; }",
+        text: "refused U1 NotBuilt at 1:1\n",
+        status: 2,
+    },
+    Case {
+        words: &["run"],
+        source: "method void main() with exclusive io { print this; }",
+        text: "refused U1 NotBuilt at 1:1\n",
+        status: 2,
+    },
+    Case {
+        words: &["run"],
+        source: "method void main() with exclusive io { let bool a = 1; }",
+        text: "refused U1 NotBuilt at 1:1\n",
+        status: 2,
+    },
+    Case {
+        words: &["run"],
+        source: "method void main() with exclusive io { let int a = f(1); }",
+        text: "refused U1 NotBuilt at 1:1\n",
+        status: 2,
+    },
+    Case {
+        words: &["run"],
+        source: "method void main() with exclusive io { if 1 { } }",
+        text: "refused U1 NotBuilt at 1:1\n",
+        status: 2,
+    },
+    Case {
+        words: &["run"],
+        source: "method void main() with exclusive io { return 1; }",
+        text: "refused U1 NotBuilt at 1:1\n",
+        status: 2,
+    },
+    Case {
+        words: &["run"],
+        source: "main",
         text: "refused S1 Unexpected at 1:1\n",
+        status: 2,
+    },
+    Case {
+        words: &["run"],
+        source: "method",
+        text: "refused S1 Unexpected at 1:7\n",
+        status: 2,
+    },
+    Case {
+        words: &["run"],
+        source: "method void main(+) { }",
+        text: "refused S1 Unexpected at 1:18\n",
+        status: 2,
+    },
+    Case {
+        words: &["run"],
+        source: "method void main() with exclusive io {",
+        text: "refused S1 Unexpected at 1:39\n",
+        status: 2,
+    },
+    Case {
+        words: &["run"],
+        source: "method void main() with exclusive io { }\n}",
+        text: "refused S1 Unexpected at 2:1\n",
+        status: 2,
+    },
+    Case {
+        words: &["run"],
+        source: "method void main() with exclusive io { print 1 }",
+        text: "refused S1 Unexpected at 1:48\n",
+        status: 2,
+    },
+    Case {
+        words: &["run"],
+        source: "method void main() with exclusive io { print 1 + ; }",
+        text: "refused S1 Unexpected at 1:50\n",
+        status: 2,
+    },
+    Case {
+        words: &["run"],
+        source: "method void main() with exclusive io { print (1; }",
+        text: "refused S1 Unexpected at 1:48\n",
+        status: 2,
+    },
+    Case {
+        words: &["run"],
+        source: "method void main() with exclusive io { print 1); }",
+        text: "refused S1 Unexpected at 1:47\n",
+        status: 2,
+    },
+    Case {
+        words: &["run"],
+        source: "method void main() with exclusive io { print true < 1 < 2; }",
+        text: "refused S1 Unexpected at 1:55\n",
+        status: 2,
+    },
+    Case {
+        words: &["run"],
+        source: "method void main() with exclusive io { let a = 1; }",
+        text: "refused S1 Unexpected at 1:44\n",
+        status: 2,
+    },
+    Case {
+        words: &["run"],
+        source: "method void main() with exclusive io { let int 1 = 1; }",
+        text: "refused S1 Unexpected at 1:48\n",
+        status: 2,
+    },
+    Case {
+        words: &["run"],
+        source: "method void main() with exclusive io { let int io = ; }",
+        text: "refused S1 Unexpected at 1:53\n",
+        status: 2,
+    },
+    Case {
+        words: &["run"],
+        source: "method void main() with exclusive io { return 1; print 2; }",
+        text: "refused S1 Unexpected at 1:50\n",
+        status: 2,
+    },
+    Case {
+        words: &["run"],
+        source: "method void main() with exclusive io { open }",
+        text: "refused S1 Unexpected at 1:40\n",
+        status: 2,
+    },
+    Case {
+        words: &["run"],
+        source: "method void main(int p1, int p2, int p3, int p4, int p5, int p6, int p7, int p8, int p9, int p10, int p11, int p12, int p13, int p14, int p15, int p16, int p17) { }",
+        text: "refused K4 TooManyParams at 1:153\n",
         status: 2,
     },
     Case {
@@ -237,7 +501,7 @@ fn long_texts(rt: HostRuntime) -> Result<(), Fail> {
     let words = words_of(alloc, &["run"])?;
     for (len, text) in [
         (1_048_577, "refused K1 TooLong at 1:1\n"),
-        (1_048_576, "refused S1 Unexpected at 1:1\n"),
+        (1_048_576, "refused U1 NotBuilt at 1:1\n"),
     ] {
         let spaces = vec![in alloc; b' '; len]?;
         let mut source = source_of(alloc, spaces.as_slice(), 1_048_576, &[])?;

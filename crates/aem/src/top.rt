@@ -1,26 +1,24 @@
 // Everything that the program does.
 ghost use Rattle.std.specs.Prelude.{◌≡◌, ◌≤◌, ◌↔◌, map, string_bytes, None, Some, IfSome, IfOk, IfErr, length};
 ghost use Rattle.ae_text.specs.Causes.{Rose};
-ghost use Rattle.ae_text.specs.Tokens.{IsWhole};
 ghost use Rattle.ae_code.specs.Plain.{Code};
 ghost use Rattle.ae_code.specs.Shown.{code, lines_from};
 ghost use Rattle.ae_code.specs.Judgement.{Accepted};
 ghost use Rattle.ae_code.specs.Built.{Built};
-ghost use Rattle.aem.specs.Small.{IsProgram, IsSource};
+ghost use Rattle.aem.specs.Small.{IsSource};
 ghost use Rattle.aem.specs.Texts.{output, whole_status, status_of};
-ghost use Rattle.aem.specs.Top.{HasBody, IsUnread, IsUnparsed, IsDoneFor, IsAnswer, Answers, Wrote, IsUsage};
+ghost use Rattle.aem.specs.Top.{HasBody, IsUnread, IsDoneFor, IsAnswer, Answers, Wrote, IsUsage};
 
 use crate::answer::{Answer, Command, What};
-use crate::names::{declares_once, first_unknown};
+use crate::built::is_built;
+use crate::names::first_broken;
 use crate::texts::{status, text_of};
 use crate::words::command;
 use ae_code::{Program, Stmt};
 use ae_graph::graph_text;
 use ae_parser::parse;
 use ae_run::run;
-use ae_text::{
-    Deny, Gate, ReadEnd, Refusal, Rule, Sink, Source, Spot, Token, lex, read_all, write_all,
-};
+use ae_text::{Deny, Gate, ReadEnd, Refusal, Rule, Sink, Source, Spot, lex, read_all, write_all};
 use std::alloc::Global;
 use std::thread::Threads;
 
@@ -48,40 +46,17 @@ fn body_of(program: &Program) -> &[Stmt]
     }
 }
 
-// The program of the tokens, or why they have none.
-fn parse_once(alloc: Global, tokens: &[Token]) -> Result<Program, Deny>
-    requires whole { IsWhole tokens.now }
-    requires short { length tokens.now ≤ 1048577 }
-    ensures ok { IfOk result (λ p. IsProgram tokens.now (code p)) }
-    ensures built { IfOk result (λ p. Built (code p)) }
-    ensures refused { IfErr result (IsUnparsed tokens.now) }
-{
-    let program = match parse(alloc, tokens) {
-        Ok(program) => program,
-        Err(deny) => return Err(deny),
-    };
-    match declares_once(alloc, body_of(&program)) {
-        Ok(true) => Ok(program),
-        Ok(false) => Err(Deny::Refused(Refusal {
-            rule: Rule::Unexpected,
-            at: Spot { line: 1, col: 1 },
-        })),
-        Err(_) => Err(Deny::Memory),
-    }
-}
-
 // The program that a text is, or why it is none.
 fn read_program(alloc: Global, text: &[u8]) -> Result<Program, Deny>
     requires { length text.now ≤ 1048576 }
     ensures ok { IfOk result (λ p. IsSource text.now (code p)) }
-    ensures built { IfOk result (λ p. Built (code p)) }
     ensures refused { IfErr result (IsUnread text.now) }
 {
     let tokens = match lex(alloc, text) {
         Ok(tokens) => tokens,
         Err(deny) => return Err(deny),
     };
-    match parse_once(alloc, tokens.as_slice()) {
+    match parse(alloc, tokens.as_slice()) {
         Ok(program) => Ok(program),
         Err(deny) => Err(deny),
     }
@@ -126,12 +101,12 @@ fn answer_to<G: Gate>(
         Err(Deny::Refused(refusal)) => return What::Refused(refusal),
         Err(Deny::Memory) => return What::Memory,
     };
-    match first_unknown(alloc, body_of(&program)) {
+    if !is_built(&program) {
+        return first_refused(Rule::NotBuilt);
+    }
+    match first_broken(alloc, body_of(&program)) {
         Ok(None) => done(rt, alloc, command, &program, gate),
-        Ok(Some(at)) => What::Refused(Refusal {
-            rule: Rule::UnknownName,
-            at,
-        }),
+        Ok(Some(refusal)) => What::Refused(refusal),
         Err(_) => What::Memory,
     }
 }

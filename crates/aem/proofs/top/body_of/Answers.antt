@@ -1,4 +1,4 @@
-use Rattle.std.proofs.Common.{arith, ap, sym, ◌∙◌, length, get_or}
+use Rattle.std.proofs.Common.{arith, ap, ◌∙◌, length, get_or}
 use Rattle.aem.proofs.Reading.{one_body}
 use Rattle.aem.proofs.top.body_of.Goals as goal
 

@@ -2,7 +2,7 @@ use Rattle.std.proofs.Common.{◌≡◌, drop}
 use Rattle.ae_code.specs.Shown.{lines_from}
 use Rattle.ae_code.specs.Judgement.{nobody, judge}
 use Rattle.aem.specs.Names.{scope}
-use Rattle.aem.proofs.names.first_unknown.Given as goal
+use Rattle.aem.proofs.names.first_broken.Given as goal
 
 -- the rest is judged from here as all is from the beginning
 abbrev pub invariant-loop-stmt : goal.invariant-loop-stmt

@@ -1,0 +1,8 @@
+use Rattle.std.proofs.Common.{◌↔◌, drop}
+use Rattle.ae_code.specs.Shown.{lines_from}
+use Rattle.ae_code.specs.Built.{AreBuilt}
+use Rattle.aem.proofs.built.are_built.Given as goal
+
+-- all are built exactly where the rest is
+abbrev pub invariant-loop-stmt : goal.invariant-loop-stmt
+invariant-loop-stmt l = AreBuilt (lines_from l.stmts) ↔ AreBuilt (lines_from (drop l.stmt-index l.stmts))
