@@ -1,0 +1,107 @@
+-- Proofs of the laws.
+use Rattle.std.proofs.Common.{◌≡◌, ◌⊎◌, inl, inr, refl, subst, ℕ, zero, suc, nat_eq, nat_lt, Bool, true, false, if◌then◌else◌, Option, None, Some}
+use Rattle.std.proofs.lemmas.Bool.{eq-eqb}
+use Rattle.ae_text.specs.declared.refusal.Spot.{Spot}
+use Rattle.ae_text.specs.declared.refusal.Rule.{Rule}
+use Rattle.ae_code.specs.declared.form.Perm.{Perm}
+use Rattle.ae_code.specs.declared.form.Perm.TheVariants as need
+use Rattle.ae_rules.specs.declared.held.Held.{Held}
+use Rattle.ae_rules.specs.declared.held.Held.TheVariants as held
+use Rattle.ae_rules.specs.Verdict.{Verdict, Holds, Broken}
+use Rattle.ae_rules.specs.Shares.{Share, most_lent, splits, joins, lend, lend_more}
+use Rattle.ae_rules.specs.Statements.{judge_statement}
+use Rattle.ae_rules.specs.Judges.{verdict}
+use Rattle.ae_rules.specs.Laws.{JudgedOrBroken, NeverBoth, AcceptedOrBroken, NeverAcceptedAndBroken, FirstIsOne, TakenIsGivenBack, NothingToTake}
+
+-- ---- verdicts
+
+abbrev IsHeldOrBroken : {A : Type 0} → Verdict A → Type 0
+IsHeldOrBroken {A} v = ((x : A) × (v ≡ Holds x)) ⊎ ((rule : Rule) × (spot : Spot) × (v ≡ Broken rule spot))
+
+held_or_broken : {A : Type 0} (v : Verdict A) → IsHeldOrBroken v
+held_or_broken (Holds x) = inl (x, refl)
+held_or_broken (Broken rule spot) = inr (rule, spot, refl)
+
+not_both : {A : Type 0} (v : Verdict A) (x : A) (rule : Rule) (spot : Spot) → v ≡ Holds x → v ≡ Broken rule spot → ⊥
+not_both v x rule spot h b = cc
+
+pub judged_or_broken : JudgedOrBroken
+judged_or_broken p m at a c = held_or_broken (judge_statement p m at a c)
+
+pub never_both : NeverBoth
+never_both p m at a c d rule spot h b = not_both (judge_statement p m at a c) d rule spot h b
+
+accepted : (v : Verdict (Unit {0})) → IsHeldOrBroken v → (v ≡ Holds tt) ⊎ ((rule : Rule) × (spot : Spot) × (v ≡ Broken rule spot))
+accepted v (inl h) = inl h.1
+accepted v (inr b) = inr b
+
+pub accepted_or_broken : AcceptedOrBroken
+accepted_or_broken p = accepted (verdict p) (held_or_broken (verdict p))
+
+pub never_accepted_and_broken : NeverAcceptedAndBroken
+never_accepted_and_broken p rule spot h b = not_both (verdict p) tt rule spot h b
+
+one_break : (v : Verdict (Unit {0})) (r s : Rule) (at spot : Spot) → v ≡ Broken r at → v ≡ Broken s spot → (r ≡ s) × (at ≡ spot)
+one_break v r s at spot b c = (cc, cc)
+
+pub first_is_one : FirstIsOne
+first_is_one p r s at spot b c = one_break (verdict p) r s at spot b c
+
+-- ---- shares
+
+-- the part and the rest, where there are some, make the whole
+abbrev Rejoins : Held → Option Share → Type 0
+Rejoins whole None = Unit {0}
+Rejoins whole (Some share) = joins share.1 share.0 ≡ Some whole
+
+lent_rejoins : (b : Bool) (n : ℕ) → Rejoins (held.Split (suc n)) (if b then lend (held.Split (suc (suc n))) else None)
+lent_rejoins true n = refl
+lent_rejoins false n = tt
+
+more_rejoins : (n : ℕ) → Rejoins (held.Split n) (lend_more n)
+more_rejoins zero = tt
+more_rejoins (suc n) = lent_rejoins (nat_lt (suc n) most_lent) n
+
+shared_joins : (g : ℕ) (b : Bool) → b ≡ true → (if b then Some (held.Shared g) else None) ≡ Some (held.Shared g)
+shared_joins g true e = refl
+shared_joins g false e = cc
+
+shared_rejoins : (b : Bool) (g : ℕ) → Rejoins (held.Shared g) (if b then Some (held.Shared g, held.Shared g) else None)
+shared_rejoins true g = shared_joins g (nat_eq g g) (eq-eqb g g refl)
+shared_rejoins false g = tt
+
+each_rejoins : (whole : Held) (n : Perm) → Rejoins whole (splits whole n)
+each_rejoins held.Unique need.Unique = refl
+each_rejoins held.Unique need.Immutable = tt
+each_rejoins held.Unique need.Lent = refl
+each_rejoins held.Unique (need.Shared h) = tt
+each_rejoins (held.Split k) need.Unique = tt
+each_rejoins (held.Split k) need.Immutable = tt
+each_rejoins (held.Split k) need.Lent = more_rejoins k
+each_rejoins (held.Split k) (need.Shared h) = tt
+each_rejoins held.Immutable need.Unique = tt
+each_rejoins held.Immutable need.Immutable = refl
+each_rejoins held.Immutable need.Lent = refl
+each_rejoins held.Immutable (need.Shared h) = tt
+each_rejoins held.Lent need.Unique = tt
+each_rejoins held.Lent need.Immutable = tt
+each_rejoins held.Lent need.Lent = refl
+each_rejoins held.Lent (need.Shared h) = tt
+each_rejoins (held.Shared g) need.Unique = tt
+each_rejoins (held.Shared g) need.Immutable = tt
+each_rejoins (held.Shared g) need.Lent = tt
+each_rejoins (held.Shared g) (need.Shared h) = shared_rejoins (nat_eq g h) g
+each_rejoins (held.Inner g) n = tt
+each_rejoins held.None n = tt
+
+pub taken_is_given_back : TakenIsGivenBack
+taken_is_given_back whole n part rest h = subst (Rejoins whole) h (each_rejoins whole n)
+
+nothing_of_none : (n : Perm) → splits held.None n ≡ None
+nothing_of_none n = refl
+
+nothing_of_inner : (n : Perm) (g : ℕ) → splits (held.Inner g) n ≡ None
+nothing_of_inner n g = refl
+
+pub nothing_to_take : NothingToTake
+nothing_to_take n = (nothing_of_none n, nothing_of_inner n)

@@ -1,0 +1,19 @@
+pub mod VerdictLemmas
+mod LawLemmas
+mod CallLemmas
+mod Programs
+mod TableExamples
+mod ObjectExamples
+mod GroupExamples
+mod KeepLemmas
+mod EdgeLemmas
+mod GraphExamples
+mod SeenLemmas
+mod VisibleLemmas
+mod PredLemmas
+mod UseExamples
+mod InstanceExamples
+mod LessLemmas
+mod InstanceLemmas
+mod PathLemmas
+mod CaseLemmas

@@ -1,0 +1,29 @@
+-- The programs that run today are judged by the whole rules as they are by today's.
+use Rattle.std.specs.Prelude.{◌≡◌, List, [], ◌∷◌}
+use Rattle.ae_text.specs.declared.refusal.Spot.{Spot}
+use Rattle.ae_text.specs.declared.refusal.Rule.{Rule}
+use Rattle.ae_text.specs.declared.token.Token.{Token}
+use Rattle.ae_code.specs.declared.tree.Decl.TheVariants as decl
+use Rattle.ae_code.specs.Plain.{Code}
+use Rattle.ae_code.specs.Grammar.{Derives}
+use Rattle.ae_code.specs.Built.{Built}
+use Rattle.ae_code.specs.Judgement.{Accepted, Breaks}
+use Rattle.ae_rules.specs.Judges.{Accepts, FirstBroken}
+
+-- the first method is all that is declared
+abbrev pub DeclaresOne : Code → Type 0
+DeclaresOne p = p.decls ≡ decl.Method 0 ∷ []
+
+-- both accept the program, or neither does; and what the one says is broken first, the other says too
+abbrev pub JudgeAlike : Code → Type 0
+JudgeAlike p = (Accepted p → Accepts p) × (Accepts p → Accepted p)
+    × ((rule : Rule) (at : Spot) → Breaks p rule at → FirstBroken p rule at)
+    × ((rule : Rule) (at : Spot) → FirstBroken p rule at → Breaks p rule at)
+
+-- a program of forms that run today is judged alike by today's rules and the whole ones
+abbrev pub TodayIsACase : Type 0
+TodayIsACase = (p : Code) → Built p → DeclaresOne p → JudgeAlike p
+
+-- a program that was read from tokens, and has forms that run today alone, declares one method
+abbrev pub BuiltDeclaresOne : Type 0
+BuiltDeclaresOne = (tokens : List Token) (p : Code) → Derives tokens p → Built p → DeclaresOne p

@@ -1,0 +1,76 @@
+-- What follows from the rules on uses and edges.
+use Rattle.std.specs.Prelude.{◌≡◌, ◌<◌, ◌↔◌, ℕ, Bool, true, false, ◌&&◌, Some, is_some}
+use Rattle.ae_text.specs.declared.refusal.Spot.{Spot}
+use Rattle.ae_code.specs.declared.uses.Resource.{Resource}
+use Rattle.ae_code.specs.declared.uses.Resource.TheVariants as resource
+use Rattle.ae_code.specs.declared.uses.Mode.{Mode}
+use Rattle.ae_code.specs.declared.uses.Mode.TheVariants as mode
+use Rattle.ae_code.specs.Uses.{IsConflict, use_at, IsEdge}
+use Rattle.ae_code.specs.Plain.{Action, Lines, Definition, Code}
+use Rattle.ae_rules.specs.declared.held.GroupPerm.{GroupPerm}
+use Rattle.ae_rules.specs.declared.held.GroupPerm.TheVariants as group
+use Rattle.ae_rules.specs.Verdict.{given}
+use Rattle.ae_rules.specs.Context.{Context}
+use Rattle.ae_rules.specs.Judges.{Judges, Accepts}
+use Rattle.ae_rules.specs.Uses.{statement_uses}
+use Rattle.ae_rules.specs.Edges.{BlockUses, Edge, Before, Preds, preds}
+use Rattle.ae_rules.specs.Blocks.{Scene}
+use Rattle.ae_rules.specs.Instances.{Instance, InBlock, Ordered, Conflict}
+
+-- an edge leads forward, and so does a chain of edges
+abbrev pub EdgesGoForward : Type 0
+EdgesGoForward = (uses : BlockUses) (i j : ℕ) → Edge uses i j → i < j
+
+abbrev pub ChainsGoForward : Type 0
+ChainsGoForward = (uses : BlockUses) (i j : ℕ) → Before uses i j → i < j
+
+-- two statements that use a resource in ways that do not go together are joined by a chain
+abbrev pub ConflictsAreOrdered : Type 0
+ConflictsAreOrdered = (uses : BlockUses) (i j : ℕ) (r : Resource) → i < j → IsConflict (uses i r) (uses j r) → Before uses i j
+
+-- a local is read or written
+abbrev pub is_of_local : Mode → Bool
+is_of_local mode.Read = true
+is_of_local mode.Write = true
+is_of_local mode.GroupShared = false
+is_of_local mode.GroupWhole = false
+
+-- the whole of a group is used only where its members may be reached
+abbrev pub group_allows : GroupPerm → Mode → Bool
+group_allows group.Exclusive mode.GroupWhole = true
+group_allows group.Exclusive mode.GroupShared = true
+group_allows group.Protected mode.GroupWhole = true
+group_allows group.Protected mode.GroupShared = true
+group_allows group.Shared mode.GroupShared = true
+group_allows _ _ = false
+
+-- the resource is visible, and may be so used
+abbrev pub is_allowed : Context → Resource → Mode → Bool
+is_allowed c (resource.Local x) m = is_some (c.local x) && is_of_local m
+is_allowed c (resource.Group g) m = given (c.group g) false (λ q. group_allows q m)
+
+-- what a judged statement uses is visible after it, and may be so used
+abbrev pub UsesAreAllowed : Type 0
+UsesAreAllowed = (p : Code) (m : Definition) (at : Spot) (a : Action) (c d : Context) (r : Resource) (n : Mode)
+    → Judges p m at a c d → statement_uses p m a c r ≡ Some n → is_allowed d r n ≡ true
+
+abbrev pub name_of : Resource → ℕ
+name_of (resource.Local x) = x
+name_of (resource.Group g) = g
+
+-- the number of each used name is below this one
+abbrev pub NamesBelow : ℕ → BlockUses → Type 0
+NamesBelow n uses = (i : ℕ) (r : Resource) (m : Mode) → uses i r ≡ Some m → name_of r < n
+
+-- the list has exactly the statements from which an edge leads to statement j
+abbrev pub PredsAreEdges : Type 0
+PredsAreEdges = (n : ℕ) (uses : BlockUses) → NamesBelow n uses → (j : ℕ) → Preds uses j (preds n uses j)
+
+-- two instances of an accepted program that conflict, and part at two statements of a block, are ordered
+abbrev pub ConflictsAreFirst : Type 0
+ConflictsAreFirst = (p : Code) → Accepts p → (q r : Instance) (k : Conflict p q r) (locked : Bool) (s : Scene)
+    → k.fork.at ≡ InBlock locked s → k.fork.left < k.fork.right → Ordered p q r
+
+-- the edges of the forms that run today are these edges, by the uses of today
+abbrev pub EdgesAreAsToday : Type 0
+EdgesAreAsToday = (b : Lines) (i j : ℕ) → IsEdge b i j ↔ Edge (use_at b) i j
