@@ -1,0 +1,13 @@
+mod Programs
+mod Examples
+mod GroupExamples
+mod Follow
+mod LawLemmas
+mod FlowExamples
+mod Gathered
+mod DeepExamples
+mod ReportExamples
+mod UnfoldingExamples
+mod UnfoldingGroupExamples
+mod UnfoldingLoopExamples
+mod Watched

@@ -1,0 +1,182 @@
+-- Blocks of groups that are split: what goes away and comes back, what an atomic block asks, and what its answer changes.
+use Rattle.std.specs.Prelude.{ℕ, nat_eq, Bool, true, false, ◌&&◌, ◌||◌, not, if◌then◌else◌, List, [], ◌∷◌, ◌++◌, length, Option, None, Some, is_some, option_map}
+use Rattle.ae_code.specs.declared.uses.Resource.TheVariants as resource
+use Rattle.ae_code.specs.declared.tree.NameAt.{NameAt}
+use Rattle.ae_code.specs.declared.form.Form.{Form}
+use Rattle.ae_code.specs.Names.{io}
+use Rattle.ae_code.specs.Plain.{Code, Lines, Locks}
+use Rattle.ae_semantics.specs.Fields as fields
+use Rattle.ae_semantics.specs.Fields.{same_form}
+use Rattle.ae_semantics.specs.Values.{fits}
+use Rattle.ae_semantics.specs.Places.{CellName, Group, Here, Away, Bound, State, with_group, members}
+use Rattle.ae_semantics.specs.Known.{Known, after}
+use Rattle.ae_semantics.specs.Uses.{Uses, but_group, block_uses, shuts_out, numbers_below}
+use Rattle.ae_semantics.specs.Observations.{Piece, Image, OfStore, OfLog, Carried, Ask, Answer, Gave, Trapped, Spent, Seen, OfBlock, OfCell, AtBlock, AtEnd, Trap, Fuel, Entered, Asked, Used, Notes}
+use Rattle.ae_semantics.specs.Runs.{Run, Went, Ends, Stops, Act, and_then, marked, Where, Machine}
+
+-- ---- split blocks
+
+-- the cell of a group that a split block takes away
+abbrev pub cell_of : Where → ℕ → CellName
+cell_of here g = record { path = here.path; group = g }
+
+-- what there is of a group: its members, or the log where it is `io`
+abbrev pub image_of : {W : Type 0} → ℕ → State → Notes W → Option Image
+image_of g s n = if nat_eq io g then Some (OfLog n.log) else option_map OfStore (members (s.groups g))
+
+abbrev pub to_cell : {W : Type 0} → Where → ℕ → Image → Act W
+to_cell here g image s n =
+    let away : Notes _ = marked (Entered (cell_of here g) image) n in
+    if nat_eq io g
+    then Went s (record away { cell = Some (cell_of here g) })
+    else Went (with_group g (Some (Away (cell_of here g))) s) away
+
+-- a group goes away
+abbrev pub goes_away : {W : Type 0} → Where → ℕ → Act W
+goes_away here g s n = fields.given (image_of g s n) (Stops n) (λ image. to_cell here g image s n)
+
+abbrev pub all_go_away : {W : Type 0} → Where → List NameAt → Act W
+all_go_away here [] s n = Went s n
+all_go_away here (g ∷ gs) s n = and_then (goes_away here g.name s n) (all_go_away here gs)
+
+abbrev pub store_back : {W : Type 0} → ℕ → Image → Act W
+store_back g (OfStore st) s n = Went (with_group g (Some (Here st)) s) n
+store_back g (OfLog pieces) s n = Stops n
+
+abbrev pub log_back : {W : Type 0} → Image → Act W
+log_back (OfStore st) s n = Stops n
+log_back (OfLog pieces) s n = Went s (record n { log = pieces; cell = None })
+
+-- an observation that does not fit is not used
+abbrev pub unless_stopped : {W : Type 0} → Run W → Notes W → Run W
+unless_stopped (Went s m) n = Went s m
+unless_stopped (Ends ending m) n = Ends ending m
+unless_stopped (Stops m) n = Stops n
+
+abbrev pub used : {W : Type 0} → List ℕ → W → Notes W → Notes W
+used path w n = record (marked (Used path) n) { watch = w }
+
+-- what was observed of a cell comes back
+abbrev pub cell_back : {W : Type 0} → Where → ℕ → Seen × W → Act W
+cell_back here g (OfBlock a, w) s n = Stops n
+cell_back here g (OfCell image, w) s n = unless_stopped
+    (if nat_eq io g then log_back image s (used here.path w n) else store_back g image s (used here.path w n)) n
+
+abbrev pub comes_back : {W : Type 0} → Machine W → Where → ℕ → Image → Act W
+comes_back m here g first s n = fields.given (m.observer n.watch (AtEnd (cell_of here g) first)) (Stops n) (λ seen. cell_back here g seen s n)
+
+-- the groups come back in written order; what each held at first is told to the observer
+abbrev pub all_come_back : {W : Type 0} → Machine W → Where → List NameAt → State → List Piece → Act W
+all_come_back m here [] before log s n = Went s n
+all_come_back m here (g ∷ gs) before log s n = and_then
+    (fields.given (image_of g.name before (record n { log = log })) (Stops n) (λ first. comes_back m here g.name first s n))
+    (all_come_back m here gs before log)
+
+-- ---- atomic blocks
+
+-- the cell of a group that is away
+abbrev pub cell_in : Option Group → Option CellName
+cell_in None = None
+cell_in (Some (Here st)) = None
+cell_in (Some (Away c)) = Some c
+
+abbrev pub cell_at : {W : Type 0} → ℕ → State → Notes W → Option CellName
+cell_at g s n = if nat_eq io g then n.cell else cell_in (s.groups g)
+
+-- what an atomic block of a group uses of all else
+abbrev pub else_uses : Code → Known → ℕ → Lines → Uses
+else_uses p k g b = but_group g (block_uses p k b)
+
+-- the values of what a block uses, without its own group and the log
+abbrev pub values_in : Uses → State → Carried
+values_in u s = record {
+  locals = λ x. if is_some (u (resource.Local x)) then s.locals x else None;
+  stores = λ g. if is_some (u (resource.Group g)) then members (s.groups g) else None;
+  pieces = None;
+}
+
+-- a group's members come out where the block uses all of it, or uses it and they went in
+abbrev pub store_out : Uses → State → ℕ → Bool
+store_out u before g = not (nat_eq io g) &&
+    (shuts_out (u (resource.Group g)) || (is_some (u (resource.Group g)) && is_some (members (before.groups g))))
+
+-- the values of what a block changes, and the pieces that it appended where it uses `io` beside its own group
+abbrev pub values_out : Uses → State → State → List Piece → Carried
+values_out u before s pieces = record {
+  locals = λ x. if shuts_out (u (resource.Local x)) then s.locals x else None;
+  stores = λ g. if store_out u before g then members (s.groups g) else None;
+  pieces = if shuts_out (u (resource.Group io)) then Some pieces else None;
+}
+
+abbrev pub same_presence : {A B : Type 0} → Option A → Option B → (A → B → Bool) → Bool
+same_presence None None test = true
+same_presence None (Some y) test = false
+same_presence (Some x) None test = false
+same_presence (Some x) (Some y) test = test x y
+
+abbrev pub fits_form : Code → Form → Bound → Bool
+fits_form p form b = same_form form b.form && fits p form b.value
+
+-- what is wanted of a local that comes out: the form of what it holds after the block, where it holds something
+abbrev pub wanted : Uses → Known → ℕ → Option Form
+wanted u later x = if shuts_out (u (resource.Local x)) then later.now x else None
+
+abbrev pub name_fits : Code → Uses → Known → State → Carried → ℕ → Bool
+name_fits p u later before out x =
+    same_presence (wanted u later x) (out.locals x) (fits_form p)
+    && (if store_out u before x then is_some (out.stores x) else not (is_some (out.stores x)))
+
+abbrev pub every : (ℕ → Bool) → List ℕ → Bool
+every test [] = true
+every test (x ∷ xs) = test x && every test xs
+
+-- values out have the names and forms that the block's place asks for
+abbrev pub out_fits : Code → Uses → Known → State → Carried → Bool
+out_fits p u later before out =
+    every (name_fits p u later before out) (numbers_below (length p.names))
+    && (if shuts_out (u (resource.Group io)) then is_some out.pieces else not (is_some out.pieces))
+
+-- the values out take the places of what the block changes
+abbrev pub with_values : Uses → Carried → State → State
+with_values u out s = record s {
+  locals = λ x. if shuts_out (u (resource.Local x)) then out.locals x else s.locals x;
+  groups = λ g. if store_out u s g then option_map Here (out.stores g) else s.groups g;
+}
+
+abbrev pub pieces_in : Option (List Piece) → List Piece
+pieces_in None = []
+pieces_in (Some pieces) = pieces
+
+abbrev pub with_out : {W : Type 0} → Uses → Carried → Act W
+with_out u out s n = Went (with_values u out s) (record n { log = n.log ++ pieces_in out.pieces })
+
+-- a block's answer, where it fits: values out, or the ending
+abbrev pub answered : {W : Type 0} → Code → Uses → Known → Answer → Notes W → Act W
+answered p u later (Gave out) unused s n = if out_fits p u later s out then with_out u out s n else Stops unused
+answered p u later (Trapped code at) unused s n = Ends (Trap code at) n
+answered p u later (Spent at) unused s n = Ends (Fuel at) n
+
+abbrev pub block_back : {W : Type 0} → Code → Uses → Known → List ℕ → Seen × W → Act W
+block_back p u later path (OfCell image, w) s n = Stops n
+block_back p u later path (OfBlock a, w) s n = answered p u later a n s (used path w n)
+
+-- what an atomic block asks
+abbrev pub ask_of : Where → ℕ → ℕ → Uses → State → Ask
+ask_of here number fuel u s = record {
+  path = here.path;
+  method = here.method;
+  block = number;
+  fuel = fuel;
+  depth = here.depth;
+  ins = values_in u s;
+}
+
+abbrev pub put_to : {W : Type 0} → Machine W → Ask → Uses → Known → Act W
+put_to m ask u later s n = fields.given (m.observer n.watch (AtBlock ask)) (Stops n) (λ seen. block_back m.code u later ask.path seen s n)
+
+-- a block of a group that is away asks the observer
+abbrev pub asks : {W : Type 0} → Machine W → Where → CellName → NameAt → ℕ → Lines → ℕ → Act W
+asks m here cell g number b fuel s n =
+    let u : Uses = else_uses m.code here.known g.name b in
+    let ask : Ask = ask_of here number fuel u s in
+    put_to m ask u (after m.code here.known (Locks g number b)) s (marked (Asked cell ask) n)

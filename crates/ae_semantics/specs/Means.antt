@@ -1,0 +1,180 @@
+-- The meaning of a whole program with observations, and its bytes.
+use Rattle.std.specs.Prelude.{ℕ, ℤ, ◌+◌, false, List, [], ◌∷◌, ◌++◌, Option, None, Some}
+use Rattle.ae_text.specs.declared.refusal.Spot.{Spot}
+use Rattle.ae_code.specs.Names.{main}
+use Rattle.ae_code.specs.Plain.{Definition, Code}
+use Rattle.ae_semantics.specs.Fields.{given, method_at, top_number}
+use Rattle.ae_semantics.specs.Values.{Owned, Array}
+use Rattle.ae_semantics.specs.Places.{CellName, State}
+use Rattle.ae_semantics.specs.Known.{known_in, takers}
+use Rattle.ae_semantics.specs.Observations.{Instance, Piece, Image, Ask, Seen, Ending, Done, Mark, Ran, Turned, Entered, Asked, Used, Stopped, Notes, Observer}
+use Rattle.ae_semantics.specs.Runs.{Run, Went, Ends, Stops, Where, stopping, Machine}
+use Rattle.ae_semantics.specs.Calls.{taken}
+use Rattle.ae_semantics.specs.Meaning.{block, below}
+
+-- ---- a whole run
+
+-- the first method named `main` at the top begins
+pub record Start : Type 0 where
+  pub here : Where
+  pub method : Definition
+  pub state : State
+
+abbrev pub main_here : Code → ℕ → Definition → Where
+main_here p n m = record { method = n; depth = 1; path = []; known = known_in p m; inside = false }
+
+-- the integers are the value of main's parameter, where it has one
+abbrev pub main_state : Code → Definition → List ℤ → State
+main_state p m ints = record {
+  locals = taken (takers p m) (record { value = Owned (Array ints); from = None } ∷ []);
+  groups = λ g. None;
+  result = None;
+}
+
+abbrev pub start_at : Code → List ℤ → ℕ → Option Start
+start_at p ints n = given (method_at p n) None (λ (m : Definition).
+    Some (record { here = main_here p n m; method = m; state = main_state p m ints }))
+
+abbrev pub start : Code → List ℤ → Option Start
+start p ints = given (top_number p main) None (start_at p ints)
+
+abbrev pub no_notes : {W : Type 0} → W → Notes W
+no_notes w = record { log = []; cell = None; marks = []; watch = w }
+
+-- a run of `main` by a machine, with this fuel
+abbrev pub run : {W : Type 0} → Machine W → List ℤ → ℕ → W → Run W
+run m ints fuel w = given (start m.code ints) (Stops (no_notes w))
+    (λ (x : Start). block m (below m fuel) x.here x.method.body x.state (no_notes w))
+
+-- ---- what is read off a run
+
+abbrev pub notes_of : {W : Type 0} → Run W → Notes W
+notes_of (Went s n) = n
+notes_of (Ends ending n) = n
+notes_of (Stops n) = n
+
+abbrev pub ending_of : {W : Type 0} → Run W → Option Ending
+ending_of (Went s n) = Some Done
+ending_of (Ends ending n) = Some ending
+ending_of (Stops n) = None
+
+abbrev pub used_in : List Mark → ℕ
+used_in [] = 0
+used_in (Used path ∷ ms) = used_in ms + 1
+used_in (_ ∷ ms) = used_in ms
+
+-- the paths of the blocks and cells whose observations were used
+abbrev pub used_paths : List Mark → List Instance
+used_paths [] = []
+used_paths (Used path ∷ ms) = path ∷ used_paths ms
+used_paths (_ ∷ ms) = used_paths ms
+
+-- a statement instance and its place
+pub record At : Type 0 where
+  pub path : Instance
+  pub spot : Spot
+
+-- the statement instances that ran, the one that ended included
+abbrev pub ran_in : List Mark → List At
+ran_in [] = []
+ran_in (Ran path at ∷ ms) = record { path = path; spot = at } ∷ ran_in ms
+ran_in (_ ∷ ms) = ran_in ms
+
+-- a loop's turn
+pub record Turn : Type 0 where
+  pub path : Instance
+  pub turn : ℕ
+
+-- the turns whose condition was evaluated
+abbrev pub turns_in : List Mark → List Turn
+turns_in [] = []
+turns_in (Turned path t ∷ ms) = record { path = path; turn = t } ∷ turns_in ms
+turns_in (_ ∷ ms) = turns_in ms
+
+-- a cell and what it held at first
+pub record First : Type 0 where
+  pub cell : CellName
+  pub image : Image
+
+-- the cells of the split blocks that were entered
+abbrev pub firsts_in : List Mark → List First
+firsts_in [] = []
+firsts_in (Entered c image ∷ ms) = record { cell = c; image = image } ∷ firsts_in ms
+firsts_in (_ ∷ ms) = firsts_in ms
+
+-- what was asked, of which cell
+pub record Asking : Type 0 where
+  pub cell : CellName
+  pub ask : Ask
+
+abbrev pub asks_in : List Mark → List Asking
+asks_in [] = []
+asks_in (Asked c ask ∷ ms) = record { cell = c; ask = ask } ∷ asks_in ms
+asks_in (_ ∷ ms) = asks_in ms
+
+-- a statement instance that did not go through, with its ending where it has one
+pub record Stop : Type 0 where
+  pub path : Instance
+  pub ending : Option Ending
+
+abbrev pub stops_in : List Mark → List Stop
+stops_in [] = []
+stops_in (Stopped path ending ∷ ms) = record { path = path; ending = ending } ∷ stops_in ms
+stops_in (_ ∷ ms) = stops_in ms
+
+-- ---- the source meaning
+
+-- what a run comes to: its ending, where it has one, the log of `io`, and its cell where `io` is split at the end
+pub record Meant : Type 0 where
+  pub ending : Option Ending
+  pub used : ℕ
+  pub used_paths : List Instance
+  pub ran : List At
+  pub turns : List Turn
+  pub firsts : List First
+  pub asked : List Asking
+  pub stopped : List Stop
+  pub log : List Piece
+  pub cell : Option CellName
+
+abbrev pub meant : {W : Type 0} → Run W → Meant
+meant r =
+    let n : Notes _ = notes_of r in
+    record {
+      ending = ending_of r;
+      used = used_in n.marks;
+      used_paths = used_paths n.marks;
+      ran = ran_in n.marks;
+      turns = turns_in n.marks;
+      firsts = firsts_in n.marks;
+      asked = asks_in n.marks;
+      stopped = stops_in n.marks;
+      log = n.log;
+      cell = n.cell;
+    }
+
+-- observations in source order
+abbrev pub in_order : Observer (List Seen)
+in_order [] q = None
+in_order (x ∷ xs) q = Some (x, xs)
+
+abbrev pub source_machine : Code → Machine (List Seen)
+source_machine p = record { code = p; observer = in_order; order = stopping }
+
+-- statements in source order, up to the first ending
+unfoldable pub mean : Code → List ℤ → ℕ → List Seen → Meant
+mean p ints fuel seen = meant (run (source_machine p) ints fuel seen)
+
+-- with no observations
+unfoldable pub seq : Code → List ℤ → ℕ → Meant
+seq p ints fuel = mean p ints fuel []
+
+-- ---- bytes
+
+abbrev pub bytes_of : List Piece → List ℕ
+bytes_of [] = []
+bytes_of (x ∷ xs) = x.bytes ++ bytes_of xs
+
+-- the bytes of the log, and where `io` is split at the end, the pieces of the blocks of its cell after them
+abbrev pub bytes : Meant → List Piece → List ℕ
+bytes m more = bytes_of m.log ++ given m.cell [] (λ c. bytes_of more)

@@ -1,0 +1,228 @@
+-- Where a path leads, and how what stands there is read and changed.
+use Rattle.std.specs.Prelude.{ℕ, nat_eq, nat_lt, Bool, true, false, if◌then◌else◌, List, [], ◌∷◌, ◌++◌, Option, None, Some, slice_get}
+use Rattle.std.specs.Prelude as prelude
+use Rattle.ae_code.specs.declared.tree.NameAt.{NameAt}
+use Rattle.ae_code.specs.declared.tree.Path.{Path}
+use Rattle.ae_code.specs.declared.form.Perm.{Perm}
+use Rattle.ae_code.specs.declared.form.Perm.TheVariants as perm
+use Rattle.ae_code.specs.declared.form.Kind.{Kind}
+use Rattle.ae_code.specs.declared.form.Form.{Form}
+use Rattle.ae_code.specs.declared.form.Form.TheVariants as f
+use Rattle.ae_code.specs.Plain.{Code}
+use Rattle.ae_semantics.specs.Fields.{given, Part, part_of}
+use Rattle.ae_semantics.specs.Values.{Val, Owned, Member, Tree, Object, Array, Values, Store, height, is_of_kind, fits, value_at, put}
+
+-- ---- outcomes
+
+-- there is an outcome, or a trap, or something that an accepted program always finds is not there
+pub data Outcome (A : Type 0) : Type 0 where
+  Fine : A → Outcome A
+  Traps : ℕ → Outcome A
+  Lacks : Outcome A
+
+-- first the one, and with its outcome the next
+infixr 10 ◌>>=◌
+abbrev pub ◌>>=◌ : {A B : Type 0} → Outcome A → (A → Outcome B) → Outcome B
+(Fine x) >>= next = next x
+(Traps code) >>= next = Traps code
+Lacks >>= next = Lacks
+
+-- what has to be there
+abbrev pub there : {A : Type 0} → Option A → Outcome A
+there None = Lacks
+there (Some x) = Fine x
+
+-- what counts as null where it is not there
+abbrev pub reached : {A : Type 0} → Option A → Outcome A
+reached None = Traps 3
+reached (Some x) = Fine x
+
+-- ---- what statements find and leave
+
+-- the cell of a group, by the path of the split block that took the group away and the group's name there
+pub record CellName : Type 0 where
+  pub path : List ℕ
+  pub group : ℕ
+
+-- a group's members are here, or its cell has them
+pub data Group : Type 0 where
+  Here : Store → Group
+  Away : CellName → Group
+
+-- a local that has a value, with the form of what it holds now: it is shared after `share`, and immutable after `freeze`
+pub record Bound : Type 0 where
+  pub form : Form
+  pub value : Val
+
+-- the locals and the groups by name, and what was returned; the log of `io` stands elsewhere
+pub record State : Type 0 where
+  pub locals : ℕ → Option Bound
+  pub groups : ℕ → Option Group
+  pub result : Option Val
+
+abbrev pub with : {A : Type 0} → ℕ → A → (ℕ → A) → ℕ → A
+with x new old y = if nat_eq x y then new else old y
+
+abbrev pub with_local : ℕ → Option Bound → State → State
+with_local x b s = record s { locals = with x b s.locals }
+
+abbrev pub with_group : ℕ → Option Group → State → State
+with_group g c s = record s { groups = with g c s.groups }
+
+-- the members of a group that is here
+abbrev pub members : Option Group → Option Store
+members None = None
+members (Some (Here st)) = Some st
+members (Some (Away c)) = None
+
+abbrev pub store_of : State → ℕ → Outcome Store
+store_of s g = there (members (s.groups g))
+
+-- ---- walks
+
+-- a tree stands in a local, or is a member of a group
+pub data Base : Type 0 where
+  InLocal : ℕ → Base
+  InGroup : ℕ → ℕ → Base
+
+-- a place in a tree, by the fields that lead to it
+pub record Address : Type 0 where
+  pub base : Base
+  pub fields : List ℕ
+
+-- a place with its form and its value
+pub record Place : Type 0 where
+  pub at : Address
+  pub form : Form
+  pub value : Val
+
+-- an object with the place where its tree stands
+pub record Opened : Type 0 where
+  pub at : Address
+  pub kind : Kind
+  pub tree : Tree
+
+abbrev pub opened_if : Bool → Opened → Outcome Opened
+opened_if true o = Fine o
+opened_if false o = Traps 3
+
+abbrev pub opened_member : Code → Kind → ℕ → ℕ → Store → Outcome Opened
+opened_member p k g n st = reached (slice_get st n) >>= λ t.
+    opened_if (is_of_kind p k t) (record { at = record { base = InGroup g n; fields = [] }; kind = k; tree = t })
+
+-- The object at a place: null is trap 3, and so are a reference without a member and a tree of another kind.
+abbrev pub open_value : Code → State → Perm → Kind → Address → Val → Outcome Opened
+open_value p s (perm.Shared g) k at (Member n) = store_of s g >>= opened_member p k g n
+open_value p s (perm.Shared g) k at _ = Traps 3
+open_value p s q k at (Owned t) = opened_if (is_of_kind p k t) (record { at = at; kind = k; tree = t })
+open_value p s q k at _ = Traps 3
+
+abbrev pub open_form : Code → State → Address → Form → Val → Outcome Opened
+open_form p s at f.Int v = Lacks
+open_form p s at f.Bool v = Lacks
+open_form p s at (f.Object q k) v = open_value p s q k at v
+
+abbrev pub open_place : Code → State → Place → Outcome Opened
+open_place p s x = open_form p s x.at x.form x.value
+
+-- the fields of an object
+abbrev pub object_values : Tree → Option Values
+object_values (Object c xs) = Some xs
+object_values (Array ns) = None
+
+abbrev pub field_value : Tree → ℕ → Option Val
+field_value t i = given (object_values t) None (λ xs. value_at xs i)
+
+-- the place of a field of an object
+abbrev pub field_place : Opened → Part → Val → Place
+field_place o x v = record { at = record { base = o.at.base; fields = o.at.fields ++ (x.number ∷ []) }; form = x.form; value = v }
+
+-- a value that a step meets: one that is not of the field's form counts as null
+abbrev pub met : Code → Place → Outcome Place
+met p x = if fits p x.form x.value then Fine x else Traps 3
+
+-- the field with this name of an object, which is met
+abbrev pub into_field : Code → Opened → ℕ → Outcome Place
+into_field p o x = there (part_of p o.kind x) >>= λ d.
+    there (field_value o.tree d.number) >>= λ v.
+    met p (field_place o d v)
+
+abbrev pub step : Code → State → NameAt → Place → Outcome Place
+step p s x from = open_place p s from >>= λ o. into_field p o x.name
+
+abbrev pub steps : Code → State → List NameAt → Place → Outcome Place
+steps p s [] from = Fine from
+steps p s (x ∷ xs) from = step p s x from >>= steps p s xs
+
+abbrev pub local_place : ℕ → Bound → Place
+local_place x b = record { at = record { base = InLocal x; fields = [] }; form = b.form; value = b.value }
+
+-- a walk along a path, from a local
+abbrev pub walk : Code → State → Path → Outcome Place
+walk p s path = there (s.locals path.root.name) >>= λ b. steps p s path.steps (local_place path.root.name b)
+
+-- the object to which a path leads
+abbrev pub reach : Code → State → Path → Outcome Opened
+reach p s path = walk p s path >>= open_place p s
+
+-- ---- writes
+
+-- a local or a member does not become higher than 1,000
+abbrev pub low : Val → Outcome Val
+low v = if nat_lt 1000 (height v) then Traps 8 else Fine v
+
+-- a value for a local; the form is that of what it holds now
+abbrev pub bind : ℕ → Form → Val → State → Outcome State
+bind x form v s = low v >>= λ w. Fine (with_local x (Some (record { form = form; value = w })) s)
+
+abbrev pub with_member : State → ℕ → ℕ → Store → Val → Outcome State
+with_member s g n st (Owned t) = Fine (with_group g (Some (Here (prelude.set st n t))) s)
+with_member s g n st _ = Lacks
+
+abbrev pub rewrite_member : State → ℕ → ℕ → List ℕ → Val → Store → Outcome State
+rewrite_member s g n fields new st = there (slice_get st n) >>= λ t.
+    low (put fields new (Owned t)) >>= with_member s g n st
+
+-- A value at an address. Only the tree that has the place is made again.
+abbrev pub write_in : State → Base → List ℕ → Val → Outcome State
+write_in s (InLocal x) fields new = there (s.locals x) >>= λ b. bind x b.form (put fields new b.value) s
+write_in s (InGroup g n) fields new = store_of s g >>= rewrite_member s g n fields new
+
+abbrev pub write : State → Address → Val → Outcome State
+write s at new = write_in s at.base at.fields new
+
+-- a field of an object gets a value; the old one is not met
+abbrev pub write_field : State → Opened → ℕ → Val → Outcome State
+write_field s o i new = write s (record { base = o.at.base; fields = o.at.fields ++ (i ∷ []) }) new
+
+-- an object's tree is another
+abbrev pub write_tree : State → Opened → Tree → Outcome State
+write_tree s o t = write s o.at (Owned t)
+
+-- ---- paths whose last step is written
+
+abbrev pub without_last : {A : Type 0} → List A → List A
+without_last [] = []
+without_last (x ∷ []) = []
+without_last (x ∷ y ∷ xs) = x ∷ without_last (y ∷ xs)
+
+abbrev pub last_of : {A : Type 0} → List A → Option A
+last_of [] = None
+last_of (x ∷ []) = Some x
+last_of (x ∷ y ∷ xs) = last_of (y ∷ xs)
+
+-- the path to the object that has the last field
+abbrev pub owner : Path → Path
+owner path = record path { steps = without_last path.steps }
+
+-- an object and one of its fields
+pub record Slot : Type 0 where
+  pub object : Opened
+  pub part : Part
+
+abbrev pub slot_in : Code → Opened → NameAt → Outcome Slot
+slot_in p o x = there (part_of p o.kind x.name) >>= λ d. Fine (record { object = o; part = d })
+
+-- the object that has a path's last field, and that field
+abbrev pub slot : Code → State → Path → Outcome Slot
+slot p s path = there (last_of path.steps) >>= λ x. reach p s (owner path) >>= λ o. slot_in p o x

@@ -1,0 +1,289 @@
+-- What a report of a run has to be: its events in a legal order, its ending and bytes explained by the meaning, and its lines those of the instances that ran.
+use Rattle.std.specs.Prelude.{◌≡◌, ◌≢◌, ◌<◌, ◌⊎◌, ◌↔◌, ℕ, suc, ◌-◌, nat_eq, ℤ, Bool, true, false, ◌&&◌, not, if◌then◌else◌, List, [], ◌∷◌, ◌++◌, map, take, drop, length, slice_get, Option, None, Some, Contains}
+use Rattle.ae_text.specs.declared.refusal.Spot.{Spot}
+use Rattle.ae_code.specs.Plain.{Code}
+use Rattle.ae_semantics.specs.Fields.{given}
+use Rattle.ae_semantics.specs.Places.{CellName}
+use Rattle.ae_semantics.specs.Observations.{Instance, Piece, Image, OfLog, Ask, Answer, Seen, OfBlock, OfCell, Query, AtBlock, AtEnd, Ending, Done, Trap, Fuel}
+use Rattle.ae_semantics.specs.Means.{At, Turn, First, Asking, Meant, mean, bytes}
+use Rattle.ae_semantics.specs.Atom.{atom, part}
+use Rattle.ae_semantics.specs.Instances.{comes_before, begins, is_simple_at, IsOrdered, IsConflict}
+
+-- ---- a report
+
+-- an atomic block that ran: its cell by its place among the report's cells, what it asked and answered, and its stamp
+pub record Event : Type 0 where
+  pub cell : ℕ
+  pub path : Instance
+  pub ask : Ask
+  pub out : Answer
+  pub stamp : ℕ
+
+-- the cell of a split block that was entered, with what it held at first and at last
+pub record Cell : Type 0 where
+  pub name : CellName
+  pub first : Image
+  pub last : Image
+
+-- an instance that ran, or a loop from a turn on, and when
+pub record Line : Type 0 where
+  pub path : Instance
+  pub at : Spot
+  pub began : ℕ
+  pub ended : ℕ
+
+pub record Report : Type 0 where
+  pub ending : Ending
+  pub out : List ℕ
+  pub events : List Event
+  pub past : ℕ
+  pub order : List ℕ
+  pub cells : List Cell
+  pub trace : List Line
+
+-- ---- lists
+
+-- each thing of a list stands in this relation to each after it
+abbrev pub AllPairs : {A : Type 0} → (A → A → Type 0) → List A → Type 0
+AllPairs rel [] = Unit {0}
+AllPairs rel (x ∷ xs) = ((y : _) → Contains xs y → rel x y) × AllPairs rel xs
+
+-- ---- observations in source order
+
+-- an observation: a block's answer at its path, or what a cell holds at last, after all that lies in its split block
+pub record Item : Type 0 where
+  pub path : Instance
+  pub at_end : Bool
+  pub seen : Seen
+
+abbrev pub item_before : Item → Item → Bool
+item_before a b = if begins a.path b.path then not a.at_end
+    else (if begins b.path a.path then b.at_end else comes_before a.path b.path)
+
+abbrev pub inserted : Item → List Item → List Item
+inserted x [] = x ∷ []
+inserted x (y ∷ ys) = if item_before y x then y ∷ inserted x ys else x ∷ y ∷ ys
+
+abbrev pub sorted : List Item → List Item
+sorted [] = []
+sorted (x ∷ xs) = inserted x (sorted xs)
+
+abbrev pub event_item : Event → Item
+event_item e = record { path = e.path; at_end = false; seen = OfBlock e.out }
+
+abbrev pub cell_item : Cell → Item
+cell_item c = record { path = c.name.path; at_end = true; seen = OfCell c.last }
+
+-- the answers of the events and what the cells hold at last, in source order; the cells of one block in written order
+abbrev pub items : Report → List Item
+items r = sorted (map event_item r.events ++ map cell_item r.cells)
+
+abbrev pub observations : Report → List Seen
+observations r = map (λ (x : Item). x.seen) (items r)
+
+-- ---- observations by what is asked
+
+abbrev pub same_instance : Instance → Instance → Bool
+same_instance q r = begins q r && begins r q
+
+abbrev pub answer_in : List Event → Instance → Option Seen
+answer_in [] q = None
+answer_in (e ∷ es) q = if same_instance e.path q then Some (OfBlock e.out) else answer_in es q
+
+abbrev pub is_cell : CellName → Cell → Bool
+is_cell c x = same_instance x.name.path c.path && nat_eq x.name.group c.group
+
+abbrev pub last_in : List Cell → CellName → Option Seen
+last_in [] c = None
+last_in (x ∷ xs) c = if is_cell c x then Some (OfCell x.last) else last_in xs c
+
+abbrev pub by_report : Report → Query → Option Seen
+by_report r (AtBlock ask) = answer_in r.events ask.path
+by_report r (AtEnd c first) = last_in r.cells c
+
+abbrev pub or_first : Option Seen → Image → Option Seen
+or_first None first = Some (OfCell first)
+or_first (Some x) first = Some x
+
+-- a split block that has no cell in the report ends with what its groups held where it was entered
+abbrev pub by_report_or_first : Report → Query → Option Seen
+by_report_or_first r (AtBlock ask) = answer_in r.events ask.path
+by_report_or_first r (AtEnd c first) = or_first (last_in r.cells c) first
+
+-- the meaning of a report's observations in source order, and the meaning past what stopped by their paths
+abbrev pub mean_of : Code → List ℤ → ℕ → Report → Meant
+mean_of p ints fuel r = mean p ints fuel (observations r)
+
+abbrev pub part_of : Code → List ℤ → ℕ → Report → Meant
+part_of p ints fuel r = part p ints fuel (by_report r)
+
+-- ---- legal order
+
+abbrev pub stamps : List Event → List ℕ
+stamps es = map (λ (e : Event). e.stamp) es
+
+abbrev pub AllDiffer : List ℕ → Type 0
+AllDiffer xs = AllPairs (λ m n. m ≢ n) xs
+
+-- the stamps of the events at these places rise
+abbrev pub Rises : List Event → List ℕ → Type 0
+Rises es [] = Unit {0}
+Rises es (i ∷ []) = Unit {0}
+Rises es (i ∷ j ∷ is) = ((d e : Event) → slice_get es i ≡ Some d → slice_get es j ≡ Some e → d.stamp < e.stamp) × Rises es (j ∷ is)
+
+-- a block leads from an image to the next, and its answer is what it gives
+pub record LeadsTo (p : Code) (e : Event) (before after : Image) : Type 0 where
+  pub image : (atom p e.ask before []).image ≡ after
+  pub out : (atom p e.ask before []).out ≡ Some e.out
+
+-- the events of a cell, in order
+abbrev pub of_cell : ℕ → List Event → List Event
+of_cell c [] = []
+of_cell c (e ∷ es) = if nat_eq e.cell c then e ∷ of_cell c es else of_cell c es
+
+-- events lead from the one image to the other, each from where the one before it led
+abbrev pub Leads : Code → List Event → Image → Image → Type 0
+Leads p [] first last = first ≡ last
+Leads p (e ∷ es) first last = (next : Image) × LeadsTo p e first next × Leads p es next last
+
+-- the events at these places, in this order
+abbrev pub picked : List Event → List ℕ → List Event
+picked es [] = []
+picked es (i ∷ is) = given (slice_get es i) (picked es is) (λ e. e ∷ picked es is)
+
+pub record Legal (p : Code) (r : Report) : Type 0 where
+  pub differ : AllDiffer (stamps r.events)
+  pub places : (i : ℕ) → i < length r.events ↔ Contains r.order i
+  pub once : AllDiffer r.order
+  pub rises : Rises r.events r.order
+  pub leads : (i : ℕ) (c : Cell) → slice_get r.cells i ≡ Some c → Leads p (of_cell i (picked r.events r.order)) c.first c.last
+  pub ordered : (d e : Event) → Contains r.events d → Contains r.events e → IsOrdered p d.path e.path → d.stamp < e.stamp
+
+-- ---- explained
+
+-- the last instance that a run began: the one that ended it
+abbrev pub last_ran : List At → Instance
+last_ran [] = []
+last_ran (x ∷ []) = x.path
+last_ran (x ∷ y ∷ xs) = last_ran (y ∷ xs)
+
+abbrev pub used_events : Report → List Event
+used_events r = take (length r.events - r.past) r.events
+
+abbrev pub past_events : Report → List Event
+past_events r = drop (length r.events - r.past) r.events
+
+-- what an event asks is for this cell
+abbrev pub asking_of : Report → Event → Option Asking
+asking_of r e = given (slice_get r.cells e.cell) None (λ c. Some (record { cell = c.name; ask = e.ask }))
+
+abbrev pub event_askings : Report → List Event → List (Option Asking)
+event_askings r es = map (asking_of r) es
+
+abbrev pub first_of : Cell → First
+first_of c = record { cell = c.name; image = c.first }
+
+-- a past event lies in the split block of a cell, or is ordered after it
+abbrev pub Concerns : Code → CellName → Event → Type 0
+Concerns p c e = (begins c.path e.path ≡ true) ⊎ IsOrdered p c.path e.path
+
+abbrev pub ConcernsSome : Code → Report → CellName → Type 0
+ConcernsSome p r c = (e : Event) × Contains (past_events r) e × Concerns p c e
+
+-- the split block is entered by the meaning, or past its ending where a past event concerns it
+abbrev pub IsEntered : Code → List ℤ → ℕ → Report → First → Type 0
+IsEntered p ints fuel r x = Contains (mean_of p ints fuel r).firsts x
+    ⊎ (Contains (part_of p ints fuel r).firsts x × ConcernsSome p r x.cell)
+
+-- the pieces that a block appended to its group's log
+abbrev pub appended : Image → Image → List Piece
+appended (OfLog old) (OfLog new) = drop (length old) new
+appended _ _ = []
+
+abbrev pub is_used : Report → Event → Bool
+is_used r e = given (answer_in (used_events r) e.path) false (λ x. true)
+
+abbrev pub pieces_if : Bool → List Piece → List Piece
+pieces_if true pieces = pieces
+pieces_if false pieces = []
+
+-- the pieces of the used events among those of a cell, which lead on from this image
+abbrev pub used_pieces : Code → Report → List Event → Image → List Piece
+used_pieces p r [] image = []
+used_pieces p r (e ∷ es) image =
+    let next : Image = (atom p e.ask image []).image in
+    pieces_if (is_used r e) (appended image next) ++ used_pieces p r es next
+
+abbrev pub pieces_from : Code → Report → CellName → ℕ → List Cell → List Piece
+pieces_from p r c i [] = []
+pieces_from p r c i (x ∷ xs) = if is_cell c x
+    then used_pieces p r (of_cell i (picked r.events r.order)) x.first
+    else pieces_from p r c (suc i) xs
+
+-- the pieces of the cell of `io`, where `io` is split at the end, in the order of the cell
+abbrev pub io_pieces : Code → Report → Meant → List Piece
+io_pieces p r m = given m.cell [] (λ c. pieces_from p r c 0 r.cells)
+
+pub record Explained (p : Code) (ints : List ℤ) (fuel : ℕ) (r : Report) : Type 0 where
+  pub ending : (mean_of p ints fuel r).ending ≡ Some r.ending
+  pub used : (mean_of p ints fuel r).used_paths ≡ take (mean_of p ints fuel r).used (map (λ (x : Item). x.path) (items r))
+  pub events_used : map Some (mean_of p ints fuel r).asked ≡ event_askings r (used_events r)
+  pub sorted : AllPairs (λ d e. comes_before d.path e.path ≡ true) r.events
+  pub own_path : (e : Event) → Contains r.events e → e.ask.path ≡ e.path
+  pub past_later : (e : Event) → Contains (past_events r) e → comes_before (last_ran (mean_of p ints fuel r).ran) e.path ≡ true
+  pub none_past : r.ending ≡ Done → r.past ≡ 0
+  pub past_within : r.past < suc (length r.events)
+  pub asked : (e : Event) (x : Asking) → Contains r.events e → asking_of r e ≡ Some x → Contains (part_of p ints fuel r).asked x
+  pub of_a_cell : (e : Event) → Contains r.events e → e.cell < length r.cells
+  pub cells : (x : First) → Contains (map first_of r.cells) x ↔ IsEntered p ints fuel r x
+  pub cells_sorted : AllPairs (λ (c d : Cell). comes_before d.name.path c.name.path ≡ false) r.cells
+  pub legal : Legal p r
+  pub out : r.out ≡ bytes (mean_of p ints fuel r) (io_pieces p r (mean_of p ints fuel r))
+
+-- ---- traced
+
+-- the meaning past what stopped, where split blocks without a cell in the report end as they were entered
+abbrev pub traced_part : Code → List ℤ → ℕ → Report → Meant
+traced_part p ints fuel r = part p ints fuel (by_report_or_first r)
+
+-- the instance lies in a turn of the loop that is this one or a later one
+abbrev pub InTurnsFrom : Turn → Instance → Type 0
+InTurnsFrom x q = (u : ℕ) × (rest : Instance) × (q ≡ x.path ++ (u ∷ rest)) × (x.turn < suc u)
+
+-- the path of a loop from a turn on
+abbrev pub turn_path : Turn → Instance
+turn_path x = x.path ++ (x.turn ∷ [])
+
+-- a line covers what lies at its path or below it, and a loop from a turn on also what lies in later turns
+abbrev pub Covers : Meant → Line → Instance → Type 0
+Covers m l q = (begins l.path q ≡ true) ⊎ ((x : Turn) × Contains m.turns x × (l.path ≡ turn_path x) × InTurnsFrom x q)
+
+-- the run ran the line's instance, or evaluated the condition of its turn
+abbrev pub IsOf : Meant → Line → Type 0
+IsOf m l = Contains m.ran (record { path = l.path; spot = l.at })
+    ⊎ ((x : Turn) × Contains m.turns x × (l.path ≡ turn_path x) × Contains m.ran (record { path = x.path; spot = l.at }))
+
+-- the instance comes after the ending, which is not the end of the program
+abbrev pub IsLater : Meant → Ending → Instance → Type 0
+IsLater m Done q = ⊥
+IsLater m (Trap code at) q = comes_before (last_ran m.ran) q ≡ true
+IsLater m (Fuel at) q = comes_before (last_ran m.ran) q ≡ true
+
+abbrev pub line_stamps : List Line → List ℕ
+line_stamps [] = []
+line_stamps (l ∷ ls) = l.began ∷ l.ended ∷ line_stamps ls
+
+-- the paths keep their order in time
+abbrev pub Keeps : Code → Line → Line → Type 0
+Keeps p l m = (IsOrdered p l.path m.path ⊎ IsConflict p l.path m.path) → l.ended < m.began
+
+pub record Traced (p : Code) (ints : List ℤ) (fuel : ℕ) (r : Report) : Type 0 where
+  pub differ : AllDiffer (line_stamps r.trace ++ stamps r.events)
+  pub spans : (l : Line) → Contains r.trace l → l.began < l.ended
+  pub once : AllPairs (λ (l m : Line). (q : Instance) → Covers (traced_part p ints fuel r) l q → Covers (traced_part p ints fuel r) m q → ⊥) r.trace
+  pub keeps : AllPairs (Keeps p) r.trace
+  pub all_run : (x : At) → Contains (mean_of p ints fuel r).ran x → is_simple_at p x.path ≡ true
+      → (l : Line) × Contains r.trace l × Covers (traced_part p ints fuel r) l x.path
+  pub run_only : (l : Line) → Contains r.trace l → IsOf (traced_part p ints fuel r) l
+  pub meant : (l : Line) → Contains r.trace l → IsLater (mean_of p ints fuel r) r.ending l.path ⊎ IsOf (mean_of p ints fuel r) l
+  pub sorted : AllPairs (λ (l m : Line). comes_before l.path m.path ≡ true) r.trace
