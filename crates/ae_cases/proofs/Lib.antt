@@ -1,0 +1,4 @@
+mod Values
+mod Lines
+mod Programs
+mod Declared

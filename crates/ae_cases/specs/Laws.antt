@@ -1,0 +1,35 @@
+-- The meaning of the programs that run today is a case of the meaning of the whole language.
+use Rattle.std.specs.Prelude.{◌≡◌, ℕ, ℤ, List, [], ◌∷◌, None, option_map}
+use Rattle.ae_text.specs.declared.token.Token.{Token}
+use Rattle.ae_code.specs.declared.tree.Decl.TheVariants as decl
+use Rattle.ae_code.specs.Plain.{Code}
+use Rattle.ae_code.specs.Grammar.{Derives}
+use Rattle.ae_code.specs.Built.{Built}
+use Rattle.ae_code.specs.Judgement.{Accepted}
+use Rattle.ae_meaning.specs.declared.report.Ending as today_ending
+use Rattle.ae_meaning.specs.declared.report.Ending.TheVariants as ends_today
+use Rattle.ae_meaning.specs.Meaning as today
+use Rattle.ae_semantics.specs.Observations as whole_ending
+use Rattle.ae_semantics.specs.Means as whole
+use Rattle.ae_semantics.specs.Means.{bytes_of}
+
+-- an ending of today, as an ending of the whole language
+abbrev pub as_whole : today_ending.Ending → whole_ending.Ending
+as_whole ends_today.Done = whole_ending.Done
+as_whole (ends_today.Trap code at) = whole_ending.Trap code at
+as_whole (ends_today.Fuel at) = whole_ending.Fuel at
+
+-- the ending and the bytes are those of today, and `io` is not split at the end, so that there are no other bytes
+pub record IsAsToday (m : today.Meaning) (w : whole.Meant) : Type 0 where
+  pub ending : w.ending ≡ option_map as_whole m.ending
+  pub out : bytes_of w.log ≡ m.out
+  pub unsplit : w.cell ≡ None
+
+-- an accepted program whose one declaration is its method comes to the same by both meanings
+abbrev pub TodayIsACase : Type 0
+TodayIsACase = (p : Code) → Accepted p → p.decls ≡ decl.Method 0 ∷ [] → (ints : List ℤ) (fuel : ℕ)
+    → IsAsToday (today.seq p ints fuel) (whole.seq p ints fuel)
+
+-- a program with only forms that run today, as tokens derive it, has its method as its one declaration
+abbrev pub BuiltHasOneDeclaration : Type 0
+BuiltHasOneDeclaration = (tokens : List Token) (p : Code) → Derives tokens p → Built p → p.decls ≡ decl.Method 0 ∷ []

@@ -1,0 +1,6 @@
+//! Laws on what one part of the language has to do with another.
+#![tactic(auto)]
+
+mod laws;
+
+pub use laws::{built_has_one_declaration, today_is_a_case};
