@@ -1,0 +1,4 @@
+mod LawLemmas
+mod Examples
+pub mod FlowLemmas
+mod FlowExamples
