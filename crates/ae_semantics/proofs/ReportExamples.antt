@@ -131,7 +131,7 @@ report s t order pieces out trace = record {
 }
 
 abbrev block_line : Instance → ℕ → ℕ → ℕ → Line
-block_line q row began ended = record { path = q; at = at row 1; began = began; ended = ended }
+block_line q number began ended = record { path = q; at = at number 1; began = began; ended = ended }
 
 -- first the one block, then the other
 abbrev in_order : Report
