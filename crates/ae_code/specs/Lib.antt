@@ -6,6 +6,7 @@ pub mod Limits
 pub mod Refused
 pub mod Built
 pub mod Judgement
+pub mod Edges
 pub mod Uses
 pub mod Spelling
 pub mod Layout

@@ -111,3 +111,14 @@ IsNearly p = (l : Limit) → KeepsTo (early l) p
 -- a program keeps to all limits
 abbrev pub Within : Code → Type 0
 Within p = (l : Limit) → KeepsTo l p
+
+-- Which of two limits is named where a token passes both: the one with the lower rank.
+abbrev pub rank : Limit → ℕ
+rank limit.Statements = 0
+rank limit.Depth = 1
+rank limit.Params = 2
+rank limit.Levels = 3
+
+-- a program keeps to the limits that are named before this one
+abbrev pub KeepsBefore : Limit → Code → Type 0
+KeepsBefore l p = (m : Limit) → rank m < rank l → KeepsTo m p

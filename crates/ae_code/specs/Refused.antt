@@ -14,12 +14,10 @@ use Rattle.ae_code.specs.declared.lexeme.Lexical.TheVariants as tok
 use Rattle.ae_code.specs.declared.lexeme.Lexeme.{Lexeme}
 use Rattle.ae_code.specs.declared.limits.Limit.{Limit}
 use Rattle.ae_code.specs.declared.limits.Limit.TheVariants as limit
-use Rattle.ae_code.specs.declared.tree.NameAt.{NameAt}
-use Rattle.ae_code.specs.declared.tree.Path.{Path}
 use Rattle.ae_code.specs.Plain.{Code}
 use Rattle.ae_code.specs.Names.{io, names_of, numbered}
-use Rattle.ae_code.specs.Grammar.{Tokens, ◌⨾◌, a_sign, name, path, Derives}
-use Rattle.ae_code.specs.Limits.{KeepsTo, IsNearly, Within}
+use Rattle.ae_code.specs.Grammar.{Tokens, Derives}
+use Rattle.ae_code.specs.Limits.{KeepsTo, KeepsBefore, IsNearly, Within}
 
 -- ---- what goes on
 
@@ -42,10 +40,20 @@ OpensBlock (tok.Word word.Split) = Unit {0}
 OpensBlock (tok.Word word.Atomic) = Unit {0}
 OpensBlock k = ⊥
 
--- no block is opened
+-- the words that types begin with
+abbrev pub IsTypeWord : Lexical → Type 0
+IsTypeWord (tok.Word word.Int) = Unit {0}
+IsTypeWord (tok.Word word.Bool) = Unit {0}
+IsTypeWord (tok.Word word.Unique) = Unit {0}
+IsTypeWord (tok.Word word.Immutable) = Unit {0}
+IsTypeWord (tok.Word word.Lent) = Unit {0}
+IsTypeWord (tok.Word word.Shared) = Unit {0}
+IsTypeWord k = ⊥
+
+-- no block is opened, and no type begins
 abbrev pub NoOpen : Tokens → Type 0
 NoOpen [] = Unit {0}
-NoOpen (t ∷ ts) = (t.kind ≢ tok.Sign sign.OpenBrace) × NoOpen ts
+NoOpen (t ∷ ts) = (t.kind ≢ tok.Sign sign.OpenBrace) × (IsTypeWord t.kind → ⊥) × NoOpen ts
 
 -- What may stand between the tokens that begin a program within the limits and a refused token: nothing, a comma
 -- (behind which a parameter too many is refused), or what a statement with a block begins with
@@ -71,18 +79,18 @@ pub record GoesUpTo (ts : List Token) (k : ℕ) : Type 0 where
 abbrev pub IsUnexpected : List Token → ℕ → Type 0
 IsUnexpected ts k = GoesUpTo ts k × (Goes Any ts (k + 1) → ⊥)
 
--- the token that a limit refuses: a block that is too deep at its `{`, a parameter not at the comma before it
+-- the token that a limit refuses: a block that is too deep at its `{`, a parameter too many where its type begins
 abbrev pub CanPass : Limit → Lexical → Type 0
 CanPass limit.Levels k = k ≡ tok.Sign sign.OpenBrace
-CanPass limit.Params k = k ≢ tok.Sign sign.Comma
+CanPass limit.Params k = IsTypeWord k
 CanPass l k = Unit {0}
 
 abbrev pub CanPassAt : Limit → Tokens → ℕ → Type 0
 CanPassAt l ts k = (t : Lexeme) × (slice_get ts k ≡ Some t) × CanPass l t.kind
 
--- with token k programs go on, but none that keeps to this limit
+-- with token k programs go on that keep to the limits named before this one, but none that keeps to this one
 abbrev pub Passes : Limit → List Token → ℕ → Type 0
-Passes l ts k = GoesUpTo ts k × CanPassAt l (lexemes ts) k × Goes Any ts (k + 1) × (Goes (KeepsTo l) ts (k + 1) → ⊥)
+Passes l ts k = GoesUpTo ts k × CanPassAt l (lexemes ts) k × Goes (KeepsBefore l) ts (k + 1) × (Goes (KeepsTo l) ts (k + 1) → ⊥)
 
 -- ---- right sides that are not yet known to be an expression or a call
 
@@ -116,26 +124,41 @@ abbrev pub marks_in : Tokens → ℕ
 marks_in [] = 0
 marks_in (t ∷ ts) = (if is_mark t.kind then 1 else 0) + marks_in ts
 
--- a path, or one with `<` behind it, or with `<` and a name: each may still become an expression or a call
-abbrev pub IsUndecided : Tokens → Type 0
-IsUndecided us = (p : Path) × (path p us ⊎ (path p ⨾ a_sign sign.Less) us ⊎ ((g : NameAt) × (path p ⨾ a_sign sign.Less ⨾ name g) us))
+-- what a call may begin with as well as an expression
+abbrev pub is_open : Lexical → Bool
+is_open (tok.Name n) = true
+is_open (tok.Word word.This) = true
+is_open (tok.Sign sign.Dot) = true
+is_open (tok.Sign sign.Less) = true
+is_open _ = false
 
--- the 257th token that counts is one of an undecided right side, this many tokens before its end
-pub record IsEarlier (before : Tokens) (back : ℕ) : Type 0 where
+abbrev pub AreOpen : Tokens → Type 0
+AreOpen [] = Unit {0}
+AreOpen (t ∷ ts) = IsTrue (is_open t.kind) × AreOpen ts
+
+-- the tokens end with `=` and the beginning of a right side, which may still become an expression or a call
+pub record OpenSide (before : Tokens) : Type 0 where
   pub front : Tokens
+  pub assign : Lexeme
+  pub side : Tokens
+  pub whole : before ≡ front ++ assign ∷ side
+  pub is_assign : assign.kind ≡ tok.Sign sign.Assign
+  pub are_open : AreOpen side
+
+-- the 257th token that counts is one of these, this many tokens before their end
+pub record Is257th (side : Tokens) (back : ℕ) : Type 0 where
   pub early : Tokens
   pub mark : Lexeme
   pub late : Tokens
-  pub whole : before ≡ front ++ (early ++ mark ∷ late)
-  pub undecided : IsUndecided (early ++ mark ∷ late)
+  pub parts : side ≡ early ++ mark ∷ late
   pub counts : IsTrue (is_mark mark.kind)
-  pub is_257th : marks_in early ≡ 256
+  pub before_it : marks_in early ≡ 256
   pub back_is : back ≡ 1 + length late
 
--- A token that passes a limit is refused itself, but where it makes a right side an expression
+-- A token that passes a limit is refused itself, but where it makes an open right side an expression
 -- whose 257th token that counts stands before it: then that one is.
 abbrev pub IsPlaced : Limit → Tokens → ℕ → Type 0
-IsPlaced limit.Depth before back = (back ≡ 0) ⊎ IsEarlier before back
+IsPlaced limit.Depth before back = ((s : OpenSide before) × Is257th s.side back) ⊎ ((back ≡ 0) × ((s : OpenSide before) → marks_in s.side ≤ 256))
 IsPlaced l before back = back ≡ 0
 
 -- token k is refused for this limit

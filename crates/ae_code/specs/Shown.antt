@@ -241,6 +241,10 @@ pub no-roll : (x : so.Block-F StmtKind Block Stmt) → (braced (roll-Block x)).n
 unfolding action braced
 no-roll x = ap (λ (y : Braced). y.no) (fold-roll-Block Action Braced Line action_layer block_layer line_layer x)
 
+pub no-out : (b : Block) → (braced b).no ≡ (out-Block b).no
+unfolding action braced
+no-out b = ap (λ (y : Braced). y.no) (fold_out-Block Action Braced Line action_layer block_layer line_layer b)
+
 -- ---- methods and programs
 
 abbrev pub definition : Method → Definition

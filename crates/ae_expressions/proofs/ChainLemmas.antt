@@ -1,5 +1,5 @@
 -- Chains of operators at a level.
-use Rattle.std.proofs.Common.{◌≡◌, ℕ, ◌+◌, ◌≤◌, ◌++◌, List, [], ◌∷◌, length, Option, Some, None, refl, sym, ap, ◌∙◌, append_assoc, append-nil, subst, arith, pos, inl, inr}
+use Rattle.std.proofs.Common.{◌≡◌, ℕ, ◌+◌, ◌≤◌, ◌++◌, List, [], ◌∷◌, length, Option, Some, None, refl, sym, ap, ◌∙◌, append_assoc, append-nil, subst, arith, pos, inl, inr, ◌<◌}
 use Rattle.std.proofs.lemmas.Bool.{cases_lt}
 use Rattle.ae_code.specs.declared.lexeme.Lexeme.{Lexeme}
 use Rattle.ae_code.specs.declared.lexeme.Lexical.TheVariants as tok
@@ -8,15 +8,18 @@ use Rattle.ae_code.specs.declared.limits.Limit.TheVariants.{Depth}
 use Rattle.ae_code.specs.declared.tree.Op.{Op}
 use Rattle.ae_code.specs.Plain.{Expression, Number, Truth, Nothing, Read, Item, Length, Grouped, Negated, Minus, Binary}
 use Rattle.ae_code.specs.Grammar.{Tokens, ◌⨾◌, each, level, left_level, sign_of, a_sign}
-use Rattle.ae_code.specs.Limits.{marks}
+use Rattle.ae_code.specs.Limits.{marks, rank}
 use Rattle.ae_reading.specs.declared.fail.Why.{Why}
 use Rattle.ae_reading.specs.declared.fail.Why.TheVariants.{Over}
-use Rattle.ae_reading.specs.Reads.{head, Always, Free, Took, Stopped, Larger, Mark}
-use Rattle.ae_reading.proofs.ReadsLemmas.{Lang, Both, Limits, Pair, Has, Links, Run, Along, Turns, NoneAt, each-append, each-one, took_as, stopped_as, took_then, stopped_second, stopped_first_with, took_mark, run_start, run_more, run_stopped, run_full, run_end, nowhere, at_once, took_kind, free}
+use Rattle.ae_reading.specs.Reads.{head, Is, Always, Free, Took, Stopped, Larger, Mark}
+use Rattle.ae_reading.proofs.ReadsLemmas.{Lang, Bound, Both, Limits, Pair, Has, Links, Along, NoneAt, took_as, stopped_as, took_then, stopped_second, stopped_first_with, took_mark, nowhere, at_once, took_kind, free}
+use Rattle.ae_reading.proofs.Begins.{Begins, opens_mark, opens_so}
+use Rattle.ae_reading.proofs.Parts.{optional, left_out, took_optional, stopped_optional}
+use Rattle.ae_reading.proofs.Runs.{each_turns, Run, each-append, each-one, run_start, run_more, run_stopped, run_full, run_end}
 use Rattle.ae_expressions.specs.Ends.{Ends}
 use Rattle.ae_expressions.specs.Productions.{NoOperator, IsOperator, at_level, AtMost}
-use Rattle.ae_expressions.proofs.OperatorLemmas.{same_operator, same_level, over_two, first_sign, ends_later, ends_at, goes_on}
-use Rattle.ae_expressions.proofs.OptionLemmas.{maybe, absent, present, present_stopped, full}
+use Rattle.ae_expressions.proofs.OperatorLemmas.{operator_ends, same_operator, same_level, over_two, first_sign, ends_later, ends_at, goes_on}
+use Rattle.ae_expressions.proofs.OptionLemmas.{full, none_before}
 
 abbrev pub zero_expression : Expression
 zero_expression = Number (pos 0) nowhere
@@ -26,8 +29,12 @@ has_at_level l n = record { tree = zero_expression; tokens = at_once (tok.Int (p
 
 -- ---- chains
 
+-- an operator of a level, and what stands to its right, one of the trees D of the level above
+abbrev pub item_of : (ℕ → Lang Expression) → ℕ → Lang (Op × Expression)
+item_of D l q us = (level q.0 ≡ l) × (a_sign (sign_of q.0) ⨾ D (l + 1) q.1) us
+
 abbrev pub item : ℕ → Lang (Op × Expression)
-item l q us = (level q.0 ≡ l) × (a_sign (sign_of q.0) ⨾ at_level (l + 1) q.1) us
+item = item_of at_level
 
 abbrev pub adds : Expression → List (Op × Expression) → Expression
 adds a [] = a
@@ -48,8 +55,11 @@ marks-adds a (q ∷ qs) = let h : marks (Binary q.0 a q.1) ≤ marks (adds (Bina
 abbrev pub Under : ℕ → Limit → Expression → List (Op × Expression) → Type 0
 Under n l a qs = l ≡ Depth → marks (adds a qs) ≤ n
 
+abbrev pub chained_of : (ℕ → Lang Expression) → ℕ → Lang (Expression × List (Op × Expression))
+chained_of D l = Both (D (l + 1)) (each (item_of D l))
+
 abbrev pub chained : ℕ → Lang (Expression × List (Op × Expression))
-chained l = Both (at_level (l + 1)) (each (item l))
+chained = chained_of at_level
 
 weaker : (l : ℕ) (y : Expression) (us : Tokens) → at_level (l + 1) y us → at_level l y us
 weaker l (Number n at) us d = d
@@ -77,14 +87,14 @@ adds_from l apart a (q ∷ qs) us vs d m =
 chain_is : (l : ℕ) → (l ≡ 2 → ⊥) → (q : Expression × List (Op × Expression)) (us : Tokens) → chained l q us → at_level l (adds q.0 q.1) us
 chain_is l apart q us d = let P : Tokens → Type 0 = at_level l (adds q.0 q.1) in subst P (sym d.parts) (adds_from l apart q.0 q.1 d.front d.back (weaker l q.0 d.front d.first) d.second)
 
-abbrev pub IsChain : ℕ → Expression → Tokens → Type 0
-IsChain l y us = (q : Expression × List (Op × Expression)) × (y ≡ adds q.0 q.1) × chained l q us
+abbrev pub IsChain : (ℕ → Lang Expression) → ℕ → Expression → Tokens → Type 0
+IsChain D l y us = (q : Expression × List (Op × Expression)) × (y ≡ adds q.0 q.1) × chained_of D l q us
 
-one_chain : (l : ℕ) (y : Expression) (us : Tokens) → at_level (l + 1) y us → IsChain l y us
-one_chain l y us d = ((y, []), refl, record { front = us; back = []; parts = sym (append-nil us); first = d; second = refl })
+pub one_chain : (D : ℕ → Lang Expression) (l : ℕ) (y : Expression) (us : Tokens) → D (l + 1) y us → IsChain D l y us
+one_chain D l y us d = ((y, []), refl, record { front = us; back = []; parts = sym (append-nil us); first = d; second = refl })
 
-longer_chain : (l : ℕ) (o : Op) (a b : Expression) (us vs : Tokens) → IsChain l a us → item l (o, b) vs → IsChain l (Binary o a b) (us ++ vs)
-longer_chain l o a b us vs c d = (
+pub longer_chain : (D : ℕ → Lang Expression) (l : ℕ) (o : Op) (a b : Expression) (us vs : Tokens) → IsChain D l a us → item_of D l (o, b) vs → IsChain D l (Binary o a b) (us ++ vs)
+longer_chain D l o a b us vs c d = (
   (c.0.0, c.0.1 ++ (o, b) ∷ []),
   ap (λ x. Binary o x b) c.1 ∙ sym (adds-push c.0.0 c.0.1 (o, b)),
   record {
@@ -92,29 +102,29 @@ longer_chain l o a b us vs c d = (
     back = c.2.back ++ vs;
     parts = ap (λ l. l ++ vs) c.2.parts ∙ append_assoc c.2.front c.2.back vs;
     first = c.2.first;
-    second = each-append (item l) c.0.1 ((o, b) ∷ []) c.2.back vs c.2.second (each-one (item l) (o, b) vs d);
+    second = each-append (item_of D l) c.0.1 ((o, b) ∷ []) c.2.back vs c.2.second (each-one (item_of D l) (o, b) vs d);
   },
 )
 
-pub is_chain : (l : ℕ) → (l ≡ 2 → ⊥) → (y : Expression) (us : Tokens) → at_level l y us → IsChain l y us
-is_chain l apart (Number n at) us d = one_chain l (Number n at) us d
-is_chain l apart (Truth b at) us d = one_chain l (Truth b at) us d
-is_chain l apart (Nothing at) us d = one_chain l (Nothing at) us d
-is_chain l apart (Read p) us d = one_chain l (Read p) us d
-is_chain l apart (Item p e) us d = one_chain l (Item p e) us d
-is_chain l apart (Length p at) us d = one_chain l (Length p at) us d
-is_chain l apart (Grouped e at) us d = one_chain l (Grouped e at) us d
-is_chain l apart (Negated e at) us d = one_chain l (Negated e at) us d
-is_chain l apart (Minus e at) us d = one_chain l (Minus e at) us d
+pub is_chain : (l : ℕ) → (l ≡ 2 → ⊥) → (y : Expression) (us : Tokens) → at_level l y us → IsChain at_level l y us
+is_chain l apart (Number n at) us d = one_chain at_level l (Number n at) us d
+is_chain l apart (Truth b at) us d = one_chain at_level l (Truth b at) us d
+is_chain l apart (Nothing at) us d = one_chain at_level l (Nothing at) us d
+is_chain l apart (Read p) us d = one_chain at_level l (Read p) us d
+is_chain l apart (Item p e) us d = one_chain at_level l (Item p e) us d
+is_chain l apart (Length p at) us d = one_chain at_level l (Length p at) us d
+is_chain l apart (Grouped e at) us d = one_chain at_level l (Grouped e at) us d
+is_chain l apart (Negated e at) us d = one_chain at_level l (Negated e at) us d
+is_chain l apart (Minus e at) us d = one_chain at_level l (Minus e at) us d
 is_chain l apart (Binary o a b) us d = elim (cases_lt l (level o)) [
-  | inl less ↦ one_chain l (Binary o a b) us (omega (arith, less), d.1)
+  | inl less ↦ one_chain at_level l (Binary o a b) us (omega (arith, less), d.1)
   | inr other ↦
       let e : level o ≡ l = omega (arith, other, d.0) in
       let left : left_level o ≡ l = same_level o (λ z. apart (sym e ∙ z)) ∙ e in
       let A : ℕ → Type 0 = λ k. at_level k a d.1.front in
       let B : ℕ → Type 0 = λ k. (a_sign (sign_of o) ⨾ at_level (k + 1) b) d.1.back in
-      let P : Tokens → Type 0 = IsChain l (Binary o a b) in
-      subst P (sym d.1.parts) (longer_chain l o a b d.1.front d.1.back (is_chain l apart a d.1.front (subst A left d.1.first)) (e, subst B e d.1.second))
+      let P : Tokens → Type 0 = IsChain at_level l (Binary o a b) in
+      subst P (sym d.1.parts) (longer_chain at_level l o a b d.1.front d.1.back (is_chain l apart a d.1.front (subst A left d.1.first)) (e, subst B e d.1.second))
 ]
 
 chain_along : (l n : ℕ) → (l ≡ 2 → ⊥) → (ts : Tokens) → Along (at_level l) (chained l) (AtMost n) (Limits (AtMost n) (Under n)) ts (λ q. adds q.0 q.1)
@@ -127,13 +137,14 @@ chain_along l n apart ts = record {
 
 -- ---- the tokens that may follow
 
-pub chain_turns : (l : ℕ) → Turns (item l) (Ends l) (Ends (l + 1))
-chain_turns l [] vs r m f = let P : Tokens → Type 0 = λ v. Ends (l + 1) (head (v ++ r)) in subst P (sym m) (ends_later l (head r) f)
-chain_turns l (z ∷ zs) vs r m f =
-    let s = first_sign (sign_of z.0) (at_level (l + 1) z.1) m.front (m.back ++ r) m.first.1 in
-    let P : Option Lexeme → Type 0 = Ends (l + 1) in
-    let at_front : head (vs ++ r) ≡ Some (record { kind = tok.Sign (sign_of z.0); at = s.0 }) = ap head (ap (λ v. v ++ r) m.parts ∙ append_assoc m.front m.back r) ∙ s.1 in
-    subst P (sym at_front) (ends_at (l + 1) z.0 s.0 (omega (arith, m.first.0)))
+pub begins_item : (D : ℕ → Lang Expression) (l : ℕ) (q : Op × Expression) (us r : Tokens) → item_of D l q us → Is (tok.Sign (sign_of q.0)) (head (us ++ r))
+begins_item D l q us r d = opens_so us r (opens_mark us r d.1)
+
+pub item_goes : (D : ℕ → Lang Expression) (l : ℕ) → Begins (item_of D l) (Ends (l + 1))
+item_goes D l q us r d = operator_ends (l + 1) q.0 (omega (arith, d.0)) (head (us ++ r)) (begins_item D l q us r d)
+
+pub chain_turns : (l : ℕ) → Links (each (item l)) (Ends l) (Ends (l + 1))
+chain_turns l = each_turns (item l) (Ends l) (Ends (l + 1)) (item_goes at_level l) (ends_later l)
 
 pub no_item : (l : ℕ) (rest : Tokens) → NoOperator l rest → NoneAt (item l) rest
 no_item l [] none y us r d h = let s = first_sign (sign_of y.0) (at_level (l + 1) y.1) us r d.1 in let no : Some (record { kind = tok.Sign (sign_of y.0); at = s.0 }) ≡ None = sym s.1 ∙ h in cc
@@ -248,13 +259,13 @@ chain_first_stopped l n apart ts why left t =
     (stopped_first_with (Under n) (chain_turns l) [] [] refl tt (λ k x w. w) t)
 
 -- an item goes on with this operator
-item_goes_on : (l : ℕ) (rest more : Tokens) (o : Op) → IsOperator l rest o more → Larger Depth (item l) [] rest
-item_goes_on l rest more o i =
+item_goes_on : (l : ℕ) (W : Bound (Op × Expression)) → ((m : Limit) (x : Op × Expression) → rank m < 1 → W m x) → (rest more : Tokens) (o : Op) → IsOperator l rest o more → Larger Depth (item l) W [] rest
+item_goes_on l W others rest more o i =
     let token_is : i.token ≡ record { kind = tok.Sign (sign_of o); at = i.token.at } = ap (λ k. record { kind = k; at = i.token.at }) i.kind in
     let P : Lexeme → Type 0 = λ t. item l (o, zero_expression) (t ∷ at_once (tok.Int (pos 0))) in
     let one_more : P (record { kind = tok.Sign (sign_of o); at = i.token.at }) =
     (i.at_level, record { front = record { kind = tok.Sign (sign_of o); at = i.token.at } ∷ []; back = at_once (tok.Int (pos 0)); parts = refl; first = (i.token.at, refl); second = refl }) in
-    record { next = i.token; later = more; rest_is = i.whole; tree = (o, zero_expression); after = at_once (tok.Int (pos 0)); known = (tt, tt); goes_on = subst P (sym token_is) one_more; passes = tt }
+    record { next = i.token; later = more; rest_is = i.whole; tree = (o, zero_expression); after = at_once (tok.Int (pos 0)); known = (tt, tt); goes_on = subst P (sym token_is) one_more; passes = tt; others = λ m k. others m (o, zero_expression) k }
 
 -- one operator too many
 pub chain_over : (l n : ℕ) → (l ≡ 2 → ⊥) → (ts rest more : Tokens) (tree : Expression) (o : Op) (used : ℕ) → Chain l n ts tree used rest → IsOperator l rest o more → n ≤ used → Stopped (at_level l) (AtMost n) (Ends l) ts (Over Depth) (length rest)
@@ -264,7 +275,7 @@ chain_over l n apart ts rest more tree o used c i full =
     (stopped_second (Under n) (chain_turns l) c.first
     (run_full {V = λ k. Under n k c.start} (Over Depth) (goes_on l rest more o i)
     (λ z zs us r d h under. omega (arith, operand_over used c.start c.more z zs count, full, under refl))
-    (item_goes_on l rest more o i) c.others))
+    (item_goes_on l (λ k z. Under n k c.start (c.more ++ z ∷ [])) (λ m x k e. none_before m k e) rest more o i) c.others))
 
 pub chain_ends : (l n : ℕ) → (l ≡ 2 → ⊥) → (ts rest : Tokens) (left : Expression) (used : ℕ) → Chain l n ts left used rest → NoOperator l rest → Took (at_level l) (AtMost n) (Ends l) ts left rest
 chain_ends l n apart ts rest left used c none =
@@ -282,7 +293,7 @@ abbrev JoinedUnder : ℕ → Limit → Expression → Option (Op × Expression) 
 JoinedUnder n k a q = AtMost n k (joined a q)
 
 abbrev compared : Lang (Expression × Option (Op × Expression))
-compared = Both (at_level 3) (maybe (item 2))
+compared = Both (at_level 3) (optional (item 2))
 
 compared_is : (a : Expression) (q : Option (Op × Expression)) (us : Tokens) → compared (a, q) us → at_level 2 (joined a q) us
 compared_is a None us d = let P : Tokens → Type 0 = at_level 2 a in subst P (sym (append-nil d.front) ∙ ap (λ l. d.front ++ l) (sym d.second) ∙ sym d.parts) (weaker 2 a d.front d.first)
@@ -329,7 +340,7 @@ compared_along n ts = record {
   from = λ q us d k v. ((λ e. omega (arith, joined_more q.0 q.1, v e)), v);
 }
 
-compared_links : Links (maybe (item 2)) (Ends 2) (Ends 3)
+compared_links : Links (optional (item 2)) (Ends 2) (Ends 3)
 compared_links None us r d f = let P : Tokens → Type 0 = λ v. Ends 3 (head (v ++ r)) in subst P (sym d) (ends_later 2 (head r) f)
 compared_links (Some z) us r d f =
     let s = first_sign (sign_of z.0) (at_level 3 z.1) us r d.1 in
@@ -343,18 +354,18 @@ pub sum_stopped : (n : ℕ) (ts : Tokens) (why : Why) (left : ℕ) → Stopped (
 sum_stopped n ts why left t = stopped_as (at_level 2) compared (λ q. joined q.0 q.1) (compared_along n ts) (stopped_first_with (JoinedUnder n) compared_links None [] refl tt (λ k x w. w) t)
 
 pub sum_alone : (n : ℕ) (ts rest : Tokens) (x : Expression) → Sum n ts x rest → NoOperator 2 rest → Took (at_level 2) (AtMost n) (Ends 2) ts x rest
-sum_alone n ts rest x t none = took_as (at_level 2) compared (λ q. joined q.0 q.1) (compared_along n ts) (took_then (JoinedUnder n) compared_links t (absent (no_item 2 rest none) t.within))
+sum_alone n ts rest x t none = took_as (at_level 2) compared (λ q. joined q.0 q.1) (compared_along n ts) (took_then (JoinedUnder n) compared_links t (left_out (no_item 2 rest none) t.within))
 
 pub compared_over : (n : ℕ) (ts rest more : Tokens) (x : Expression) (o : Op) → Sum n ts x rest → IsOperator 2 rest o more → n ≤ marks x → Stopped (at_level 2) (AtMost n) (Ends 2) ts (Over Depth) (length rest)
 compared_over n ts rest more x o t i many = stopped_as (at_level 2) compared (λ q. joined q.0 q.1) (compared_along n ts)
     (stopped_second (JoinedUnder n) compared_links t
-    (full {V = λ k. JoinedUnder n k x} (Over Depth) (goes_on 2 rest more o i) (λ z us r d h under. omega (arith, many, under refl)) (item_goes_on 2 rest more o i) t.within))
+    (full {V = λ k. JoinedUnder n k x} (Over Depth) (goes_on 2 rest more o i) (λ z us r d h under. omega (arith, many, under refl)) (item_goes_on 2 (λ k z. JoinedUnder n k x (Some z)) (λ m y k e. none_before m k e) rest more o i) t.within))
 
 pub compared_stopped : (n m : ℕ) (ts rest more : Tokens) (x : Expression) (o : Op) (why : Why) (left : ℕ) → Sum n ts x rest → IsOperator 2 rest o more → m + marks x + 1 ≡ n →
     Stopped (at_level 3) (AtMost m) (Ends 3) more why left → Stopped (at_level 2) (AtMost n) (Ends 2) ts why left
 compared_stopped n m ts rest more x o why left t i all u = stopped_as (at_level 2) compared (λ q. joined q.0 q.1) (compared_along n ts)
     (stopped_second (JoinedUnder n) compared_links t
-    (present_stopped {V = λ k. JoinedUnder n k x} {W = OperandAtMost m} (goes_on 2 rest more o i) (λ p f. ends_later 2 p f)
+    (stopped_optional {V = λ k. JoinedUnder n k x} {W = OperandAtMost m} (goes_on 2 rest more o i) (λ p f. ends_later 2 p f)
     (λ k z w q. omega (arith, w q, all)) (λ k z w q. omega (arith, w q, all)) (item_stopped 2 m rest more o why left i u)))
 
 pub compared_took : (n m : ℕ) (ts rest more after : Tokens) (x y next : Expression) (o : Op) → Sum n ts x rest → IsOperator 2 rest o more → m + marks x + 1 ≡ n →
@@ -363,5 +374,5 @@ compared_took n m ts rest more after x y next o t i all u e =
     let P : Expression → Type 0 = λ a. Took (at_level 2) (AtMost n) (Ends 2) ts a after in
     subst P (sym e) (took_as (at_level 2) compared (λ q. joined q.0 q.1) (compared_along n ts)
     (took_then (JoinedUnder n) compared_links t
-    (present {V = λ k. JoinedUnder n k x} {W = OperandAtMost m} (goes_on 2 rest more o i) (λ p f. ends_later 2 p f)
-    (λ k q. omega (arith, u.within Depth refl, all)) (item_took 2 m rest more after o y i u))))
+    (took_optional {V = λ k. JoinedUnder n k x} {W = OperandAtMost m} (goes_on 2 rest more o i) (λ p f. ends_later 2 p f)
+    (λ k z w q. omega (arith, w q, all)) (λ k z w q. omega (arith, w q, all)) (item_took 2 m rest more after o y i u))))

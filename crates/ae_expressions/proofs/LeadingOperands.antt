@@ -12,9 +12,11 @@ use Rattle.ae_code.specs.Plain.{Expression, Number, Truth, Nothing, Read, Item, 
 use Rattle.ae_code.specs.Grammar.{Tokens, path, level, left_level, sign_of}
 use Rattle.ae_reading.specs.Reads.{head, Is, Isnt}
 use Rattle.ae_reading.proofs.ReadsLemmas.{Follow}
-use Rattle.ae_reading.proofs.UniqueLemmas.{Begins, of_other}
 use Rattle.ae_reading.proofs.UniquePaths.{IsRoot, begins_path, unique_path}
-use Rattle.ae_expressions.proofs.UniqueExpressions.{at_level, left_cases, not_operator, Form, OfPath, Parts, form, form_of, form_at_root, operand_cases, operand_first, begins_bracketed}
+use Rattle.ae_reading.proofs.Begins.{Begins, of_other}
+use Rattle.ae_expressions.proofs.UniqueExpressions.{left_cases, Form, OfPath, Parts, form, form_of, form_at_root, operand_cases, operand_first, begins_bracketed}
+use Rattle.ae_expressions.specs.Productions.{at_level}
+use Rattle.ae_expressions.proofs.OperatorLemmas.{no_operator}
 
 -- an operator's sign at a place
 abbrev pub operator_at : Op → Spot → Lexeme
@@ -169,7 +171,7 @@ leads_path l e us r p ps after d q same ends_after ends =
     let R : Tokens → Type 0 = λ k. IsRoot (head k) in
     let g = path_operand f.operand f.front (f.back ++ r) f.is_operand (subst R (sym whole_is) (begins_path p ps after q)) in
     let all : g.front ++ (g.back ++ (f.back ++ r)) ≡ ps ++ after = sym (append_assoc g.front g.back (f.back ++ r)) ∙ ap (λ k. k ++ (f.back ++ r)) (sym g.parts) ∙ whole_is in
-    let inner : Isnt (tok.Sign sign.Dot) (head (f.back ++ r)) = behind_isnt (tok.Sign sign.Dot) (λ o e. not_operator sign.Dot refl o e) l f.back r f.behind ends in
+    let inner : Isnt (tok.Sign sign.Dot) (head (f.back ++ r)) = behind_isnt (tok.Sign sign.Dot) (λ o e. no_operator sign.Dot refl o e) l f.back r f.behind ends in
     let o = unique_path g.path_ p g.front ps (g.back ++ (f.back ++ r)) after g.derives q all (more_isnt g.back (f.back ++ r) g.more inner) ends_after in
     behind_path l g.back f.back r after g.more f.behind o.1
 
@@ -188,7 +190,7 @@ led_by_path l e us r d root ends =
     let whole_is : us ++ r ≡ f.front ++ (f.back ++ r) = ap (λ k. k ++ r) f.parts ∙ append_assoc f.front f.back r in
     let R : Tokens → Type 0 = λ k. IsRoot (head k) in
     let g = path_operand f.operand f.front (f.back ++ r) f.is_operand (subst R whole_is root) in
-    let inner : Isnt (tok.Sign sign.Dot) (head (f.back ++ r)) = behind_isnt (tok.Sign sign.Dot) (λ o e. not_operator sign.Dot refl o e) l f.back r f.behind ends in
+    let inner : Isnt (tok.Sign sign.Dot) (head (f.back ++ r)) = behind_isnt (tok.Sign sign.Dot) (λ o e. no_operator sign.Dot refl o e) l f.back r f.behind ends in
     record {
       path_ = g.path_;
       front = g.front;

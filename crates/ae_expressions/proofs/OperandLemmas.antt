@@ -1,5 +1,5 @@
 -- Operands, by their first token.
-use Rattle.std.proofs.Common.{◌≡◌, ℕ, ◌+◌, ◌≤◌, ◌<◌, ◌++◌, [], ◌∷◌, length, Option, Some, None, refl, sym, ap, ◌∙◌, append_assoc, append-nil, subst, arith, pos, true, false, inl, inr}
+use Rattle.std.proofs.Common.{◌≡◌, ℕ, ◌+◌, ◌≤◌, ◌<◌, ◌++◌, [], ◌∷◌, length, Option, Some, None, refl, sym, ap, ◌∙◌, append-nil, subst, arith, pos, true, false, inl, inr}
 use Rattle.ae_text.specs.declared.refusal.Spot.{Spot}
 use Rattle.ae_text.specs.declared.token.Keyword.{Keyword}
 use Rattle.ae_text.specs.declared.token.Keyword.TheVariants as word
@@ -10,16 +10,18 @@ use Rattle.ae_code.specs.declared.lexeme.Lexical.{Lexical}
 use Rattle.ae_code.specs.declared.lexeme.Lexical.TheVariants as tok
 use Rattle.ae_code.specs.declared.limits.Limit.{Limit}
 use Rattle.ae_code.specs.declared.limits.Limit.TheVariants.{Depth}
-use Rattle.ae_code.specs.declared.tree.NameAt.{NameAt}
 use Rattle.ae_code.specs.declared.tree.Path.{Path}
 use Rattle.ae_code.specs.Plain.{Expression, Number, Truth, Nothing, Read, Item, Length, Grouped, Negated, Minus, Binary}
-use Rattle.ae_code.specs.Grammar.{Tokens, ◌⨾◌, each, a_sign, root, step, path}
-use Rattle.ae_code.specs.Limits.{marks}
+use Rattle.ae_code.specs.Grammar.{Tokens, ◌⨾◌, a_sign, path}
+use Rattle.ae_code.specs.Limits.{marks, rank}
 use Rattle.ae_code.specs.Refused.{AreKnown}
 use Rattle.ae_reading.specs.declared.fail.Fail.{Fail}
 use Rattle.ae_reading.specs.declared.fail.Why.TheVariants.{Unexpected, Over}
 use Rattle.ae_reading.specs.Reads.{head, Always, Is, Isnt, Free, Took, Stopped, Failed, Larger, Token, Mark}
-use Rattle.ae_reading.proofs.ReadsLemmas.{Lang, Bound, Follow, Both, Limits, Pair, Has, Links, Along, has_both, has_mark, took_as, failed_as, failed_by, stopped_as, stopped_here, stopped_second, stopped_first_with, first, second, both, took_then, nowhere, at_once, free, took_mark, failed_mark, io_name}
+use Rattle.ae_reading.proofs.ReadsLemmas.{took_before, failed_before, over_here, Lang, Bound, Follow, Both, Limits, Pair, Has, Links, Along, has_both, has_mark, took_as, failed_as, failed_by, stopped_as, stopped_here, stopped_second, stopped_first_with, first, second, both, took_then, nowhere, at_once, free, took_mark, failed_mark, io_name}
+use Rattle.ae_reading.proofs.Begins.{Opens, is_isnt, of_kind, of_other, begins_mark, begins_both, opens_one, opens_at, opens_mark, opens_so}
+use Rattle.ae_reading.proofs.Parts.{optional, left_out, took_optional, stopped_optional}
+use Rattle.ae_reading.proofs.UniquePaths.{IsRoot, begins_path}
 use Rattle.ae_expressions.specs.Ends.{Ends}
 use Rattle.ae_expressions.specs.declared.starts.Mark.{Mark as Marked}
 use Rattle.ae_expressions.specs.declared.starts.Mark.TheVariants as mark
@@ -27,7 +29,7 @@ use Rattle.ae_expressions.specs.declared.starts.Start.{Start}
 use Rattle.ae_expressions.specs.declared.starts.Start.TheVariants as start
 use Rattle.ae_expressions.specs.Productions.{AtMost, AtMostInside, IsShortPath, IsClosing, Next, at_level, form, kind_of, literal, operand, enclosed, start_of}
 use Rattle.ae_expressions.proofs.OperatorLemmas.{low_level, ends_closing}
-use Rattle.ae_expressions.proofs.OptionLemmas.{is_not, begun, narrower, narrower_stopped, maybe, absent, present, present_stopped, full, over_here}
+use Rattle.ae_expressions.proofs.OptionLemmas.{begun, full, none_before}
 use Rattle.ae_expressions.proofs.ChainLemmas.{has_at_level, zero_expression}
 
 -- ---- the first token
@@ -37,32 +39,30 @@ abbrev pub Starts : Start → Follow
 Starts s None = ⊥
 Starts s (Some t) = start_of t.kind ≡ s
 
-one_first : (P : Follow) (k : Lexical) (at : Spot) (us r : Tokens) → us ≡ record { kind = k; at = at } ∷ [] → P (Some (record { kind = k; at = at })) → P (head (us ++ r))
-one_first P k at us r d p = subst P (sym (ap (λ l. head (l ++ r)) d)) p
+-- the start that the first token tells
+starts_as : (s : Start) {k : Lexical} (us r : Tokens) → start_of k ≡ s → Opens us r k → Starts s (head (us ++ r))
+starts_as s us r e b = let P : Option Lexeme → Type 0 = Starts s in subst P (sym b.front) (ap start_of b.kind ∙ e)
 
-then_first : (P : Follow) (p q : Tokens → Type 0) (us r : Tokens) → (p ⨾ q) us → ((vs u : Tokens) → p vs → P (head (vs ++ u))) → P (head (us ++ r))
-then_first P p q us r d f = subst P (ap head (sym (append_assoc d.front d.back r) ∙ ap (λ l. l ++ r) (sym d.parts))) (f d.front (d.back ++ r) d.first)
+root_starts : (o : Option Lexeme) → IsRoot o → Starts start.Place o
+root_starts None (inl i) = i
+root_starts (Some t) (inl i) = ap start_of i.1
+root_starts None (inr i) = i
+root_starts (Some t) (inr i) = ap start_of i
 
-root_first : (x : NameAt) (vs u : Tokens) → root x vs → Starts start.Place (head (vs ++ u))
-root_first x vs u d = elim d [
-  | inl n ↦ one_first (Starts start.Place) (tok.Name x.name) x.at vs u n refl
-  | inr q ↦ one_first (Starts start.Place) (tok.Word word.This) x.at vs u q.1 refl
-]
-
-path_first : (p : Path) (vs u : Tokens) → path p vs → Starts start.Place (head (vs ++ u))
-path_first p vs u d = then_first (Starts start.Place) (root p.root) (each step p.steps) vs u d (root_first p.root)
+path_first : (p : Path) (us r : Tokens) → path p us → Starts start.Place (head (us ++ r))
+path_first p us r d = root_starts (head (us ++ r)) (begins_path p us r d)
 
 starts : (y : Expression) (us r : Tokens) → at_level 5 y us → Starts (form y) (head (us ++ r))
-starts (Number n at) us r d = one_first (Starts start.Literal) (tok.Int n) at us r d refl
-starts (Truth true at) us r d = one_first (Starts start.Literal) (tok.Word word.True) at us r d refl
-starts (Truth false at) us r d = one_first (Starts start.Literal) (tok.Word word.False) at us r d refl
-starts (Nothing at) us r d = one_first (Starts start.Literal) (tok.Word word.Null) at us r d refl
+starts (Number n at) us r d = starts_as start.Literal us r refl (opens_one us r d)
+starts (Truth true at) us r d = starts_as start.Literal us r refl (opens_one us r d)
+starts (Truth false at) us r d = starts_as start.Literal us r refl (opens_one us r d)
+starts (Nothing at) us r d = starts_as start.Literal us r refl (opens_one us r d)
 starts (Read p) us r d = path_first p us r d
-starts (Item p e) us r d = then_first (Starts start.Place) (path p) (a_sign sign.OpenBracket ⨾ at_level 0 e ⨾ a_sign sign.CloseBracket) us r d (path_first p)
-starts (Length p at) us r d = then_first (Starts (start.Counted mark.Len)) (Token (tok.Word word.Len) at) (path p) us r d (λ vs u e. one_first (Starts (start.Counted mark.Len)) (tok.Word word.Len) at vs u e refl)
-starts (Grouped a at) us r d = then_first (Starts (start.Counted mark.Paren)) (Token (tok.Sign sign.OpenParen) at) (at_level 0 a ⨾ a_sign sign.CloseParen) us r d (λ vs u e. one_first (Starts (start.Counted mark.Paren)) (tok.Sign sign.OpenParen) at vs u e refl)
-starts (Negated a at) us r d = then_first (Starts (start.Counted mark.Not)) (Token (tok.Sign sign.Not) at) (at_level 5 a) us r d (λ vs u e. one_first (Starts (start.Counted mark.Not)) (tok.Sign sign.Not) at vs u e refl)
-starts (Minus a at) us r d = then_first (Starts (start.Counted mark.Minus)) (Token (tok.Sign sign.Minus) at) (at_level 5 a) us r d (λ vs u e. one_first (Starts (start.Counted mark.Minus)) (tok.Sign sign.Minus) at vs u e refl)
+starts (Item p e) us r d = begins_both path (λ p e. a_sign sign.OpenBracket ⨾ at_level 0 e ⨾ a_sign sign.CloseBracket) (Starts start.Place) path_first (p, e) us r d
+starts (Length p at) us r d = starts_as (start.Counted mark.Len) us r refl (opens_at us r d)
+starts (Grouped a at) us r d = starts_as (start.Counted mark.Paren) us r refl (opens_at us r d)
+starts (Negated a at) us r d = starts_as (start.Counted mark.Not) us r refl (opens_at us r d)
+starts (Minus a at) us r d = starts_as (start.Counted mark.Minus) us r refl (opens_at us r d)
 starts (Binary o a b) us r d = absurd (omega (arith, low_level o, d.0))
 
 -- the form of an operand that begins with this token
@@ -183,10 +183,10 @@ literal_along : (n : ℕ) (ts : Tokens) → Along literal literal (AtMost n) Fre
 literal_along n ts = record { intro = λ y us d. d; cases = λ y us r d h. (y, refl, d); to = λ y us d l v e. omega (arith, no_marks y d.0); from = λ y us d l v. tt }
 
 pub literal_fits : (n : ℕ) (ts rest : Tokens) (x : Expression) → Took literal Free Always ts x rest → Took literal (AtMost n) (Ends 5) ts x rest
-literal_fits n ts rest x t = narrower (λ o f. tt) (took_as literal literal (λ y. y) (literal_along n ts) t)
+literal_fits n ts rest x t = took_before (λ o f. tt) (took_as literal literal (λ y. y) (literal_along n ts) t)
 
 pub literal_failed : (n : ℕ) (ts : Tokens) (e : Fail) → Failed literal Free Always ts e → Failed literal (AtMost n) (Ends 5) ts e
-literal_failed n ts e f = failed_by (λ why left s. narrower_stopped (λ o f. tt) s) (failed_as literal literal (λ y. y) (literal_along n ts) f)
+literal_failed n ts e f = failed_before (λ o f. tt) (failed_as literal literal (λ y. y) (literal_along n ts) f)
 
 pub literal_marks : (x : Expression) (ts rest : Tokens) → Took literal Free Always ts x rest → marks x ≡ 0
 literal_marks x ts rest t = no_marks x t.derives.0
@@ -245,7 +245,7 @@ has_path m = record {
 pub length_took : (n m : ℕ) (ts middle rest : Tokens) (at : Spot) (p : Path) → m + 1 ≡ n → Took (Token (tok.Word word.Len)) Free Always ts at middle → Took path (IsShortPath m) (Isnt (tok.Sign sign.Dot)) middle p rest → Took len_operand (AtMost n) (Ends 5) ts (Length p at) rest
 length_took n m ts middle rest at p e t u =
     let P : ℕ → Type 0 = λ k. Took len_operand (AtMost k) (Ends 5) ts (Length p at) rest in
-    subst P e (took_as len_operand array length_of (length_along m ts) (both (free path (Ends 5)) t (narrower no_dot u)))
+    subst P e (took_as len_operand array length_of (length_along m ts) (both (free path (Ends 5)) t (took_before no_dot u)))
 
 pub length_failed_word : (n m : ℕ) (ts : Tokens) (e : Fail) → m + 1 ≡ n → Failed (Token (tok.Word word.Len)) Free Always ts e → Failed len_operand (AtMost n) (Ends 5) ts e
 length_failed_word n m ts e same f =
@@ -255,7 +255,7 @@ length_failed_word n m ts e same f =
 pub length_failed_path : (n m : ℕ) (ts middle : Tokens) (at : Spot) (e : Fail) → m + 1 ≡ n → Took (Token (tok.Word word.Len)) Free Always ts at middle → Failed path (IsShortPath m) (Isnt (tok.Sign sign.Dot)) middle e → Failed len_operand (AtMost n) (Ends 5) ts e
 length_failed_path n m ts middle at e same t f =
     let P : ℕ → Type 0 = λ k. Failed len_operand (AtMost k) (Ends 5) ts e in
-    subst P same (failed_as len_operand array length_of (length_along m ts) (second (free path (Ends 5)) t (failed_by (λ why left s. narrower_stopped no_dot s) f)))
+    subst P same (failed_as len_operand array length_of (length_along m ts) (second (free path (Ends 5)) t (failed_before no_dot f)))
 
 -- ---- brackets
 
@@ -280,7 +280,7 @@ enclosed_along g h n ts = record {
 }
 
 closing_links : (h : Sign) → IsClosing h → Links (Mark (tok.Sign h)) Always (Ends 0)
-closing_links h c y us r d f = one_first (Ends 0) (tok.Sign h) d.0 us r d.1 (ends_closing 0 h d.0 c)
+closing_links h c y us r d f = of_kind (tok.Sign h) (Ends 0) (λ at. ends_closing 0 h at c) (head (us ++ r)) (begins_mark (tok.Sign h) y us r d)
 
 has_closing : (h : Sign) (n : ℕ) → Has (closing_parts h) (Pair (AtMost n) Free)
 has_closing h n = has_both (has_at_level 0 n) (has_mark (tok.Sign h) tt)
@@ -337,12 +337,12 @@ grouped_along m ts = record {
 pub grouped_took : (n m : ℕ) (ts rest : Tokens) (q : Spot × Expression) → m + 1 ≡ n → Took in_parentheses (AtMostInside m) Always ts q rest → Took paren_operand (AtMost n) (Ends 5) ts (Grouped q.1 q.0) rest
 grouped_took n m ts rest q e t =
     let P : ℕ → Type 0 = λ k. Took paren_operand (AtMost k) (Ends 5) ts (Grouped q.1 q.0) rest in
-    subst P e (narrower (λ o f. tt) (took_as paren_operand in_parentheses grouped_of (grouped_along m ts) t))
+    subst P e (took_before (λ o f. tt) (took_as paren_operand in_parentheses grouped_of (grouped_along m ts) t))
 
 pub grouped_failed : (n m : ℕ) (ts : Tokens) (e : Fail) → m + 1 ≡ n → Failed in_parentheses (AtMostInside m) Always ts e → Failed paren_operand (AtMost n) (Ends 5) ts e
 grouped_failed n m ts e same f =
     let P : ℕ → Type 0 = λ k. Failed paren_operand (AtMost k) (Ends 5) ts e in
-    subst P same (failed_by (λ why left s. narrower_stopped (λ o f. tt) s) (failed_as paren_operand in_parentheses grouped_of (grouped_along m ts) f))
+    subst P same (failed_before (λ o f. tt) (failed_as paren_operand in_parentheses grouped_of (grouped_along m ts) f))
 
 -- ---- prefixes
 
@@ -455,7 +455,7 @@ abbrev PlacedAtMost : ℕ → Limit → Path → Option Expression → Type 0
 PlacedAtMost n l p o = AtMost n l (placed p o)
 
 abbrev place_parts : Lang (Path × Option Expression)
-place_parts = Both path (maybe index)
+place_parts = Both path (optional index)
 
 abbrev pub place_operand : Lang Expression
 place_operand = operand start.Place
@@ -492,15 +492,11 @@ place_along n ts = record {
 }
 
 bracket_first : (y : Expression) (us r : Tokens) → index y us → Is (tok.Sign sign.OpenBracket) (head (us ++ r))
-bracket_first y us r d = then_first (Is (tok.Sign sign.OpenBracket)) (a_sign sign.OpenBracket) (at_level 0 y ⨾ a_sign sign.CloseBracket) us r d (λ vs u e. one_first (Is (tok.Sign sign.OpenBracket)) (tok.Sign sign.OpenBracket) e.0 vs u e.1 refl)
+bracket_first y us r d = opens_so us r (opens_mark us r d)
 
-bracket_no_dot : (o : Option Lexeme) → Is (tok.Sign sign.OpenBracket) o → Isnt (tok.Sign sign.Dot) o
-bracket_no_dot None i = tt
-bracket_no_dot (Some t) i = λ k. let no_way : tok.Sign sign.OpenBracket ≡ tok.Sign sign.Dot = sym i ∙ k in cc
-
-place_links : Links (maybe index) (Ends 5) (Isnt (tok.Sign sign.Dot))
+place_links : Links (optional index) (Ends 5) (Isnt (tok.Sign sign.Dot))
 place_links None us r d f = let P : Tokens → Type 0 = λ v. Isnt (tok.Sign sign.Dot) (head (v ++ r)) in subst P (sym d) (no_dot (head r) f)
-place_links (Some e) us r d f = bracket_no_dot (head (us ++ r)) (bracket_first e us r d)
+place_links (Some e) us r d f = of_other (tok.Sign sign.OpenBracket) (tok.Sign sign.Dot) (λ e. cc) (head (us ++ r)) (bracket_first e us r d)
 
 abbrev PathTook : ℕ → Tokens → Path → Tokens → Type 0
 PathTook n ts p rest = Took path (IsShortPath n) (Isnt (tok.Sign sign.Dot)) ts p rest
@@ -510,10 +506,10 @@ place_failed_path n ts e f = failed_as place_operand place_parts place_of (place
 
 pub place_alone : (n : ℕ) (ts rest : Tokens) (p : Path) → PathTook n ts p rest → (Is (tok.Sign sign.OpenBracket) (head rest) → ⊥) → Took place_operand (AtMost n) (Ends 5) ts (Read p) rest
 place_alone n ts rest p t none = took_as place_operand place_parts place_of (place_along n ts)
-    (took_then (PlacedAtMost n) place_links t (absent (λ y us r d h. none (let P : Option Lexeme → Type 0 = Is (tok.Sign sign.OpenBracket) in subst P h (bracket_first y us r d))) t.within))
+    (took_then (PlacedAtMost n) place_links t (left_out (λ y us r d h. none (let P : Option Lexeme → Type 0 = Is (tok.Sign sign.OpenBracket) in subst P h (bracket_first y us r d))) t.within))
 
-bracket_goes_on : (rest : Tokens) → Is (tok.Sign sign.OpenBracket) (head rest) → Larger Depth index [] rest
-bracket_goes_on rest i =
+bracket_goes_on : (W : Bound Expression) → ((m : Limit) → rank m < 1 → W m zero_expression) → (rest : Tokens) → Is (tok.Sign sign.OpenBracket) (head rest) → Larger Depth index W [] rest
+bracket_goes_on W others rest i =
     let b = begun (tok.Sign sign.OpenBracket) rest i in
     let t : Lexeme = record { kind = tok.Sign sign.OpenBracket; at = b.0.at } in
     let token_is : b.0 ≡ t = ap (λ k. record { kind = k; at = b.0.at }) b.3 in
@@ -521,13 +517,13 @@ bracket_goes_on rest i =
     let close : Tokens = at_once (tok.Sign sign.CloseBracket) in
     let P : Lexeme → Type 0 = λ t. index zero_expression (t ∷ (zero ++ close)) in
     let one_more : P t = record { front = t ∷ []; back = zero ++ close; parts = refl; first = (b.0.at, refl); second = record { front = zero; back = close; parts = refl; first = refl; second = (nowhere, refl) } } in
-    record { next = b.0; later = b.1; rest_is = b.2; tree = zero_expression; after = zero ++ close; known = (tt, (tt, tt)); goes_on = subst P (sym token_is) one_more; passes = tt }
+    record { next = b.0; later = b.1; rest_is = b.2; tree = zero_expression; after = zero ++ close; known = (tt, (tt, tt)); goes_on = subst P (sym token_is) one_more; passes = tt; others = others }
 
 -- an index is one token too many
 pub place_over : (n : ℕ) (ts rest : Tokens) (p : Path) → PathTook n ts p rest → Is (tok.Sign sign.OpenBracket) (head rest) → n ≤ length p.steps → Stopped place_operand (AtMost n) (Ends 5) ts (Over Depth) (length rest)
 place_over n ts rest p t i many = stopped_as place_operand place_parts place_of (place_along n ts)
     (stopped_second (PlacedAtMost n) place_links t
-    (full {V = λ l. PlacedAtMost n l p} (Over Depth) (λ f. is_not (tok.Sign sign.OpenBracket) (head rest) i (no_bracket (head rest) f)) (λ z us r d h under. omega (arith, many, under refl)) (bracket_goes_on rest i) t.within))
+    (full {V = λ l. PlacedAtMost n l p} (Over Depth) (λ f. is_isnt (tok.Sign sign.OpenBracket) (head rest) i (no_bracket (head rest) f)) (λ z us r d h under. omega (arith, many, under refl)) (bracket_goes_on (λ l z. PlacedAtMost n l p (Some z)) (λ m k e. none_before m k e) rest i) t.within))
 
 index_along : (m : ℕ) (ts : Tokens) → Along index in_brackets (AtMost m) (AtMostInside m) ts (λ q. q.1)
 index_along m ts = record {
@@ -546,15 +542,15 @@ index_back n m p z all w = omega (arith, w, all)
 pub place_failed_index : (n m : ℕ) (ts rest : Tokens) (p : Path) (e : Fail) → PathTook n ts p rest → Is (tok.Sign sign.OpenBracket) (head rest) → m + length p.steps + 1 ≡ n → Failed in_brackets (AtMostInside m) Always rest e → Failed place_operand (AtMost n) (Ends 5) ts e
 place_failed_index n m ts rest p e t i all f = failed_as place_operand place_parts place_of (place_along n ts)
     (failed_by (λ why left s. stopped_second (PlacedAtMost n) place_links t
-    (present_stopped {V = λ l. PlacedAtMost n l p} {W = AtMost m} (λ g. is_not (tok.Sign sign.OpenBracket) (head rest) i (no_bracket (head rest) g)) (λ o g. tt)
+    (stopped_optional {V = λ l. PlacedAtMost n l p} {W = AtMost m} (λ g. is_isnt (tok.Sign sign.OpenBracket) (head rest) i (no_bracket (head rest) g)) (λ o g. tt)
     (λ l z w q. index_fits n m p z all (w q)) (λ l z w q. index_back n m p z all (w q)) (stopped_as index in_brackets (λ q. q.1) (index_along m rest) s))) f)
 
 pub place_indexed : (n m : ℕ) (ts rest after : Tokens) (p : Path) (q : Spot × Expression) → PathTook n ts p rest → Is (tok.Sign sign.OpenBracket) (head rest) → m + length p.steps + 1 ≡ n → Took in_brackets (AtMostInside m) Always rest q after →
     Took place_operand (AtMost n) (Ends 5) ts (Item p q.1) after
 place_indexed n m ts rest after p q t i all u = took_as place_operand place_parts place_of (place_along n ts)
     (took_then (PlacedAtMost n) place_links t
-    (present {V = λ l. PlacedAtMost n l p} {W = AtMost m} (λ g. is_not (tok.Sign sign.OpenBracket) (head rest) i (no_bracket (head rest) g)) (λ o g. tt)
-    (λ l e. omega (arith, u.within Depth refl, all)) (took_as index in_brackets (λ q. q.1) (index_along m rest) u)))
+    (took_optional {V = λ l. PlacedAtMost n l p} {W = AtMost m} (λ g. is_isnt (tok.Sign sign.OpenBracket) (head rest) i (no_bracket (head rest) g)) (λ o g. tt)
+    (λ l z w q. index_fits n m p z all (w q)) (λ l z w q. index_back n m p z all (w q)) (took_as index in_brackets (λ q. q.1) (index_along m rest) u)))
 
 -- ---- a form whose first token counts, where none may
 
@@ -621,7 +617,7 @@ mark_over m n ts none i =
     let P : Lexeme → Type 0 = λ t. at_level 5 (mark_tree m b.0.at) (t ∷ mark_after m) in
     over_here (Over Depth) (has_at_level 5 n)
     (λ y us r d h w. omega (arith, mark_counts y m (form_is (start.Counted m) y us r ts b.1 b.0 is b.2 d h), none, w refl))
-    (record { next = b.0; later = b.1; rest_is = b.2; tree = mark_tree m b.0.at; after = mark_after m; known = mark_known m; goes_on = subst P (sym token_is) (mark_goes_on m b.0.at); passes = tt })
+    (record { next = b.0; later = b.1; rest_is = b.2; tree = mark_tree m b.0.at; after = mark_after m; known = mark_known m; goes_on = subst P (sym token_is) (mark_goes_on m b.0.at); passes = tt; others = λ l k e. none_before l k e })
 
 pub marked_took : (m : Marked) (n : ℕ) (ts rest : Tokens) (x : Expression) → Next (kind_of m) ts → Took (operand (start.Counted m)) (AtMost n) (Ends 5) ts x rest → Took (at_level 5) (AtMost n) (Ends 5) ts x rest
 marked_took m n ts rest x i t = let b = starts_mark m ts i in operand_took (start.Counted m) n ts b.1 rest b.0 x b.3 b.2 t

@@ -8,7 +8,8 @@ use Rattle.ae_code.specs.declared.lexeme.Lexical.TheVariants as tok
 use Rattle.ae_code.specs.declared.tree.Op.{Op}
 use Rattle.ae_code.specs.declared.tree.Op.TheVariants as op
 use Rattle.ae_code.specs.Grammar.{Tokens, ◌⨾◌, level, left_level, sign_of, a_sign}
-use Rattle.ae_reading.specs.Reads.{head}
+use Rattle.ae_reading.specs.Reads.{head, Is}
+use Rattle.ae_reading.proofs.Begins.{of_kind}
 use Rattle.ae_expressions.specs.Ends.{Ends}
 use Rattle.ae_expressions.specs.Productions.{IsOperator, operator_of, IsClosing}
 
@@ -131,6 +132,9 @@ ends_at l o at less = (
 -- a sign that goes on no expression
 pub ends_closing : (l : ℕ) (g : Sign) (at : Spot) → IsClosing g → Ends l (Some (record { kind = tok.Sign g; at = at }))
 ends_closing l g at c = ((λ p k. absurd (no_operator g c.0 p k)), (λ k. c.1 (let same : g ≡ sign.Dot = cc in same)), (λ k. c.2 (let same : g ≡ sign.OpenBracket = cc in same)))
+
+pub operator_ends : (l : ℕ) (o : Op) → level o < l → (f : Option Lexeme) → Is (tok.Sign (sign_of o)) f → Ends l f
+operator_ends l o less = of_kind (tok.Sign (sign_of o)) (Ends l) (λ at. ends_at l o at less)
 
 pub goes_on : (l : ℕ) (rest more : Tokens) (o : Op) → IsOperator l rest o more → Ends l (head rest) → ⊥
 goes_on l rest more o i f =

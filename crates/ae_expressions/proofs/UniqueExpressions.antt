@@ -1,5 +1,5 @@
 -- Tokens stand for one expression at most.
-use Rattle.std.proofs.Common.{◌≡◌, ℕ, suc, zero, ◌+◌, ◌≤◌, ◌<◌, ◌++◌, List, [], ◌∷◌, length, Option, Some, None, refl, sym, ap, ◌∙◌, append_assoc, append-nil, length-append, subst, arith, ℤ, inl, inr}
+use Rattle.std.proofs.Common.{◌≡◌, ℕ, suc, zero, ◌+◌, ◌≤◌, ◌<◌, ◌++◌, [], ◌∷◌, length, Option, Some, None, refl, sym, ap, ◌∙◌, append-nil, subst, arith, ℤ, inl, inr}
 use Rattle.std.specs.Prelude.{◌⊎◌, Bool, true, false}
 use Rattle.std.proofs.lemmas.Bool.{cases_lt}
 use Rattle.ae_text.specs.declared.refusal.Spot.{Spot}
@@ -16,75 +16,18 @@ use Rattle.ae_code.specs.declared.tree.Op.TheVariants as op
 use Rattle.ae_code.specs.Plain.{Expression, Number, Truth, Nothing, Read, Item, Length, Grouped, Negated, Minus, Binary}
 use Rattle.ae_code.specs.Grammar.{Tokens, ◌⨾◌, one, each, path, level, left_level, sign_of, a_sign, truth, expression}
 use Rattle.ae_reading.specs.Reads.{head, Always, Is, Isnt, Token, Mark}
-use Rattle.ae_reading.proofs.ReadsLemmas.{Lang, Both, Links, each-append, each-one}
-use Rattle.ae_reading.proofs.UniqueLemmas.{Unique, Begins, Apart, begins_token, begins_mark, begins_both, of_kind, of_other, links_by, apart_by, is_and_isnt, each_turns, unique_token, unique_at, unique_mark, unique_then, unique_both, unique_each, unique_as, unique_under, unique_always, unique_choice, by_first, optional, unique_optional}
+use Rattle.ae_reading.proofs.ReadsLemmas.{Lang, Both, Links, lengths}
+use Rattle.ae_reading.proofs.UniqueLemmas.{Unique, Apart, apart_by, unique_token, unique_at, unique_mark, unique_then, unique_both, unique_each, unique_as, unique_under, unique_always, unique_choice, by_first, unique_optional}
 use Rattle.ae_reading.proofs.UniquePaths.{IsRoot, begins_path, unique_path}
+use Rattle.ae_reading.proofs.Runs.{each_turns}
+use Rattle.ae_reading.proofs.Begins.{Begins, begins_token, begins_mark, begins_both, of_kind, of_other, links_by, is_isnt}
+use Rattle.ae_reading.proofs.Parts.{optional}
 use Rattle.ae_expressions.specs.Ends.{Ends}
-
--- an expression at a level
-abbrev pub at_level : ℕ → Lang Expression
-at_level l e = expression e l
+use Rattle.ae_expressions.specs.Productions.{at_level, operator_of}
+use Rattle.ae_expressions.proofs.OperatorLemmas.{same_operator, no_operator, low_level, ends_later}
+use Rattle.ae_expressions.proofs.ChainLemmas.{item_of, adds, chained_of, IsChain, one_chain, longer_chain, begins_item, item_goes}
 
 -- ---- operators
-
--- the operator that a sign is
-abbrev pub op_of : Sign → Option Op
-op_of sign.OrOr = Some op.Or
-op_of sign.AndAnd = Some op.And
-op_of sign.Equal = Some op.Eq
-op_of sign.NotEqual = Some op.Ne
-op_of sign.Less = Some op.Lt
-op_of sign.LessEqual = Some op.Le
-op_of sign.Greater = Some op.Gt
-op_of sign.GreaterEqual = Some op.Ge
-op_of sign.Plus = Some op.Add
-op_of sign.Minus = Some op.Sub
-op_of sign.Star = Some op.Mul
-op_of sign.Slash = Some op.Div
-op_of sign.Percent = Some op.Rem
-op_of _ = None
-
-op_back : (o : Op) → op_of (sign_of o) ≡ Some o
-op_back op.Or = refl
-op_back op.And = refl
-op_back op.Eq = refl
-op_back op.Ne = refl
-op_back op.Lt = refl
-op_back op.Le = refl
-op_back op.Gt = refl
-op_back op.Ge = refl
-op_back op.Add = refl
-op_back op.Sub = refl
-op_back op.Mul = refl
-op_back op.Div = refl
-op_back op.Rem = refl
-
--- two operators with one sign are one
-pub one_operator : (o p : Op) → tok.Sign (sign_of o) ≡ tok.Sign (sign_of p) → o ≡ p
-one_operator o p e =
-    let signs : sign_of o ≡ sign_of p = cc in
-    let s : Some o ≡ Some p = sym (op_back o) ∙ ap op_of signs ∙ op_back p in cc
-
--- a sign that is no operator
-pub not_operator : (g : Sign) → op_of g ≡ None → (o : Op) → tok.Sign g ≡ tok.Sign (sign_of o) → ⊥
-not_operator g none o e =
-    let signs : g ≡ sign_of o = cc in
-    let s : None ≡ Some o = sym none ∙ ap op_of signs ∙ op_back o in cc
-
-pub top_level : (o : Op) → level o ≤ 4
-top_level op.Or = omega arith
-top_level op.And = omega arith
-top_level op.Eq = omega arith
-top_level op.Ne = omega arith
-top_level op.Lt = omega arith
-top_level op.Le = omega arith
-top_level op.Gt = omega arith
-top_level op.Ge = omega arith
-top_level op.Add = omega arith
-top_level op.Sub = omega arith
-top_level op.Mul = omega arith
-top_level op.Div = omega arith
-top_level op.Rem = omega arith
 
 pub left_cases : (o : Op) → (left_level o ≡ level o) ⊎ (left_level o ≡ level o + 1)
 left_cases op.Or = inl refl
@@ -107,15 +50,8 @@ left_cases op.Rem = inl refl
 pub other_ends : (l : ℕ) (k : Lexical) → ((o : Op) → k ≡ tok.Sign (sign_of o) → ⊥) → (k ≡ tok.Sign sign.Dot → ⊥) → (k ≡ tok.Sign sign.OpenBracket → ⊥) → (o : Option Lexeme) → Is k o → Ends l o
 other_ends l k not_op not_dot not_open = of_kind k (Ends l) (λ at. ((λ o e. absurd (not_op o e)), not_dot, not_open))
 
-pub sign_ends : (l : ℕ) (g : Sign) → op_of g ≡ None → (tok.Sign g ≡ tok.Sign sign.Dot → ⊥) → (tok.Sign g ≡ tok.Sign sign.OpenBracket → ⊥) → (o : Option Lexeme) → Is (tok.Sign g) o → Ends l o
-sign_ends l g none not_dot not_open = other_ends l (tok.Sign g) (λ o e. not_operator g none o e) not_dot not_open
-
-pub operator_ends : (l : ℕ) (o : Op) → level o < l → (f : Option Lexeme) → Is (tok.Sign (sign_of o)) f → Ends l f
-operator_ends l o less = of_kind (tok.Sign (sign_of o)) (Ends l) (λ at. (
-  (λ p e. let same : o ≡ p = one_operator o p e in let h : level p ≡ level o = ap level (sym same) in omega (arith, h, less)),
-  (λ e. not_operator sign.Dot refl o (sym e)),
-  (λ e. not_operator sign.OpenBracket refl o (sym e)),
-))
+pub sign_ends : (l : ℕ) (g : Sign) → operator_of g ≡ None → (tok.Sign g ≡ tok.Sign sign.Dot → ⊥) → (tok.Sign g ≡ tok.Sign sign.OpenBracket → ⊥) → (o : Option Lexeme) → Is (tok.Sign g) o → Ends l o
+sign_ends l g none not_dot not_open = other_ends l (tok.Sign g) (λ o e. no_operator g none o e) not_dot not_open
 
 pub ends_dot : (l : ℕ) (o : Option Lexeme) → Ends l o → Isnt (tok.Sign sign.Dot) o
 ends_dot l None e = tt
@@ -125,21 +61,14 @@ pub ends_open : (l : ℕ) (o : Option Lexeme) → Ends l o → Isnt (tok.Sign si
 ends_open l None e = tt
 ends_open l (Some t) e = e.2
 
-ends_later : (l : ℕ) (o : Option Lexeme) → Ends l o → Ends (l + 1) o
-ends_later l None e = tt
-ends_later l (Some t) e = ((λ o k. let h : level o < l = e.0 o k in omega (arith, h)), e.1, e.2)
-
 ends_top : (l : ℕ) (o : Option Lexeme) → Ends l o → Ends 5 o
 ends_top l None e = tt
-ends_top l (Some t) e = ((λ o k. let h : level o ≤ 4 = top_level o in omega (arith, h)), e.1, e.2)
+ends_top l (Some t) e = ((λ o k. let h : level o ≤ 4 = low_level o in omega (arith, h)), e.1, e.2)
 
 -- ---- expressions with fewer than n tokens
 
 abbrev pub Short : ℕ → ℕ → Lang Expression
 Short n l e us = (length us < n) × expression e l us
-
-lengths : (us a b : Tokens) → us ≡ a ++ b → length us ≡ length a + length b
-lengths us a b e = ap length e ∙ length-append a b
 
 one_long : (k : Lexical) (us : Tokens) → one k us → length us ≡ 1
 one_long k us d = ap length d.1
@@ -233,7 +162,7 @@ operand_cases n l high (Length p at) us d = (OfLength, (at, p), refl, d.1)
 operand_cases n l high (Grouped e at) us d = (OfGroup, (at, (e, tt)), refl, shorter (Token (tok.Sign sign.OpenParen) at) (one (tok.Sign sign.CloseParen)) n 0 e us (λ ws t. ap length t) d.0 d.1)
 operand_cases n l high (Negated e at) us d = (OfNot, (at, e), refl, shorter_last (Token (tok.Sign sign.Not) at) n 5 e us (λ ws t. ap length t) d.0 d.1)
 operand_cases n l high (Minus e at) us d = (OfMinus, (at, e), refl, shorter_last (Token (tok.Sign sign.Minus) at) n 5 e us (λ ws t. ap length t) d.0 d.1)
-operand_cases n l high (Binary o a b) us d = let h : l ≤ level o = d.1.0 in absurd (omega (arith, top_level o, h, high))
+operand_cases n l high (Binary o a b) us d = let h : l ≤ level o = d.1.0 in absurd (omega (arith, low_level o, h, high))
 
 abbrev pub word_form : Keyword → Option Form
 word_form word.True = Some OfTruth
@@ -308,7 +237,7 @@ path_ends n l None us r d f = let P : Tokens → Type 0 = λ l. Isnt (tok.Sign s
 path_ends n l (Some i) us r d f = of_other (tok.Sign sign.OpenBracket) (tok.Sign sign.Dot) (λ e. cc) (head (us ++ r)) (begins_bracketed n i us r d)
 
 -- a closing sign behind an expression
-unique_closed : (n : ℕ) (g : Sign) → op_of g ≡ None → (tok.Sign g ≡ tok.Sign sign.Dot → ⊥) → (tok.Sign g ≡ tok.Sign sign.OpenBracket → ⊥) → Unique (Short n 0) (Ends 0) → Unique (Both (Short n 0) (Mark (tok.Sign g))) Always
+unique_closed : (n : ℕ) (g : Sign) → operator_of g ≡ None → (tok.Sign g ≡ tok.Sign sign.Dot → ⊥) → (tok.Sign g ≡ tok.Sign sign.OpenBracket → ⊥) → Unique (Short n 0) (Ends 0) → Unique (Both (Short n 0) (Mark (tok.Sign g))) Always
 unique_closed n g none not_dot not_open one = unique_both (Short n 0) (Mark (tok.Sign g)) (Ends 0) Always (links_by (Mark (tok.Sign g)) (Is (tok.Sign g)) (Ends 0) (sign_ends 0 g none not_dot not_open) (begins_mark (tok.Sign g)) Always) one (unique_mark (tok.Sign g))
 
 unique_form : (n l : ℕ) → ((k : ℕ) → Unique (Short n k) (Ends k)) → (t : Form) → Unique (form n t) (Ends l)
@@ -316,7 +245,7 @@ unique_form n l ih OfNumber = unique_always (form n OfNumber) (Ends l) (unique_t
 unique_form n l ih OfTruth = unique_always (form n OfTruth) (Ends l) (unique_token truth_token truth_same)
 unique_form n l ih OfNull = unique_always (form n OfNull) (Ends l) (unique_at (tok.Word word.Null))
 unique_form n l ih OfPath = unique_both path (optional (bracketed n)) (Isnt (tok.Sign sign.Dot)) (Ends l) (path_ends n l) unique_path
-    (unique_optional (bracketed n) (Ends l) (apart_by (bracketed n) (Is (tok.Sign sign.OpenBracket)) (Ends l) (λ o i e. is_and_isnt (tok.Sign sign.OpenBracket) o i (ends_open l o e)) (begins_bracketed n))
+    (unique_optional (bracketed n) (Ends l) (apart_by (bracketed n) (Is (tok.Sign sign.OpenBracket)) (Ends l) (λ o i e. is_isnt (tok.Sign sign.OpenBracket) o i (ends_open l o e)) (begins_bracketed n))
     (unique_always (bracketed n) (Ends l) (unique_then (Mark (tok.Sign sign.OpenBracket)) (Both (Short n 0) (Mark (tok.Sign sign.CloseBracket))) Always (unique_mark (tok.Sign sign.OpenBracket)) (unique_closed n sign.CloseBracket refl (λ e. cc) (λ e. cc) (ih 0)))))
 unique_form n l ih OfLength = unique_then (Token (tok.Word word.Len)) path (Ends l) (unique_at (tok.Word word.Len)) (unique_under path (Ends l) (Isnt (tok.Sign sign.Dot)) (ends_dot l) unique_path)
 unique_form n l ih OfGroup = unique_always (grouped n) (Ends l) (unique_then (Token (tok.Sign sign.OpenParen)) (Both (Short n 0) (Mark (tok.Sign sign.CloseParen))) Always (unique_at (tok.Sign sign.OpenParen)) (unique_closed n sign.CloseParen refl (λ e. cc) (λ e. cc) (ih 0)))
@@ -329,51 +258,18 @@ unique_operand n l high ih = unique_choice Parts (form n) build (Short (suc n) l
 
 -- ---- chains of operands
 
-abbrev item : ℕ → ℕ → Lang (Op × Expression)
-item m l q us = (level q.0 ≡ l) × (a_sign (sign_of q.0) ⨾ Short m (l + 1) q.1) us
-
-abbrev adds : Expression → List (Op × Expression) → Expression
-adds a [] = a
-adds a (q ∷ qs) = adds (Binary q.0 a q.1) qs
-
-adds-push : (a : Expression) (qs : List (Op × Expression)) (q : Op × Expression) → adds a (qs ++ q ∷ []) ≡ Binary q.0 (adds a qs) q.1
-adds-push a [] q = refl
-adds-push a (p ∷ qs) q = adds-push (Binary p.0 a p.1) qs q
-
-abbrev chained : ℕ → ℕ → Lang (Expression × List (Op × Expression))
-chained m l = Both (Short m (l + 1)) (each (item m l))
-
-abbrev IsChain : ℕ → ℕ → Expression → Tokens → Type 0
-IsChain m l y us = (q : Expression × List (Op × Expression)) × (y ≡ adds q.0 q.1) × chained m l q us
-
-one_chain : (m l : ℕ) (y : Expression) (us : Tokens) → Short m (l + 1) y us → IsChain m l y us
-one_chain m l y us d = ((y, []), refl, record { front = us; back = []; parts = sym (append-nil us); first = d; second = refl })
-
-longer_chain : (m l : ℕ) (o : Op) (a b : Expression) (us vs : Tokens) → IsChain m l a us → item m l (o, b) vs → IsChain m l (Binary o a b) (us ++ vs)
-longer_chain m l o a b us vs c d = (
-  (c.0.0, c.0.1 ++ (o, b) ∷ []),
-  ap (λ x. Binary o x b) c.1 ∙ sym (adds-push c.0.0 c.0.1 (o, b)),
-  record {
-    front = c.2.front;
-    back = c.2.back ++ vs;
-    parts = ap (λ l. l ++ vs) c.2.parts ∙ append_assoc c.2.front c.2.back vs;
-    first = c.2.first;
-    second = each-append (item m l) c.0.1 ((o, b) ∷ []) c.2.back vs c.2.second (each-one (item m l) (o, b) vs d);
-  },
-)
-
-is_chain : (m l : ℕ) (y : Expression) (us : Tokens) → Short m l y us → IsChain m l y us
-is_chain m l (Number n at) us d = one_chain m l (Number n at) us d
-is_chain m l (Truth b at) us d = one_chain m l (Truth b at) us d
-is_chain m l (Nothing at) us d = one_chain m l (Nothing at) us d
-is_chain m l (Read p) us d = one_chain m l (Read p) us d
-is_chain m l (Item p e) us d = one_chain m l (Item p e) us d
-is_chain m l (Length p at) us d = one_chain m l (Length p at) us d
-is_chain m l (Grouped e at) us d = one_chain m l (Grouped e at) us d
-is_chain m l (Negated e at) us d = one_chain m l (Negated e at) us d
-is_chain m l (Minus e at) us d = one_chain m l (Minus e at) us d
+is_chain : (m l : ℕ) (y : Expression) (us : Tokens) → Short m l y us → IsChain (Short m) l y us
+is_chain m l (Number n at) us d = one_chain (Short m) l (Number n at) us d
+is_chain m l (Truth b at) us d = one_chain (Short m) l (Truth b at) us d
+is_chain m l (Nothing at) us d = one_chain (Short m) l (Nothing at) us d
+is_chain m l (Read p) us d = one_chain (Short m) l (Read p) us d
+is_chain m l (Item p e) us d = one_chain (Short m) l (Item p e) us d
+is_chain m l (Length p at) us d = one_chain (Short m) l (Length p at) us d
+is_chain m l (Grouped e at) us d = one_chain (Short m) l (Grouped e at) us d
+is_chain m l (Negated e at) us d = one_chain (Short m) l (Negated e at) us d
+is_chain m l (Minus e at) us d = one_chain (Short m) l (Minus e at) us d
 is_chain m l (Binary o a b) us d = elim (cases_lt l (level o)) [
-  | inl less ↦ one_chain m l (Binary o a b) us (d.0, (omega (arith, less), d.1.1))
+  | inl less ↦ one_chain (Short m) l (Binary o a b) us (d.0, (omega (arith, less), d.1.1))
   | inr other ↦
       let e : level o ≡ l = omega (arith, other, d.1.0) in
       let t = d.1.1 in
@@ -381,46 +277,40 @@ is_chain m l (Binary o a b) us d = elim (cases_lt l (level o)) [
       let n1 : length us ≡ length t.front + length t.back = lengths us t.front t.back t.parts in
       let n2 : length t.back ≡ length t.second.front + length t.second.back = lengths t.back t.second.front t.second.back t.second.parts in
       let B : ℕ → Type 0 = λ k. expression b (k + 1) t.second.back in
-      let right : item m l (o, b) t.back = (e, record { front = t.second.front; back = t.second.back; parts = t.second.parts; first = t.second.first; second = (omega (arith, n1, n2, short), subst B e t.second.second) }) in
+      let right : item_of (Short m) l (o, b) t.back = (e, record { front = t.second.front; back = t.second.back; parts = t.second.parts; first = t.second.first; second = (omega (arith, n1, n2, short), subst B e t.second.second) }) in
       let A : ℕ → Type 0 = λ k. expression a k t.front in
-      let left : IsChain m l a t.front = elim (left_cases o) [
+      let left : IsChain (Short m) l a t.front = elim (left_cases o) [
         | inl same ↦ is_chain m l a t.front (omega (arith, n1, short), subst A (same ∙ e) t.first)
-        | inr above ↦ one_chain m l a t.front (omega (arith, n1, short), subst A (above ∙ ap (λ k. k + 1) e) t.first)
+        | inr above ↦ one_chain (Short m) l a t.front (omega (arith, n1, short), subst A (above ∙ ap (λ k. k + 1) e) t.first)
       ] in
-      let P : Tokens → Type 0 = IsChain m l (Binary o a b) in
-      subst P (sym t.parts) (longer_chain m l o a b t.front t.back left right)
+      let P : Tokens → Type 0 = IsChain (Short m) l (Binary o a b) in
+      subst P (sym t.parts) (longer_chain (Short m) l o a b t.front t.back left right)
 ]
-
-begins_item : (m l : ℕ) (q : Op × Expression) (us r : Tokens) → item m l q us → Is (tok.Sign (sign_of q.0)) (head (us ++ r))
-begins_item m l q us r d = begins_both (Mark (tok.Sign (sign_of q.0))) (λ c. Short m (l + 1)) (Is (tok.Sign (sign_of q.0))) (begins_mark (tok.Sign (sign_of q.0))) (tt, q.1) us r d.1
-
-item_goes : (m l : ℕ) → Begins (item m l) (Ends (l + 1))
-item_goes m l q us r d = operator_ends (l + 1) q.0 (omega (arith, d.0)) (head (us ++ r)) (begins_item m l q us r d)
 
 low_ends : (l : ℕ) (o : Op) → level o ≡ l → (f : Option Lexeme) → Is (tok.Sign (sign_of o)) f → Ends l f → ⊥
 low_ends l o e None i f = i
 low_ends l o e (Some t) i f = let h : level o < l = f.0 o i in omega (arith, h, e)
 
-item_apart : (m l : ℕ) → Apart (item m l) (Ends l)
-item_apart m l q us r d f = low_ends l q.0 d.0 (head (us ++ r)) (begins_item m l q us r d) f
+item_apart : (m l : ℕ) → Apart (item_of (Short m) l) (Ends l)
+item_apart m l q us r d f = low_ends l q.0 d.0 (head (us ++ r)) (begins_item (Short m) l q us r d) f
 
 same_sign : (o p : Op) (f : Option Lexeme) → Is (tok.Sign (sign_of o)) f → Is (tok.Sign (sign_of p)) f → o ≡ p
 same_sign o p None i h = absurd i
-same_sign o p (Some t) i h = one_operator o p (sym i ∙ h)
+same_sign o p (Some t) i h = same_operator o p (sym i ∙ h)
 
-unique_item : (m l : ℕ) → Unique (Short m (l + 1)) (Ends (l + 1)) → Unique (item m l) (Ends (l + 1))
+unique_item : (m l : ℕ) → Unique (Short m (l + 1)) (Ends (l + 1)) → Unique (item_of (Short m) l) (Ends (l + 1))
 unique_item m l one x y us vs r s d e same t u =
     let Q : Option Lexeme → Type 0 = Is (tok.Sign (sign_of x.0)) in
-    let op : x.0 ≡ y.0 = same_sign x.0 y.0 (head (vs ++ s)) (subst Q (ap head same) (begins_item m l x us r d)) (begins_item m l y vs s e) in
+    let op : x.0 ≡ y.0 = same_sign x.0 y.0 (head (vs ++ s)) (subst Q (ap head same) (begins_item (Short m) l x us r d)) (begins_item (Short m) l y vs s e) in
     let P : Op → Type 0 = λ o. (a_sign (sign_of o) ⨾ Short m (l + 1) x.1) us in
     let rest = unique_then (Mark (tok.Sign (sign_of y.0))) (Short m (l + 1)) (Ends (l + 1)) (unique_mark (tok.Sign (sign_of y.0))) one
     (tt, x.1) (tt, y.1) us vs r s (subst P op d.1) e.1 same t u in
     (ap (λ o. (o, x.1)) op ∙ ap (λ (p : Unit {0} × Expression). (y.0, p.1)) rest.0, rest.1)
 
 unique_chain : (m l : ℕ) → Unique (Short m (l + 1)) (Ends (l + 1)) → Unique (Short m l) (Ends l)
-unique_chain m l one = unique_as (Short m l) (chained m l) (Ends l) (λ q. adds q.0 q.1) (is_chain m l)
-    (unique_both (Short m (l + 1)) (each (item m l)) (Ends (l + 1)) (Ends l) (each_turns (item m l) (Ends l) (Ends (l + 1)) (item_goes m l) (ends_later l)) one
-    (unique_each (item m l) (Ends l) (Ends (l + 1)) (item_goes m l) (ends_later l) (item_apart m l) (unique_item m l one)))
+unique_chain m l one = unique_as (Short m l) (chained_of (Short m) l) (Ends l) (λ q. adds q.0 q.1) (is_chain m l)
+    (unique_both (Short m (l + 1)) (each (item_of (Short m) l)) (Ends (l + 1)) (Ends l) (each_turns (item_of (Short m) l) (Ends l) (Ends (l + 1)) (item_goes (Short m) l) (ends_later l)) one
+    (unique_each (item_of (Short m) l) (Ends l) (Ends (l + 1)) (item_goes (Short m) l) (ends_later l) (item_apart m l) (unique_item m l one)))
 
 -- ---- all levels
 

@@ -16,10 +16,14 @@ use Rattle.ae_code.specs.declared.tree.Need.{Need}
 use Rattle.ae_code.specs.declared.tree.Need.TheVariants as need_of
 use Rattle.ae_code.specs.declared.tree.GroupNeed.{GroupNeed}
 use Rattle.ae_code.specs.Plain.{Lines, Definition}
-use Rattle.ae_code.specs.Grammar.{Tokens, a_word, each, further, name, groups, permission, type_, result, away, param, me, parameters, need_word, need, needs, body, IsOf, method}
+use Rattle.ae_code.specs.Grammar.{Tokens, a_word, each, further, name, groups, permission, type_, result, away, param, me, parameters, need_word, need, needs, body, method}
 use Rattle.ae_reading.specs.Reads.{head, Always, Is, Isnt, IsName, Token, Mark}
 use Rattle.ae_reading.proofs.ReadsLemmas.{Lang, Follow, Both, Links}
-use Rattle.ae_reading.proofs.UniqueLemmas.{Unique, Begins, begins_token, begins_mark, begins_name, begins_both, of_other, of_name, links_by, apart_by, is_and_isnt, not_both, none_at, unique_at, unique_mark, unique_name, unique_then, unique_both, unique_as, unique_always, optional, unique_optional, each_turns, begins_further, unique_furthers, some, unique_some}
+use Rattle.ae_reading.proofs.UniqueLemmas.{Unique, apart_by, none_at, unique_at, unique_mark, unique_name, unique_then, unique_both, unique_as, unique_always, unique_optional, unique_furthers, unique_some}
+use Rattle.ae_reading.proofs.Begins.{Begins, begins_token, begins_mark, begins_name, begins_both, of_other, of_name, links_by, is_isnt, not_both}
+use Rattle.ae_reading.proofs.Parts.{optional, Whole, begins_further}
+use Rattle.ae_reading.proofs.Runs.{each_turns}
+use Rattle.ae_reading.proofs.Programs.{method_is}
 use Rattle.ae_types.proofs.UniqueTypes.{IsPermission, IsKind, IsType, permission_at, kind_of_token, type_at, begins_permission, begins_kind, begins_type, unique_permission, unique_groups, unique_type}
 use Rattle.ae_statements.proofs.UniqueStatements.{unique_body}
 
@@ -57,7 +61,7 @@ away_cases (Some at) us d = (Some (at, tt), refl, d)
 
 unique_away : Unique away (Isnt (tok.Sign sign.Away))
 unique_away = unique_as away (optional sent) (Isnt away_sign) away_of away_cases
-    (unique_optional sent (Isnt away_sign) (apart_by sent (Is away_sign) (Isnt away_sign) (is_and_isnt away_sign) (begins_both (Token away_sign) (λ c. Mark (tok.Word word.None)) (Is away_sign) (begins_token away_sign)))
+    (unique_optional sent (Isnt away_sign) (apart_by sent (Is away_sign) (Isnt away_sign) (is_isnt away_sign) (begins_both (Token away_sign) (λ c. Mark (tok.Word word.None)) (Is away_sign) (begins_token away_sign)))
     (unique_always sent (Isnt away_sign) (unique_then (Token away_sign) (Mark (tok.Word word.None)) Always (unique_at away_sign) (unique_mark (tok.Word word.None)))))
 
 name_isnt : (k : Lexical) → ((n : ℕ) → tok.Name n ≡ k → ⊥) → (G : Follow) → {B : Type 0} → (E : Lang B) → Links (Both name E) G (Isnt k)
@@ -99,7 +103,7 @@ pub data Params : Type 0 where
 
 abbrev pub params : Lang Params
 params Nobody us = us ≡ []
-params (First p ps) us = some param (p, ps) us
+params (First p ps) us = Whole param (p, ps) us
 params (Receiver m ps) us = Both me (each (further param)) (m, ps) us
 
 abbrev pub params_tree : Params → Option Me × List Param
@@ -124,7 +128,7 @@ closing_no_away = of_other closing away_sign (λ e. cc)
 closing_no_comma : (o : Option Lexeme) → Is (tok.Sign sign.CloseParen) o → Isnt (tok.Sign sign.Comma) o
 closing_no_comma = of_other closing (tok.Sign sign.Comma) (λ e. cc)
 
-unique_first : Unique (some param) (Is (tok.Sign sign.CloseParen))
+unique_first : Unique (Whole param) (Is (tok.Sign sign.CloseParen))
 unique_first = unique_some param (Is closing) (Isnt away_sign) comma_no_away closing_no_away closing_no_comma unique_param
 
 unique_receiver : Unique (Both me (each (further param))) (Is (tok.Sign sign.CloseParen))
@@ -132,7 +136,7 @@ unique_receiver = unique_both me (each (further param)) (Isnt away_sign) (Is clo
     (each_turns (further param) (Is closing) (Isnt away_sign) (λ p us r d. comma_no_away (head (us ++ r)) (begins_further param p us r d)) closing_no_away) unique_me
     (unique_furthers param (Is closing) (Isnt away_sign) comma_no_away closing_no_away closing_no_comma unique_param)
 
-begins_first : Begins (some param) IsType
+begins_first : Begins (Whole param) IsType
 begins_first = begins_both param (λ c. each (further param)) IsType begins_param
 
 begins_receiver : Begins (Both me (each (further param))) IsPermission
@@ -155,7 +159,7 @@ type_or_permission (ty.Object q k) p us vs r s d e same i =
     let o = unique_permission q p d.front vs (d.back ++ r) s d.first e all tt tt in
     none_at kind_of_token (tok.Word word.This) (λ at. refl) (head s) (subst P o.1 (begins_kind k d.back r d.second)) i
 
-first_or_receiver : (p : Param) (ps qs : List Param) (m : Me) (us vs r s : Tokens) → some param (p, ps) us → Both me (each (further param)) (m, qs) vs → us ++ r ≡ vs ++ s → ⊥
+first_or_receiver : (p : Param) (ps qs : List Param) (m : Me) (us vs r s : Tokens) → Whole param (p, ps) us → Both me (each (further param)) (m, qs) vs → us ++ r ≡ vs ++ s → ⊥
 first_or_receiver p ps qs m us vs r s d e same =
     let a = d.first in
     let b = e.first in
@@ -210,7 +214,7 @@ abbrev pub Needed : Type 0
 Needed = Unit {0} × (GroupNeed × List GroupNeed)
 
 abbrev pub needed : Lang Needed
-needed = Both (Mark (tok.Word word.With)) (some need)
+needed = Both (Mark (tok.Word word.With)) (Whole need)
 
 abbrev pub needs_of : Option Needed → List GroupNeed
 needs_of None = []
@@ -225,8 +229,8 @@ brace = tok.Sign sign.OpenBrace
 
 unique_needs : Unique needs (Is (tok.Sign sign.OpenBrace))
 unique_needs = unique_as needs (optional needed) (Is brace) needs_of needs_cases
-    (unique_optional needed (Is brace) (apart_by needed (Is (tok.Word word.With)) (Is brace) (not_both (tok.Word word.With) brace (λ e. cc)) (begins_both (Mark (tok.Word word.With)) (λ c. some need) (Is (tok.Word word.With)) (begins_mark (tok.Word word.With))))
-    (unique_then (Mark (tok.Word word.With)) (some need) (Is brace) (unique_mark (tok.Word word.With))
+    (unique_optional needed (Is brace) (apart_by needed (Is (tok.Word word.With)) (Is brace) (not_both (tok.Word word.With) brace (λ e. cc)) (begins_both (Mark (tok.Word word.With)) (λ c. Whole need) (Is (tok.Word word.With)) (begins_mark (tok.Word word.With))))
+    (unique_then (Mark (tok.Word word.With)) (Whole need) (Is brace) (unique_mark (tok.Word word.With))
     (unique_some need (Is brace) Always (λ o i. tt) (λ o i. tt) (of_other brace (tok.Sign sign.Comma) (λ e. cc)) unique_need)))
 
 -- ---- methods
@@ -286,15 +290,10 @@ method_tree c q = record {
   body = q.1.1.1.1.1.1.1.1;
 }
 
-of_class : (c : Option ℕ) (m : Definition) → IsOf c m → m.class ≡ c
-of_class None m i = i.0
-of_class (Some k) m i = i.0
-
 method_cases : (c : Option ℕ) (m : Definition) (us : Tokens) → method c m us → (q : MethodParts) × (m ≡ method_tree c q) × method_form q us
 method_cases c m us d = (
   (tt, (m.result, (m.name, (m.groups, (tt, ((m.me, m.params), (tt, (m.needs, m.body)))))))),
-  ap (λ (k : Option ℕ). record { class = k; result = m.result; name = m.name; groups = m.groups; me = m.me; params = m.params; needs = m.needs; no = m.no; body = m.body }) (of_class c m d.0)
-      ∙ ap (λ (n : ℕ). record { class = c; result = m.result; name = m.name; groups = m.groups; me = m.me; params = m.params; needs = m.needs; no = n; body = m.body }) d.1,
+  method_is c m d.0 d.1,
   d.2,
 )
 

@@ -1,5 +1,5 @@
 -- Tokens stand for one program at most.
-use Rattle.std.proofs.Common.{◌≡◌, ℕ, ◌+◌, ◌++◌, List, [], ◌∷◌, length, Option, Some, None, refl, sym, ap, ◌∙◌, append_assoc, subst, inl, inr}
+use Rattle.std.proofs.Common.{◌≡◌, ℕ, ◌++◌, List, [], length, Option, Some, None, refl, sym, ap, ◌∙◌, append_assoc, subst, inl, inr}
 use Rattle.std.specs.Prelude.{◌⊎◌}
 use Rattle.ae_text.specs.declared.token.Keyword.{Keyword}
 use Rattle.ae_text.specs.declared.token.Keyword.TheVariants as word
@@ -11,14 +11,15 @@ use Rattle.ae_code.specs.declared.lexeme.Lexical.TheVariants as tok
 use Rattle.ae_code.specs.declared.tree.NameAt.{NameAt}
 use Rattle.ae_code.specs.declared.tree.Ty.{Ty}
 use Rattle.ae_code.specs.declared.tree.Field.{Field}
-use Rattle.ae_code.specs.declared.tree.Class.{Class}
-use Rattle.ae_code.specs.declared.tree.Decl.{Decl}
 use Rattle.ae_code.specs.Plain.{Definition, Code}
 use Rattle.ae_code.specs.Names.{names_of, numbered}
-use Rattle.ae_code.specs.Grammar.{Tokens, each, name, groups, type_, method, field, numbers_from, Declaration, OfClass, OfMethod, declaration, classes_in, methods_in, declarations, decls_of, classes_of, methods_of, Derives}
-use Rattle.ae_reading.specs.Reads.{head, Always, Is, Isnt, IsName, Mark}
+use Rattle.ae_code.specs.Grammar.{Tokens, each, name, groups, type_, method, field, numbers_from, Declaration, OfClass, OfMethod, declaration, declarations, Derives}
+use Rattle.ae_reading.specs.Reads.{head, Always, Is, Isnt, IsName, Mark, chain}
 use Rattle.ae_reading.proofs.ReadsLemmas.{Lang, Follow, Both, Links}
-use Rattle.ae_reading.proofs.UniqueLemmas.{Unique, Begins, begins_mark, begins_name, begins_both, of_kind, of_other, of_name, links_by, apart_by, not_both, none_at, unique_mark, unique_name, unique_then, unique_both, unique_each, unique_as, unique_choice, by_first, each_turns, run, unique_run}
+use Rattle.ae_reading.proofs.UniqueLemmas.{Unique, apart_by, none_at, unique_mark, unique_name, unique_then, unique_both, unique_each, unique_as, unique_choice, by_first, unique_chain}
+use Rattle.ae_reading.proofs.Begins.{Begins, begins_mark, begins_name, begins_both, of_kind, of_other, of_name, links_by, not_both}
+use Rattle.ae_reading.proofs.Runs.{each_turns}
+use Rattle.ae_reading.proofs.Programs.{counted, one_of, to_all, code_of, code_is}
 use Rattle.ae_types.proofs.UniqueTypes.{IsType, type_at, begins_type, unique_groups, unique_type}
 use Rattle.ae_grammar.proofs.UniqueMethods.{unique_method, begins_method}
 
@@ -150,25 +151,11 @@ IsDeclaration o = (t : Form) × (form_of o ≡ Some t)
 begins_declaration : (c m : ℕ) → Begins (declaration c m) IsDeclaration
 begins_declaration c m y us r d = let k = declaration_cases c m y us d in (k.0, form_first c k.0 k.1 us r k.3)
 
--- how many classes and methods stand before
-abbrev pub Before : Type 0
-Before = ℕ × ℕ
-
-abbrev pub declared_at : Before → Lang Declaration
-declared_at s = declaration s.0 s.1
-
-abbrev pub behind : Before → Declaration → Before
-behind s x = (s.0 + length (classes_in x), s.1 + length (methods_in x))
-
-declarations_run : (c m : ℕ) (xs : List Declaration) (us : Tokens) → declarations c m xs us → run declared_at behind (c, m) xs us
-declarations_run c m [] us d = d
-declarations_run c m (x ∷ xs) us d = record { front = d.front; back = d.back; parts = d.parts; first = d.first; second = declarations_run (c + length (classes_in x)) (m + length (methods_in x)) xs d.back d.second }
-
 -- tokens before the end stand for one list of declarations at most
 pub unique_declarations : (c m : ℕ) → Unique (declarations c m) (Is tok.End)
-unique_declarations c m = unique_as (declarations c m) (run declared_at behind (c, m)) (Is tok.End) (λ q. q) (λ y us d. (y, refl, declarations_run c m y us d))
-    (unique_run declared_at behind (Is tok.End) Always (λ s x us r d. tt) (λ o i. tt)
-    (λ s. apart_by (declared_at s) IsDeclaration (Is tok.End) (λ o k i. none_at form_of tok.End (λ at. refl) o k i) (begins_declaration s.0 s.1)) (λ s. unique_declaration s.0 s.1) (c, m))
+unique_declarations c m = unique_as (declarations c m) (chain one_of counted (c, m)) (Is tok.End) (λ q. q) (λ y us d. (y, refl, to_all c m y us d))
+    (unique_chain one_of counted (Is tok.End) Always (λ s x us r d. tt) (λ o i. tt)
+    (λ s. apart_by (one_of s) IsDeclaration (Is tok.End) (λ o k i. none_at form_of tok.End (λ at. refl) o k i) (begins_declaration s.0 s.1)) (λ s. unique_declaration s.0 s.1) (c, m))
 
 -- ---- programs
 
@@ -177,16 +164,6 @@ ended = Both (declarations 0 0) (Mark tok.End)
 
 unique_ended : Unique ended Always
 unique_ended = unique_both (declarations 0 0) (Mark tok.End) (Is tok.End) Always (λ x us r d f. begins_mark tok.End x us r d) (unique_declarations 0 0) (unique_mark tok.End)
-
-abbrev pub code_of : List (List ℕ) → List Declaration → Code
-code_of names xs = record { names = names; classes = classes_of xs; methods = methods_of xs; decls = decls_of 0 0 xs }
-
-code_is : (p : Code) (tokens : List SourceToken) (d : Derives tokens p) → p ≡ code_of (names_of tokens) d.list
-code_is p tokens d =
-    ap (λ (n : List (List ℕ)). record { names = n; classes = p.classes; methods = p.methods; decls = p.decls }) d.names
-    ∙ ap (λ (c : List Class). record { names = names_of tokens; classes = c; methods = p.methods; decls = p.decls }) d.classes
-    ∙ ap (λ (m : List Definition). record { names = names_of tokens; classes = classes_of d.list; methods = m; decls = p.decls }) d.methods
-    ∙ ap (λ (l : List Decl). record { names = names_of tokens; classes = classes_of d.list; methods = methods_of d.list; decls = l }) d.decls
 
 list_derives : (p : Code) (tokens : List SourceToken) (d : Derives tokens p) → ended (d.list, tt) (numbered (names_of tokens) tokens)
 list_derives p tokens d = let P : List (List ℕ) → Type 0 = λ n. ended (d.list, tt) (numbered n tokens) in subst P d.names d.derives

@@ -18,9 +18,9 @@ use Rattle.ae_code.specs.Grammar.{Tokens, each, name, groups, type_, field, meth
 use Rattle.ae_code.specs.Limits.{KeepsMethod}
 use Rattle.ae_reading.specs.declared.fail.Fail.{Fail}
 use Rattle.ae_reading.specs.Reads.{head, Always, Is, Isnt, Free, IsWithin, Took, Failed, Mark}
-use Rattle.ae_reading.proofs.ReadsLemmas.{Lang, Bound, Follow, Links, Both, Pair, Has, Along, Run, took_as, failed_as, has_mark, has_both, has_name, run_start, run_more, run_end}
-use Rattle.ae_reading.proofs.Begins.{begins_both, begins_not, run_failed}
-use Rattle.ae_types.proofs.FirstLemmas.{begins_one, begins_isnt, is_isnt}
+use Rattle.ae_reading.proofs.ReadsLemmas.{Lang, Bound, Follow, Links, Both, Pair, Has, Along, took_as, failed_as, has_mark, has_both, has_name}
+use Rattle.ae_reading.proofs.Begins.{begins_both, begins_not, opens_one, opens_isnt, is_isnt}
+use Rattle.ae_reading.proofs.Runs.{Run, run_start, run_more, run_end, run_failed}
 use Rattle.ae_types.proofs.TypeLemmas.{has_groups}
 use Rattle.ae_parser.specs.Productions.{BeginsType, NoType, AllKeep, KeepsOne, class_at}
 use Rattle.ae_parser.proofs.ParamLemmas.{begins_type, no_type}
@@ -56,7 +56,7 @@ pub has_ended : Has (Both name semicolon) (Pair Free Free)
 has_ended = has_both has_name (has_mark (tok.Sign sign.Semicolon) tt)
 
 begins_field : (y : Field) (us r : Tokens) → field y us → BeginsType (head (us ++ r))
-begins_field y us r d = begins_both type_ (Both name semicolon) BeginsType begins_type (y.ty, (y.name, tt)) us r d
+begins_field y us r d = begins_both type_ (λ t. Both name semicolon) BeginsType begins_type (y.ty, (y.name, tt)) us r d
 
 pub type_goes_on : (ts : Tokens) → BeginsType (head ts) → NoType (head ts) → ⊥
 type_goes_on ts is other = other is
@@ -221,15 +221,15 @@ no_field c [] u us r d =
     let P : Option Lexeme → Type 0 = NoType in
     subst P (sym at) (no_type (tok.Sign sign.CloseBrace) (Some (record { kind = tok.Sign sign.CloseBrace; at = d.second.0 })) (λ e. cc) (λ e. cc) (λ e. cc) (λ e. cc) (λ e. cc) (λ e. cc) refl)
 no_field c (m ∷ ms) u us r d =
-    let is = begins_both (Both (method (Some c)) (each (method (Some c)))) closing (Is (tok.Word word.Method))
-    (begins_both (method (Some c)) (each (method (Some c))) (Is (tok.Word word.Method)) (method_begins (Some c))) ((m, ms), u) us r d in
+    let is = begins_both (Both (method (Some c)) (each (method (Some c)))) (λ m. closing) (Is (tok.Word word.Method))
+    (begins_both (method (Some c)) (λ m. each (method (Some c))) (Is (tok.Word word.Method)) (method_begins (Some c))) ((m, ms), u) us r d in
     no_type (tok.Word word.Method) (head (us ++ r)) (λ e. cc) (λ e. cc) (λ e. cc) (λ e. cc) (λ e. cc) (λ e. cc) is
 
 pub methods_no_type : (c : ℕ) → Links (Both (each (method (Some c))) closing) Always NoType
 methods_no_type c y us r d f = no_field c y.0 y.1 us r d
 
 pub closing_no_method : Links closing Always NoMethod
-closing_no_method y us r d f = begins_isnt us r (begins_one us r d.1) (λ e. cc)
+closing_no_method y us r d f = opens_isnt us r (opens_one us r d.1) (λ e. cc)
 
 -- completions behind each part
 

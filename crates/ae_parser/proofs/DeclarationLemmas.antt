@@ -17,14 +17,13 @@ use Rattle.ae_code.specs.Limits.{KeepsMethod}
 use Rattle.ae_reading.specs.declared.fail.Fail.{Fail}
 use Rattle.ae_reading.specs.Reads.{head, Always, Is, Free, Took, Failed, Mark, chain, after}
 use Rattle.ae_reading.proofs.ReadsLemmas.{Lang, Follow, Links, Both, Pair, Along, NoneAt, took_as, failed_as, has_mark, first}
-use Rattle.ae_reading.proofs.Chains.{Chain, after-append, chain_start, chain_more, chain_end}
-use Rattle.ae_reading.proofs.Begins.{chain_failed}
-use Rattle.ae_types.proofs.FirstLemmas.{begins_one, begins_mark, begins_is, begins_other}
+use Rattle.ae_reading.proofs.Chains.{Chain, after-append, chain_start, chain_more, chain_end, chain_failed}
+use Rattle.ae_reading.proofs.Begins.{opens_so, opens_one, opens_mark, opens_is, opens_other}
+use Rattle.ae_reading.proofs.Programs.{Counts2, counted, one_of, to_all, from_all}
 use Rattle.ae_parser.specs.declared.classes.WithMethods.{WithMethods}
 use Rattle.ae_parser.specs.declared.declarations.Parts.{Parts}
 use Rattle.ae_parser.specs.Reading.{whole_program, KeepsAll, KeepsAllWhole, HasRead, ReadsAll}
 use Rattle.ae_parser.specs.Productions.{KeepsOne, shown_class, class_at, method_at, Added, ReadsOne}
-use Rattle.ae_parser.proofs.ParamLemmas.{begins_so}
 use Rattle.ae_parser.proofs.ClassLemmas.{all_one, method_long, methods_long}
 
 -- ---- one declaration
@@ -65,7 +64,7 @@ class_intro c m q us d = let P : Declaration → Type 0 = λ x. declaration c m 
 
 class_cases : (c m : ℕ) (ts : Tokens) → Is (tok.Word word.Class) (head ts) → (y : Declaration) (us r : Tokens) → declaration c m y us → head (us ++ r) ≡ head ts → (q : Declaration) × (y ≡ q) × class_at c m q us
 class_cases c m ts is (OfClass k ms) us r d h = (OfClass k ms, refl, (k, ms, refl, d))
-class_cases c m ts is (OfMethod x) us r d h = let no : tok.Word word.Method ≡ tok.Word word.Class = begins_is us r ts (begins_mark us r d.2) h is in absurd cc
+class_cases c m ts is (OfMethod x) us r d h = let no : tok.Word word.Method ≡ tok.Word word.Class = opens_is us r ts (opens_mark us r d.2) h is in absurd cc
 
 pub class_there : (ts : Tokens) → Is (tok.Word word.Class) (head ts) → (c m : ℕ) → Along (declaration c m) (class_at c m) KeepsOne KeepsOne ts (λ q. q)
 class_there ts is c m = record { intro = class_intro c m; cases = class_cases c m ts is; to = λ q us d l v. v; from = λ q us d l v. v }
@@ -74,7 +73,7 @@ method_intro : (c m : ℕ) (q : Declaration) (us : Tokens) → method_at c m q u
 method_intro c m q us d = let P : Declaration → Type 0 = λ x. declaration c m x us in subst P (sym d.1) d.2
 
 method_cases : (c m : ℕ) (ts : Tokens) → (Is (tok.Word word.Class) (head ts) → ⊥) → (y : Declaration) (us r : Tokens) → declaration c m y us → head (us ++ r) ≡ head ts → (q : Declaration) × (y ≡ q) × method_at c m q us
-method_cases c m ts other (OfClass k ms) us r d h = absurd (begins_other us r ts (begins_mark us r d.1) h other)
+method_cases c m ts other (OfClass k ms) us r d h = absurd (opens_other us r ts (opens_mark us r d.1) h other)
 method_cases c m ts other (OfMethod x) us r d h = (OfMethod x, refl, (x, refl, d))
 
 pub method_there : (ts : Tokens) → (Is (tok.Word word.Class) (head ts) → ⊥) → (c m : ℕ) → Along (declaration c m) (method_at c m) KeepsOne KeepsOne ts (λ q. q)
@@ -141,25 +140,8 @@ add_smaller before behind ts rest a =
 abbrev pub Ending : Follow
 Ending = Is tok.End
 
-abbrev pub Counts2 : Type 0
-Counts2 = ℕ × ℕ
-
-abbrev pub counted : Counts2 → Declaration → Counts2
-counted s x = (s.0 + length (classes_in x), s.1 + length (methods_in x))
-
-abbrev pub one_of : Counts2 → Lang Declaration
-one_of s = declaration s.0 s.1
-
 abbrev pub all_of : Lang (List Declaration)
 all_of = chain one_of counted (0, 0)
-
-to_all : (c m : ℕ) (xs : List Declaration) (us : Tokens) → declarations c m xs us → chain one_of counted (c, m) xs us
-to_all c m [] us d = d
-to_all c m (x ∷ xs) us d = record { front = d.front; back = d.back; parts = d.parts; first = d.first; second = to_all (c + length (classes_in x)) (m + length (methods_in x)) xs d.back d.second }
-
-from_all : (c m : ℕ) (xs : List Declaration) (us : Tokens) → chain one_of counted (c, m) xs us → declarations c m xs us
-from_all c m [] us d = d
-from_all c m (x ∷ xs) us d = record { front = d.front; back = d.back; parts = d.parts; first = d.first; second = from_all (c + length (classes_in x)) (m + length (methods_in x)) xs d.back d.second }
 
 all_along : (ts : Tokens) → Along (declarations 0 0) all_of KeepsAll KeepsAll ts (λ q. q)
 all_along ts = record { intro = from_all 0 0; cases = λ y us r d h. (y, refl, to_all 0 0 y us d); to = λ q us d l v. v; from = λ q us d l v. v }
@@ -265,8 +247,8 @@ parts_more before behind ts rest rest' other p a =
     }
 
 no_declaration : (c m : ℕ) (rest : Tokens) → Ending (head rest) → NoneAt (declaration c m) rest
-no_declaration c m rest is (OfClass k ms) us r d h = let no : tok.Word word.Class ≡ tok.End = begins_is us r rest (begins_mark us r d.1) h is in absurd cc
-no_declaration c m rest is (OfMethod x) us r d h = let no : tok.Word word.Method ≡ tok.End = begins_is us r rest (begins_mark us r d.2) h is in absurd cc
+no_declaration c m rest is (OfClass k ms) us r d h = let no : tok.Word word.Class ≡ tok.End = opens_is us r rest (opens_mark us r d.1) h is in absurd cc
+no_declaration c m rest is (OfMethod x) us r d h = let no : tok.Word word.Method ≡ tok.End = opens_is us r rest (opens_mark us r d.2) h is in absurd cc
 
 pub parts_end : (ts rest : Tokens) (p : Parts) → Ending (head rest) → ReadParts ts p rest → HasRead ts p
 parts_end ts rest p is r =
@@ -284,7 +266,7 @@ parts_end ts rest p is r =
 -- ---- the end
 
 end_follows : Links (Mark tok.End) Always Ending
-end_follows y us r d f = begins_so us r (begins_one us r d.1)
+end_follows y us r d f = opens_so us r (opens_one us r d.1)
 
 whole_along : (ts : Tokens) → Along whole_program (Both (declarations 0 0) (Mark tok.End)) KeepsAllWhole (Pair KeepsAll Free) ts (λ q. q)
 whole_along ts = record { intro = λ q us d. d; cases = λ y us r d h. (y, refl, d); to = λ q us d l v. v.0; from = λ q us d l v. (v, tt) }

@@ -1,8 +1,11 @@
 pub mod NumberLemmas
 pub mod NamesLemmas
 pub mod ProgramLemmas
+pub mod SideLemmas
 pub mod PlaceLemmas
 pub mod ParamLemmas
 pub mod MethodLemmas
 pub mod ClassLemmas
 pub mod DeclarationLemmas
+pub mod OnePlace
+pub mod RefusalLemmas

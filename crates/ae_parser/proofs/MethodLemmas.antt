@@ -1,5 +1,5 @@
 -- Needs and methods: how each production is read.
-use Rattle.std.proofs.Common.{◌≡◌, ℕ, ◌≤◌, ◌++◌, List, [], ◌∷◌, length, Option, Some, None, refl, sym, ap, ◌∙◌, subst, arith, length-append}
+use Rattle.std.proofs.Common.{◌≡◌, ℕ, ◌++◌, List, [], ◌∷◌, Option, Some, None, refl, sym, ap, ◌∙◌, subst}
 use Rattle.ae_text.specs.declared.token.Keyword.{Keyword}
 use Rattle.ae_text.specs.declared.token.Keyword.TheVariants as word
 use Rattle.ae_text.specs.declared.token.Sign.TheVariants as sign
@@ -14,16 +14,17 @@ use Rattle.ae_code.specs.declared.tree.Need.TheVariants as need_of
 use Rattle.ae_code.specs.declared.tree.GroupNeed.{GroupNeed}
 use Rattle.ae_code.specs.Plain.{Lines, End, Definition}
 use Rattle.ae_code.specs.Grammar.{Tokens, Then, ◌⨾◌, one, separated, name, groups, type_, result, need_word, need, needs, body, IsOf, method}
-use Rattle.ae_code.specs.Limits.{IsFew, KeepsBlock, HasFewParams, KeepsMethod}
+use Rattle.ae_code.specs.Limits.{KeepsBlock, HasFewParams, KeepsMethod}
 use Rattle.ae_reading.specs.declared.fail.Fail.{Fail}
-use Rattle.ae_reading.specs.Reads.{head, Always, Is, Free, Took, Failed, Mark}
-use Rattle.ae_reading.proofs.ReadsLemmas.{Lang, Bound, Follow, Links, Both, Pair, Has, Along, took_as, failed_as, has_mark, has_both, has_name, at_once, nowhere}
-use Rattle.ae_types.proofs.FirstLemmas.{Begins, begins_one, begins_mark, begins_is, begins_other}
-use Rattle.ae_types.proofs.PartLemmas.{When, took_none}
+use Rattle.ae_reading.specs.Reads.{head, Always, Is, Free, Took, Failed, Mark, Isnt}
+use Rattle.ae_reading.proofs.ReadsLemmas.{Lang, Bound, Follow, Links, Both, Pair, Has, Along, took_as, failed_as, has_mark, has_both, has_name, at_once, nowhere, When, took_nothing}
+use Rattle.ae_reading.proofs.Begins.{not_both, opens_so, Opens, opens_one, opens_mark, opens_is, opens_other, of_other}
+use Rattle.ae_reading.proofs.Programs.{method_is}
+use Rattle.ae_statements.proofs.BlockLemmas.{none_few}
 use Rattle.ae_types.proofs.TypeLemmas.{NoLess, has_groups}
 use Rattle.ae_parser.specs.declared.params.Given.{Given}
 use Rattle.ae_parser.specs.Productions.{BeginsType, HasMe, given, FewGiven, need_by, some_needs}
-use Rattle.ae_parser.proofs.ParamLemmas.{begins_so, two_kinds, begins_type, no_type, has_given}
+use Rattle.ae_parser.proofs.ParamLemmas.{begins_type, no_type, has_given}
 
 -- ---- what a method returns
 
@@ -37,7 +38,7 @@ pub void_when : (ts : Tokens) → Is (tok.Word word.Void) (head ts) → When res
 void_when ts is = record { intro = λ q us d. d; cases = void_cases ts is; to = λ q us d l v. tt; from = λ q us d l v. tt }
 
 some_cases : (ts : Tokens) → (Is (tok.Word word.Void) (head ts) → ⊥) → (y : Option Ty) (us r : Tokens) → result y us → head (us ++ r) ≡ head ts → (q : Ty) × (y ≡ Some q) × type_ q us
-some_cases ts other None us r d h = absurd (begins_other us r ts (begins_one us r d.1) h other)
+some_cases ts other None us r d h = absurd (opens_other us r ts (opens_one us r d.1) h other)
 some_cases ts other (Some t) us r d h = (t, refl, d)
 
 pub some_along : (ts : Tokens) → (Is (tok.Word word.Void) (head ts) → ⊥) → Along result type_ Free Free ts (λ q. Some q)
@@ -82,21 +83,21 @@ need_took w n e ts rest g t = took_as (need_by w) (need_body w) (need_tree n) (n
 pub need_failed : (w : Keyword) (n : Need) → need_word n ≡ w → (ts : Tokens) (e : Fail) → Failed (need_body w) (Pair Free Free) Always ts e → Failed (need_by w) Free Always ts e
 need_failed w n is ts e f = failed_as (need_by w) (need_body w) (need_tree n) (need_along w n ts is) f
 
-begins_need : (y : GroupNeed) (us r : Tokens) → need y us → Begins us r (tok.Word (need_word y.need))
-begins_need y us r d = begins_mark us r d
+begins_need : (y : GroupNeed) (us r : Tokens) → need y us → Opens us r (tok.Word (need_word y.need))
+begins_need y us r d = opens_mark us r d
 
 -- the need of a word that is there
 pub need_there : (w : Keyword) (ts : Tokens) → Is (tok.Word w) (head ts) → Along need (need_by w) Free Free ts (λ q. q)
 need_there w ts is = record {
   intro = λ q us d. d.1;
-  cases = λ y us r d h. let e : tok.Word (need_word y.need) ≡ tok.Word w = begins_is us r ts (begins_need y us r d) h is in (y, refl, (cc, d));
+  cases = λ y us r d h. let e : tok.Word (need_word y.need) ≡ tok.Word w = opens_is us r ts (begins_need y us r d) h is in (y, refl, (cc, d));
   to = λ q us d l v. tt;
   from = λ q us d l v. tt;
 }
 
-last_need : (ts : Tokens) → (Is (tok.Word word.Exclusive) (head ts) → ⊥) → (Is (tok.Word word.Shared) (head ts) → ⊥) → (n : Need) (us r : Tokens) → Begins us r (tok.Word (need_word n)) → head (us ++ r) ≡ head ts → need_word n ≡ word.Protected
-last_need ts e s need_of.Exclusive us r b h = absurd (begins_other us r ts b h e)
-last_need ts e s need_of.Shared us r b h = absurd (begins_other us r ts b h s)
+last_need : (ts : Tokens) → (Is (tok.Word word.Exclusive) (head ts) → ⊥) → (Is (tok.Word word.Shared) (head ts) → ⊥) → (n : Need) (us r : Tokens) → Opens us r (tok.Word (need_word n)) → head (us ++ r) ≡ head ts → need_word n ≡ word.Protected
+last_need ts e s need_of.Exclusive us r b h = absurd (opens_other us r ts b h e)
+last_need ts e s need_of.Shared us r b h = absurd (opens_other us r ts b h s)
 last_need ts e s need_of.Protected us r b h = refl
 
 -- the only need that is left
@@ -118,8 +119,12 @@ has_need =
 abbrev pub Opening : Follow
 Opening = Is (tok.Sign sign.OpenBrace)
 
+-- `{` is no comma
+pub needs_end : (o : Option Lexeme) → Opening o → Isnt (tok.Sign sign.Comma) o
+needs_end = of_other (tok.Sign sign.OpenBrace) (tok.Sign sign.Comma) (λ e. cc)
+
 pub comma_or_brace : (ts : Tokens) → Is (tok.Sign sign.Comma) (head ts) → Opening (head ts) → ⊥
-comma_or_brace ts is also = two_kinds (tok.Sign sign.Comma) (tok.Sign sign.OpenBrace) (head ts) (λ e. cc) is also
+comma_or_brace ts is also = not_both (tok.Sign sign.Comma) (tok.Sign sign.OpenBrace) (λ e. cc) (head ts) is also
 
 abbrev pub with_body : Lang (Unit {0} × List GroupNeed)
 with_body = Both (Mark (tok.Word word.With)) (separated need)
@@ -141,7 +146,7 @@ needs_cases : (ts : Tokens) → Is (tok.Word word.With) (head ts) → (y : List 
 needs_cases ts is [] us r d h f =
     let P : Tokens → Type 0 = λ l. head (l ++ r) ≡ head ts in
     let Q : Option Lexeme → Type 0 = Opening in
-    absurd (two_kinds (tok.Word word.With) (tok.Sign sign.OpenBrace) (head ts) (λ e. cc) is (subst Q (subst P d h) f))
+    absurd (not_both (tok.Word word.With) (tok.Sign sign.OpenBrace) (λ e. cc) (head ts) is (subst Q (subst P d h) f))
 needs_cases ts is (n ∷ ns) us r d h f = (n ∷ ns, refl, d, f)
 
 pub needs_when : (ts : Tokens) → Is (tok.Word word.With) (head ts) → When needs some_needs Free Free Opening Opening ts (λ q. q)
@@ -149,12 +154,12 @@ needs_when ts is = record { intro = needs_intro; cases = needs_cases ts is; to =
 
 without_cases : (ts : Tokens) → (Is (tok.Word word.With) (head ts) → ⊥) → (y : List GroupNeed) (us r : Tokens) → needs y us → head (us ++ r) ≡ head ts → Opening (head r) → (y ≡ []) × (us ≡ [])
 without_cases ts other [] us r d h f = (refl, d)
-without_cases ts other (n ∷ ns) us r d h f = absurd (begins_other us r ts (begins_mark us r d) h other)
+without_cases ts other (n ∷ ns) us r d h f = absurd (opens_other us r ts (opens_mark us r d) h other)
 
 pub needs_none : (ts : Tokens) (ns : List GroupNeed) → ns ≡ [] → (Is (tok.Word word.With) (head ts) → ⊥) → Took needs Free Opening ts ns ts
 needs_none ts ns e other =
     let P : List GroupNeed → Type 0 = λ l. Took needs Free Opening ts l ts in
-    subst P (sym e) (took_none needs Free Opening ts [] refl (λ l. tt) (without_cases ts other))
+    subst P (sym e) (took_nothing needs Free Opening ts [] refl (λ l. tt) (without_cases ts other))
 
 pub has_needs : Has needs Free
 has_needs = record { tree = []; tokens = []; is = refl; known = tt; within = λ l. tt }
@@ -166,13 +171,7 @@ KeepsBody l b = KeepsBlock l 63 b
 
 -- a body begins with a brace
 pub body_opens : Links body Always Opening
-body_opens y us r d f = begins_so us r (begins_mark us r d.3)
-
-few_none : (l : Limit) → IsFew l End
-few_none Statements = omega arith
-few_none Levels = tt
-few_none Depth = tt
-few_none Params = tt
+body_opens y us r d f = opens_so us r (opens_mark us r d.3)
 
 pub has_body : Has body KeepsBody
 has_body = record {
@@ -197,7 +196,7 @@ has_body = record {
     },
   );
   known = (tt, (tt, tt));
-  within = λ l. (few_none l, tt);
+  within = λ l. (none_few l, tt);
 }
 
 -- ---- methods
@@ -237,10 +236,6 @@ is_of : (k : Option ℕ) (q : MethodParts) → HasMe k q.1.1.1.1.1.0.me → IsOf
 is_of None q h = (refl, h)
 is_of (Some c) q h = (refl, h)
 
-of_class : (k : Option ℕ) (m : Definition) → IsOf k m → m.class ≡ k
-of_class None m i = i.0
-of_class (Some c) m i = i.0
-
 of_me : (k : Option ℕ) (m : Definition) → IsOf k m → HasMe k m.me
 of_me None m i = i.1
 of_me (Some c) m i = i.1
@@ -254,8 +249,7 @@ parts_of m = (tt, (m.result, (m.name, (m.groups, (tt, (record { me = m.me; param
 method_cases : (k : Option ℕ) (m : Definition) (us : Tokens) → method k m us → (q : MethodParts) × (m ≡ method_tree k q) × method_body k q us
 method_cases k m us d = (
   parts_of m,
-  ap (λ (c : Option ℕ). record { class = c; result = m.result; name = m.name; groups = m.groups; me = m.me; params = m.params; needs = m.needs; no = m.no; body = m.body }) (of_class k m d.0)
-      ∙ ap (λ (n : ℕ). record { class = k; result = m.result; name = m.name; groups = m.groups; me = m.me; params = m.params; needs = m.needs; no = n; body = m.body }) d.1,
+  method_is k m d.0 d.1,
   behind (behind (behind (behind (behind (in_front (λ us g. (of_me k m d.0, g))))))) us d.2,
 )
 
@@ -317,13 +311,8 @@ has_method k =
     let b : Has (method_body k) method_limit = has_both (has_mark (tok.Word word.Method) tt) (has_returned k) in
     record { tree = method_tree k b.tree; tokens = b.tokens; is = method_intro k b.tree b.tokens b.is; known = b.known; within = λ l. method_to k l b.tree (b.within l) }
 
-begins_method : (k : Option ℕ) (m : Definition) (us r : Tokens) → method k m us → Begins us r (tok.Word word.Method)
-begins_method k m us r d = begins_mark us r d.2
+begins_method : (k : Option ℕ) (m : Definition) (us r : Tokens) → method k m us → Opens us r (tok.Word word.Method)
+begins_method k m us r d = opens_mark us r d.2
 
 pub method_begins : (k : Option ℕ) (m : Definition) (us r : Tokens) → method k m us → Is (tok.Word word.Method) (head (us ++ r))
-method_begins k m us r d = begins_so us r (begins_mark us r d.2)
-
--- ---- lengths
-
-pub took_shorter : {A : Type 0} {D : Lang A} {W : Bound A} {F : Follow} {ts rest : Tokens} {x : A} → Took D W F ts x rest → length rest ≤ length ts
-took_shorter {rest = rest} t = omega (arith, ap length t.whole, length-append t.taken rest)
+method_begins k m us r d = opens_so us r (opens_mark us r d.2)

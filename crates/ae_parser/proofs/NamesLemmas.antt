@@ -15,7 +15,7 @@ use Rattle.ae_code.specs.Names.{spelled, spellings, first_names, names_of, numbe
 use Rattle.ae_code.specs.Grammar.{Tokens}
 use Rattle.ae_code.specs.Refused.{IsKnown, AreKnown}
 
-abbrev Words : Type 0
+abbrev pub Words : Type 0
 Words = List (List ℕ)
 
 -- ---- what is inserted comes last
@@ -33,7 +33,7 @@ insert_more (s ∷ xs) ks =
 
 -- ---- names that are there
 
-abbrev Has : Words → List ℕ → Type 0
+abbrev pub Has : Words → List ℕ → Type 0
 Has ks s = list_any (bytes_eq s) ks ≡ true
 
 has_more : (ks more : Words) (s : List ℕ) → Has ks s → Has (ks ++ more) s
@@ -72,7 +72,7 @@ number_more (x ∷ ks) more s h = step (bytes_eq s x) h (number_more ks more s)
 
 -- ---- the names of tokens
 
-abbrev IsIn : Words → TokenKind → Type 0
+abbrev pub IsIn : Words → TokenKind → Type 0
 IsIn names (k.Name s) = Has names s
 IsIn names (k.Int n) = Unit {0}
 IsIn names (k.Text s) = Unit {0}
@@ -80,7 +80,7 @@ IsIn names (k.Word w) = Unit {0}
 IsIn names (k.Sign g) = Unit {0}
 IsIn names k.End = Unit {0}
 
-abbrev AreIn : Words → List Token → Type 0
+abbrev pub AreIn : Words → List Token → Type 0
 AreIn names [] = Unit {0}
 AreIn names (t ∷ ts) = IsIn names t.kind × AreIn names ts
 
@@ -99,7 +99,7 @@ token_in (k.Word w) ks ts again = (tt, again ks)
 token_in (k.Sign g) ks ts again = (tt, again ks)
 token_in k.End ks ts again = (tt, again ks)
 
-tokens_in : (ts : List Token) (ks : Words) → AreIn (insert_all bytes_eq ks (spellings ts)) ts
+pub tokens_in : (ts : List Token) (ks : Words) → AreIn (insert_all bytes_eq ks (spellings ts)) ts
 tokens_in [] ks = tt
 tokens_in (t ∷ ts) ks = token_in t.kind ks ts (tokens_in ts)
 

@@ -1,5 +1,6 @@
 -- What a method is given: how each production is read.
-use Rattle.std.proofs.Common.{◌≡◌, ◌≢◌, inl, inr, ℕ, ◌<◌, ◌≤◌, ◌++◌, List, [], ◌∷◌, length, Option, Some, None, refl, sym, ap, ◌∙◌, append_assoc, append-nil, subst, arith, length-append}
+use Rattle.std.proofs.Common.{◌≡◌, inl, inr, ℕ, ◌<◌, ◌≤◌, ◌++◌, List, [], ◌∷◌, length, Option, Some, None, refl, sym, ap, ◌∙◌, append_assoc, append-nil, subst, arith, length-append}
+use Rattle.ae_code.specs.Limits.{rank}
 use Rattle.ae_text.specs.declared.refusal.Spot.{Spot}
 use Rattle.ae_text.specs.declared.token.Keyword.TheVariants as word
 use Rattle.ae_text.specs.declared.token.Sign.TheVariants as sign
@@ -17,66 +18,53 @@ use Rattle.ae_code.specs.declared.tree.Ty.TheVariants as ty
 use Rattle.ae_code.specs.declared.tree.Me.{Me}
 use Rattle.ae_code.specs.declared.tree.Param.{Param}
 use Rattle.ae_code.specs.Grammar.{Tokens, one_at, each, further, listed, name, permission, type_, away, param, me, parameters}
-use Rattle.ae_code.specs.Refused.{AreKnown}
+use Rattle.ae_code.specs.Refused.{AreKnown, IsTypeWord}
 use Rattle.ae_reading.specs.declared.fail.Fail.{Fail}
 use Rattle.ae_reading.specs.declared.fail.Fail.TheVariants.{Refused, Memory}
 use Rattle.ae_reading.specs.declared.fail.Why.{Why}
 use Rattle.ae_reading.specs.declared.fail.Why.TheVariants.{Unexpected, Over}
 use Rattle.ae_reading.specs.Reads.{head, Always, Is, Isnt, Free, IsWithin, IsNearly, Counts, Beyond, Larger, Took, Stopped, Failed, Token, Mark}
-use Rattle.ae_reading.proofs.ReadsLemmas.{Lang, Bound, Follow, Links, Both, Pair, Has, Along, Run, NoneAt, NoEnd-append, none_back, stands_here, took_as, failed_as, has_token, has_both, has_name, io_name, nowhere, at_once, each-append, each-one, run_start, run_more, run_end}
-use Rattle.ae_reading.proofs.Parts.{Commas, Parted, commas_turn, commas_go_on, no_comma, took_further}
-use Rattle.ae_reading.proofs.Begins.{begins_both, begins_not, run_failed}
-use Rattle.ae_types.proofs.FirstLemmas.{Begins, begins_one, begins_at, begins_mark, begins_first, begins_other, begins_isnt, is_isnt}
-use Rattle.ae_types.proofs.PartLemmas.{When, took_none}
+use Rattle.ae_reading.proofs.ReadsLemmas.{AreKnown-append, Lang, Bound, Follow, Links, Both, Pair, Has, Along, NoneAt, NoEnd-append, took_as, failed_as, has_token, has_both, has_name, io_name, nowhere, at_once, When, took_nothing}
+use Rattle.ae_reading.proofs.Parts.{Commas, Parted, commas_go_on, no_comma, took_further, commas_link}
+use Rattle.ae_reading.proofs.Begins.{not_both, of_other, opens_so, begins_both, begins_not, Opens, opens_one, opens_at, opens_mark, opens_first, opens_other, opens_isnt, is_isnt}
+use Rattle.ae_reading.proofs.Runs.{each_chain, chain_each, has_none, Run, each-append, each-one, run_start, run_more, run_end, run_failed}
 use Rattle.ae_types.proofs.TypeLemmas.{NoLess, perm_word, begins_permission, has_type, has_permission}
 use Rattle.ae_parser.specs.declared.params.Given.{Given}
 use Rattle.ae_parser.specs.Productions.{BeginsType, NoType, given_away, AtMost, ParamNext, HasMe, given, FewGiven}
 
 -- ---- the next token
 
-pub begins_so : {k : Lexical} (us r : Tokens) → Begins us r k → Is k (head (us ++ r))
-begins_so {k} us r b = let P : Option Lexeme → Type 0 = Is k in subst P (sym b.front) b.kind
-
--- a token is of one kind
-pub two_kinds : (k j : Lexical) (o : Option Lexeme) → (k ≡ j → ⊥) → Is k o → Is j o → ⊥
-two_kinds k j None other is also = is
-two_kinds k j (Some t) other is also = other (sym is ∙ also)
-
-pub is_other : (k j : Lexical) (o : Option Lexeme) → (k ≡ j → ⊥) → Is k o → Isnt j o
-is_other k j None other is = tt
-is_other k j (Some t) other is = λ also. other (sym is ∙ also)
-
 -- a name is no `<`
 pub named_ends : {B : Type 0} (E : Lang B) (G : Follow) → Links (Both name E) G NoLess
-named_ends E G y us r d f = begins_isnt us r (begins_at us r d) (λ e. cc)
+named_ends E G y us r d f = opens_isnt us r (opens_at us r d) (λ e. cc)
 
 pub mark_ends : {B : Type 0} (k j : Lexical) (E : Lang B) (G : Follow) → (k ≡ j → ⊥) → Links (Both (Mark k) E) G (Isnt j)
-mark_ends k j E G other y us r d f = begins_isnt us r (begins_mark us r d) other
+mark_ends k j E G other y us r d f = opens_isnt us r (opens_mark us r d) other
 
 pub mark_is : {B : Type 0} (k : Lexical) (E : Lang B) (G : Follow) → Links (Both (Mark k) E) G (Is k)
-mark_is k E G y us r d f = begins_so us r (begins_mark us r d)
+mark_is k E G y us r d f = opens_so us r (opens_mark us r d)
 
 -- ---- types
 
 pub begins_type : (y : Ty) (us r : Tokens) → type_ y us → BeginsType (head (us ++ r))
-begins_type (ty.Int at) us r d = inl (begins_so us r (begins_one us r d))
-begins_type (ty.Bool at) us r d = inr (inl (begins_so us r (begins_one us r d)))
-begins_type (ty.Object p k) us r d = object p (begins_first us r d (begins_permission p d.front (d.back ++ r) d.first))
+begins_type (ty.Int at) us r d = inl (opens_so us r (opens_one us r d))
+begins_type (ty.Bool at) us r d = inr (inl (opens_so us r (opens_one us r d)))
+begins_type (ty.Object p k) us r d = object p (opens_first us r d (begins_permission p d.front (d.back ++ r) d.first))
   where
-    object : (p : PermAt) → Begins us r (tok.Word (perm_word p)) → BeginsType (head (us ++ r))
-    object (perm_at.Unique at) b = inr (inr (inl (begins_so us r b)))
-    object (perm_at.Immutable at) b = inr (inr (inr (inl (begins_so us r b))))
-    object (perm_at.Lent at) b = inr (inr (inr (inr (inl (begins_so us r b)))))
-    object (perm_at.Shared at g) b = inr (inr (inr (inr (inr (begins_so us r b)))))
+    object : (p : PermAt) → Opens us r (tok.Word (perm_word p)) → BeginsType (head (us ++ r))
+    object (perm_at.Unique at) b = inr (inr (inl (opens_so us r b)))
+    object (perm_at.Immutable at) b = inr (inr (inr (inl (opens_so us r b))))
+    object (perm_at.Lent at) b = inr (inr (inr (inr (inl (opens_so us r b)))))
+    object (perm_at.Shared at g) b = inr (inr (inr (inr (inr (opens_so us r b)))))
 
 -- a token that is none of the words with which a type begins
 pub no_type : (k : Lexical) (o : Option Lexeme) → (k ≡ tok.Word word.Int → ⊥) → (k ≡ tok.Word word.Bool → ⊥) → (k ≡ tok.Word word.Unique → ⊥) → (k ≡ tok.Word word.Immutable → ⊥) → (k ≡ tok.Word word.Lent → ⊥) → (k ≡ tok.Word word.Shared → ⊥) → Is k o → NoType o
-no_type k o i b u m n s is (inl e) = two_kinds k (tok.Word word.Int) o i is e
-no_type k o i b u m n s is (inr (inl e)) = two_kinds k (tok.Word word.Bool) o b is e
-no_type k o i b u m n s is (inr (inr (inl e))) = two_kinds k (tok.Word word.Unique) o u is e
-no_type k o i b u m n s is (inr (inr (inr (inl e)))) = two_kinds k (tok.Word word.Immutable) o m is e
-no_type k o i b u m n s is (inr (inr (inr (inr (inl e))))) = two_kinds k (tok.Word word.Lent) o n is e
-no_type k o i b u m n s is (inr (inr (inr (inr (inr e))))) = two_kinds k (tok.Word word.Shared) o s is e
+no_type k o i b u m n s is (inl e) = not_both k (tok.Word word.Int) i o is e
+no_type k o i b u m n s is (inr (inl e)) = not_both k (tok.Word word.Bool) b o is e
+no_type k o i b u m n s is (inr (inr (inl e))) = not_both k (tok.Word word.Unique) u o is e
+no_type k o i b u m n s is (inr (inr (inr (inl e)))) = not_both k (tok.Word word.Immutable) m o is e
+no_type k o i b u m n s is (inr (inr (inr (inr (inl e))))) = not_both k (tok.Word word.Lent) n o is e
+no_type k o i b u m n s is (inr (inr (inr (inr (inr e))))) = not_both k (tok.Word word.Shared) s o is e
 
 -- ---- `>> none`
 
@@ -110,10 +98,10 @@ away_when ts is = record { intro = away_intro; cases = away_cases ts is; to = λ
 
 none_cases : (ts : Tokens) → (Is (tok.Sign sign.Away) (head ts) → ⊥) → (y : Option Spot) (us r : Tokens) → away y us → head (us ++ r) ≡ head ts → NoAway (head r) → (y ≡ None) × (us ≡ [])
 none_cases ts other None us r d h f = (refl, d)
-none_cases ts other (Some at) us r d h f = absurd (begins_other us r ts (begins_at us r d) h other)
+none_cases ts other (Some at) us r d h f = absurd (opens_other us r ts (opens_at us r d) h other)
 
 pub away_none : (ts : Tokens) → (Is (tok.Sign sign.Away) (head ts) → ⊥) → Took away Free NoAway ts None ts
-away_none ts other = took_none away Free NoAway ts None refl (λ l. tt) (none_cases ts other)
+away_none ts other = took_nothing away Free NoAway ts None refl (λ l. tt) (none_cases ts other)
 
 pub has_away : Has away Free
 has_away = record { tree = None; tokens = []; is = refl; known = tt; within = λ l. tt }
@@ -148,7 +136,7 @@ pub has_param : Has param Free
 has_param = let b : Has param_body param_limit = has_both has_type has_named in record { tree = param_tree b.tree; tokens = b.tokens; is = b.is; known = b.known; within = λ l. tt }
 
 pub begins_param : (y : Param) (us r : Tokens) → param y us → BeginsType (head (us ++ r))
-begins_param y us r d = begins_both type_ (Both name away) BeginsType begins_type (y.ty, (y.name, y.away)) us r d
+begins_param y us r d = begins_both type_ (λ t. Both name away) BeginsType begins_type (y.ty, (y.name, y.away)) us r d
 
 abbrev pub Me3 : Type 0
 Me3 = PermAt × (Spot × Option Spot)
@@ -188,8 +176,8 @@ comma_away t k e = let no : tok.Sign sign.Comma ≡ tok.Sign sign.Away = sym k �
 pub params_commas : Commas NoAway Closing
 params_commas = record {
   comma = comma_away;
-  ends = λ o c. is_other (tok.Sign sign.CloseParen) (tok.Sign sign.Away) o (λ e. cc) c;
-  stops = λ o c. is_other (tok.Sign sign.CloseParen) (tok.Sign sign.Comma) o (λ e. cc) c;
+  ends = λ o c. of_other (tok.Sign sign.CloseParen) (tok.Sign sign.Away) (λ e. cc) o c;
+  stops = λ o c. of_other (tok.Sign sign.CloseParen) (tok.Sign sign.Comma) (λ e. cc) o c;
 }
 
 pub at_most : (n : ℕ) (ps : List Param) → length ps ≤ n → IsWithin (AtMost n) ps
@@ -223,11 +211,11 @@ pub params_more : (ts rest behind rest' : Tokens) (ps qs : List Param) (p : Para
 params_more ts rest behind rest' ps qs p comma few e t c u =
     let P : List Param → Type 0 = λ l. ReadParams ts l rest' in
     let fits : length (ps ++ p ∷ []) ≤ 15 = omega (arith, few, length-append ps (p ∷ [])) in
-    subst P (sym e) (run_more (commas_turn param params_commas) (commas_go_on rest params_commas comma) (at_most 15 (ps ++ p ∷ []) fits) t (took_further c u))
+    subst P (sym e) (run_more (commas_link param params_commas) (commas_go_on rest params_commas comma) (at_most 15 (ps ++ p ∷ []) fits) t (took_further c u))
 
 pub params_failed : (ts rest : Tokens) (ps : List Param) (e : Fail) → Is (tok.Sign sign.Comma) (head rest) → length ps < 15 → ReadParams ts ps rest → Failed (further param) Free NoAway rest e → Failed (each (further param)) (AtMost 15) Closing ts e
 params_failed ts rest ps e comma few t f =
-    run_failed (commas_turn param params_commas) (commas_go_on rest params_commas comma)
+    run_failed (commas_link param params_commas) (commas_go_on rest params_commas comma)
     (λ l z (w : Unit {0}). at_most 15 (ps ++ z ∷ []) (omega (arith, few, length-append ps (z ∷ []))) l) (λ l z zs w. tt) t f
 
 pub params_end : (ts rest : Tokens) (ps : List Param) → (Is (tok.Sign sign.Comma) (head rest) → ⊥) → ReadParams ts ps rest → Took (each (further param)) (AtMost 15) Closing ts ps rest
@@ -297,10 +285,6 @@ type_with t (inr (inr (inr (inr (inr e))))) = (
   (tt, (refl, (tt, (tt, tt)))),
 )
 
-known-append : (a b : Tokens) → AreKnown a → AreKnown b → AreKnown (a ++ b)
-known-append [] b m n = n
-known-append (t ∷ a) b m n = (m.0, known-append a b m.1 n)
-
 -- a parameter goes on with the next token
 param_with : (t : Lexeme) → BeginsType (Some t) → (p : Param) × (more : Tokens) × param p (t ∷ more) × AreKnown more
 param_with t b =
@@ -308,12 +292,23 @@ param_with t b =
       param_tree (y.0, (io_name, None)),
       y.1 ++ at_once (tok.Name 0),
       record { front = t ∷ y.1; back = at_once (tok.Name 0); parts = refl; first = y.2; second = record { front = at_once (tok.Name 0); back = []; parts = refl; first = refl; second = refl } },
-      known-append y.1 (at_once (tok.Name 0)) y.3 (refl, tt),
+      AreKnown-append y.1 (at_once (tok.Name 0)) y.3 (refl, tt),
     )
 
--- a word of a type is no comma
-type_comma : (t : Lexeme) → BeginsType (Some t) → t.kind ≢ tok.Sign sign.Comma
-type_comma t b e = no_type (tok.Sign sign.Comma) (Some t) (λ e. cc) (λ e. cc) (λ e. cc) (λ e. cc) (λ e. cc) (λ e. cc) e b
+type_word : (t : Lexeme) → BeginsType (Some t) → IsTypeWord t.kind
+type_word t (inl e) = let P : Lexical → Type 0 = IsTypeWord in subst P (sym e) tt
+type_word t (inr (inl e)) = let P : Lexical → Type 0 = IsTypeWord in subst P (sym e) tt
+type_word t (inr (inr (inl e))) = let P : Lexical → Type 0 = IsTypeWord in subst P (sym e) tt
+type_word t (inr (inr (inr (inl e)))) = let P : Lexical → Type 0 = IsTypeWord in subst P (sym e) tt
+type_word t (inr (inr (inr (inr (inl e))))) = let P : Lexical → Type 0 = IsTypeWord in subst P (sym e) tt
+type_word t (inr (inr (inr (inr (inr e))))) = let P : Lexical → Type 0 = IsTypeWord in subst P (sym e) tt
+
+-- the limits named before that of parameters say nothing of them
+before_params : (n : ℕ) (ps : List Param) (m : Limit) → rank m < 2 → AtMost n m ps
+before_params n ps Statements k = tt
+before_params n ps Levels k = tt
+before_params n ps Depth k = tt
+before_params n ps Params k = absurd (omega (arith, k))
 
 abbrev comma_at : Spot → Lexeme
 comma_at at = record { kind = tok.Sign sign.Comma; at = at }
@@ -327,7 +322,7 @@ one_more ps taken us at p m d =
     let P : Tokens → Type 0 = each (further param) (ps ++ p ∷ []) in
     subst P (sym (append_assoc taken (comma_at at ∷ []) us)) (each-append (further param) ps (p ∷ []) taken (comma_at at ∷ us) m (each-one (further param) p (comma_at at ∷ us) (further_at at p us d)))
 
-beyond_full : (why : Why) (behind : Tokens) (ps : List Param) (taken : Tokens) (at : Spot) → each (further param) ps taken → ParamNext behind why → Beyond (each (further param)) (taken ++ comma_at at ∷ []) behind why
+beyond_full : (why : Why) (behind : Tokens) (ps : List Param) (taken : Tokens) (at : Spot) → each (further param) ps taken → ParamNext behind why → Beyond (each (further param)) (AtMost 15) (taken ++ comma_at at ∷ []) behind why
 beyond_full Unexpected behind ps taken at m n = tt
 beyond_full (Over l) [] ps taken at m n = absurd (no_next n.1)
   where
@@ -340,8 +335,8 @@ beyond_full (Over l) [] ps taken at m n = absurd (no_next n.1)
     no_next (inr (inr (inr (inr (inr e))))) = e
 beyond_full (Over l) (t ∷ behind) ps taken at m n =
     let p = param_with t n.1 in
-    let P : Limit → Type 0 = λ l. Larger l (each (further param)) (taken ++ comma_at at ∷ []) (t ∷ behind) in
-    let larger : Larger Params (each (further param)) (taken ++ comma_at at ∷ []) (t ∷ behind) = record {
+    let P : Limit → Type 0 = λ l. Larger l (each (further param)) (AtMost 15) (taken ++ comma_at at ∷ []) (t ∷ behind) in
+    let larger : Larger Params (each (further param)) (AtMost 15) (taken ++ comma_at at ∷ []) (t ∷ behind) = record {
       next = t;
       later = behind;
       rest_is = refl;
@@ -349,7 +344,8 @@ beyond_full (Over l) (t ∷ behind) ps taken at m n =
       after = p.1;
       goes_on = one_more ps taken (t ∷ p.1) at p.0 m p.2;
       known = p.3;
-      passes = type_comma t n.1;
+      passes = type_word t n.1;
+      others = λ m k. before_params 15 (ps ++ p.0 ∷ []) m k;
     } in
     subst P (sym n.0) larger
 
@@ -378,16 +374,15 @@ pub params_full : (why : Why) (ts rest behind : Tokens) (ps : List Param) (at : 
     Stopped (each (further param)) (AtMost 15) Closing ts why (length behind)
 params_full why ts rest behind ps at full n c t =
     let rest_is : rest ≡ comma_at at ∷ behind = c.whole ∙ ap (λ l. l ++ behind) c.derives in
+    let items : each (further param) ps t.taken = chain_each (further param) tt ps t.taken t.derives in
     record {
       before = t.taken ++ comma_at at ∷ [];
       rest = behind;
       whole = t.whole ∙ ap (λ l. t.taken ++ l) rest_is ∙ sym (append_assoc t.taken (comma_at at ∷ []) behind);
-      back = 0;
-      left_is = none_back (length behind);
-      placed = stands_here why (t.taken ++ comma_at at ∷ []);
+      left_is = refl;
       tree = ps ++ has_param.tree ∷ [];
       more = has_param.tokens;
-      goes = one_more ps t.taken has_param.tokens at has_param.tree t.derives has_param.is;
+      goes = one_more ps t.taken has_param.tokens at has_param.tree items has_param.is;
       known = has_param.known;
       within = nearly_most 15 (ps ++ has_param.tree ∷ []);
       lead = record {
@@ -397,16 +392,16 @@ params_full why ts rest behind ps at full n c t =
         leads = inl (refl, refl);
         tree = ps;
         more = [];
-        goes = let P : Tokens → Type 0 = λ l. each (further param) ps l in subst P (sym (append-nil t.taken)) t.derives;
+        goes = let P : Tokens → Type 0 = λ l. each (further param) ps l in subst P (sym (append-nil t.taken)) items;
         known = tt;
         within = t.within;
       };
       no_end = NoEnd-append t.taken (comma_at at ∷ []) t.no_end ((λ q. cc), tt);
       stuck = λ ys us r other m e h f w.
-          let p = t.only ys us r (comma_at at ∷ other) m (e ∙ append_assoc t.taken (comma_at at ∷ []) other) (sym (ap head rest_is)) f in
+          let p = t.only ys us r (comma_at at ∷ other) (each_chain (further param) tt ys us m) (e ∙ append_assoc t.taken (comma_at at ∷ []) other) (sym (ap head rest_is)) f in
           let P : List Param → Type 0 = λ l. Counts why (λ (x : Limit). AtMost 15 x l) in
-          full_case why behind other r p.1 ps p.0 at full n p.3 p.4 h f (subst P p.2 w);
-      beyond = beyond_full why behind ps t.taken at t.derives n;
+          full_case why behind other r p.1 ps p.0 at full n (chain_each (further param) tt p.0 p.1 p.3) p.4 h f (subst P p.2 w);
+      beyond = beyond_full why behind ps t.taken at items n;
     }
 
 -- ---- all parameters
@@ -475,7 +470,7 @@ led_failed c class ts e is f =
     subst P (sym is) (failed_as (given (Some c)) led_body led_tree (led_along c ts) f)
 
 pub has_furthers : Has (each (further param)) (AtMost 15)
-has_furthers = record { tree = []; tokens = []; is = refl; known = tt; within = at_most 15 [] (omega arith) }
+has_furthers = has_none (further param) (AtMost 15) (at_most 15 [] (omega arith))
 
 abbrev pub unled_tree : List Param → Given
 unled_tree ps = record { me = None; params = ps }

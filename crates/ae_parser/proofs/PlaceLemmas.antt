@@ -12,15 +12,17 @@ use Rattle.ae_code.specs.declared.limits.Limit.TheVariants.{Statements, Levels, 
 use Rattle.ae_code.specs.Plain.{Definition, Code}
 use Rattle.ae_code.specs.Names.{names_of, numbered}
 use Rattle.ae_code.specs.Grammar.{Tokens, Declaration, methods_of}
-use Rattle.ae_code.specs.Limits.{KeepsMethod, KeepsTo, IsNearly, Within}
+use Rattle.ae_code.specs.Limits.{KeepsMethod, KeepsTo, IsNearly, Within, KeepsBefore}
 use Rattle.std.specs.Prelude.{All}
 use Rattle.ae_code.specs.Refused.{Goes, GoesUpTo, Any, IsHead, CanPassAt, IsUnexpected, Passes, IsPlaced, IsOver, BreaksAt, IsRefused, AreKnown}
 use Rattle.ae_reading.specs.declared.fail.Why.{Why}
 use Rattle.ae_reading.specs.declared.fail.Why.TheVariants.{Unexpected, Over}
-use Rattle.ae_reading.specs.Reads.{head, Always, NoEnd, Counts, Stands, Larger, Stopped}
-use Rattle.ae_parser.specs.Reading.{whole_program, KeepsAll, KeepsAllWhole, rule_of}
+use Rattle.ae_reading.specs.Reads.{head, Always, NoEnd, Counts, Larger, Stopped}
+use Rattle.ae_reading.proofs.Programs.{code_of}
+use Rattle.ae_parser.specs.Reading.{whole_program, KeepsAll, KeepsAllWhole, Stands, Refuses, rule_of}
 use Rattle.ae_parser.proofs.NamesLemmas.{lexemes_of, tokens_of, take-lexemes, lexemes-append}
-use Rattle.ae_parser.proofs.ProgramLemmas.{code_of, lexemes_derive, tokens_derive, last_lexeme, as_long}
+use Rattle.ae_parser.proofs.SideLemmas.{back_within}
+use Rattle.ae_parser.proofs.ProgramLemmas.{lexemes_derive, tokens_derive, last_lexeme, as_long}
 
 -- ---- where it stands
 
@@ -31,7 +33,7 @@ some_left (x ∷ front) [] rest l e is n = (x, front ++ l ∷ [], sym e)
 some_left [] (y ∷ before) rest l e is n = let s : y ≡ l = cc in absurd (n.0 (ap (λ (x : Lexeme). x.kind) s ∙ is))
 some_left (x ∷ front) (y ∷ before) rest l e is n = let f : front ++ l ∷ [] ≡ before ++ rest = cc in some_left front before rest l f is n.1
 
--- the refusal of a source
+-- where the parser stops
 abbrev pub Ends : List Token → Why → ℕ → Type 0
 Ends ts why left = Stopped whole_program KeepsAllWhole Always (lexemes_of ts) why left
 
@@ -43,19 +45,32 @@ back_fits : (why : Why) (before : Tokens) (back : ℕ) → Stands why before bac
 back_fits Unexpected before back p = omega (arith, p)
 back_fits (Over Statements) before back p = omega (arith, p)
 back_fits (Over Levels) before back p = omega (arith, p)
-back_fits (Over Depth) before back (inl p) = omega (arith, p)
-back_fits (Over Depth) before back (inr e) =
-    omega (arith, e.back_is, ap length e.whole, length-append e.front (e.early ++ e.mark ∷ e.late), length-append e.early (e.mark ∷ e.late))
+back_fits (Over Depth) before back p = back_within before back p
 back_fits (Over Params) before back p = omega (arith, p)
 
 lengths : (ts : List Token) (why : Why) (left : ℕ) (s : Ends ts why left) → length ts ≡ length s.before + length s.rest
 lengths ts why left s = sym (as_long ts) ∙ ap length s.whole ∙ length-append s.before s.rest
 
-left_some : (ts : List Token) (why : Why) (left : ℕ) → Ends ts why left → IsWhole ts → 0 < left
-left_some ts why left s w = omega (arith, s.left_is, ap length (next_of ts why left s w).2)
+-- where the refused token stands
+abbrev pub Refused : List Token → Why → ℕ → Type 0
+Refused ts why left = Refuses (lexemes_of ts) why left
 
-left_within : (ts : List Token) (why : Why) (left : ℕ) → Ends ts why left → left ≤ length ts
-left_within ts why left s = omega (arith, s.left_is, lengths ts why left s, back_fits why s.before s.back s.placed)
+left_within : (ts : List Token) (why : Why) (left : ℕ) → Refused ts why left → left ≤ length ts
+left_within ts why left r =
+    let s = r.stopped in
+    omega (arith, r.left_is, s.left_is, lengths ts why r.stop s, back_fits why s.before r.back r.placed)
+
+-- the tokens before the one at which the parser stops
+stopped_before : (why : Why) (ts : Tokens) (left : ℕ) (s : Stopped whole_program KeepsAllWhole Always ts why left) → s.before ≡ take (length ts - left) ts
+stopped_before why ts left s =
+    let k : length s.before ≡ length ts - left = omega (arith, s.left_is, ap length s.whole, length-append s.before s.rest) in
+    sym (ap (take (length ts - left)) s.whole ∙ take_at s.before s.rest (length ts - left) k)
+
+-- from the refused token on, those between are left too
+pub refuses : (why : Why) (ts : Tokens) (left back : ℕ) → Stopped whole_program KeepsAllWhole Always ts why left → Stands why (take (length ts - left) ts) back → Refuses ts why (left + back)
+refuses why ts left back s p =
+    let P : Tokens → Type 0 = λ before. Stands why before back in
+    record { stop = left; stopped = s; back = back; left_is = refl; placed = subst P (sym (stopped_before why ts left s)) p }
 
 -- ---- what goes on
 
@@ -125,18 +140,18 @@ goes_before ts why left s =
       nearly = goes_nearly ts why left s;
     }
 
--- some program goes on with the next token
-goes_beyond : (ts : List Token) (why : Why) (left : ℕ) (s : Ends ts why left) (l : Limit) → Larger l whole_program s.before s.rest → Goes Any ts (length s.before + 1)
+-- a program that keeps to the limits named before this one goes on with the next token
+goes_beyond : (ts : List Token) (why : Why) (left : ℕ) (s : Ends ts why left) (l : Limit) → Larger l whole_program KeepsAllWhole s.before s.rest → Goes (KeepsBefore l) ts (length s.before + 1)
 goes_beyond ts why left s l b =
     let n : ℕ = length s.before + 1 in
     let long : length (s.before ++ b.next ∷ []) ≡ n = length-append s.before (b.next ∷ []) in
     let e : lexemes_of ts ≡ (s.before ++ b.next ∷ []) ++ b.later = s.whole ∙ ap (λ r. s.before ++ r) b.rest_is ∙ sym (append_assoc s.before (b.next ∷ []) b.later) in
     let P : Tokens → Type 0 = whole_program b.tree in
-    goes_on Any ts n (s.before ++ b.next ∷ []) b.after b.tree.0 (omega (arith, lengths ts why left s, ap length b.rest_is)) (ap (take n) e ∙ take_at (s.before ++ b.next ∷ []) b.later n long)
-    (subst P (sym (append_assoc s.before (b.next ∷ []) b.after)) b.goes_on) b.known (λ names. tt)
+    goes_on (KeepsBefore l) ts n (s.before ++ b.next ∷ []) b.after b.tree.0 (omega (arith, lengths ts why left s, ap length b.rest_is)) (ap (take n) e ∙ take_at (s.before ++ b.next ∷ []) b.later n long)
+    (subst P (sym (append_assoc s.before (b.next ∷ []) b.after)) b.goes_on) b.known (λ names m k. b.others m k)
 
 -- the limit can refuse the next token
-can_pass : (ts : List Token) (why : Why) (left : ℕ) (s : Ends ts why left) (l : Limit) → Larger l whole_program s.before s.rest → CanPassAt l (lexemes_of ts) (length s.before)
+can_pass : (ts : List Token) (why : Why) (left : ℕ) (s : Ends ts why left) (l : Limit) → Larger l whole_program KeepsAllWhole s.before s.rest → CanPassAt l (lexemes_of ts) (length s.before)
 can_pass ts why left s l b =
     let e : lexemes_of ts ≡ s.before ++ b.next ∷ b.later = s.whole ∙ ap (λ r. s.before ++ r) b.rest_is in
     let long : length (lexemes_of ts) ≡ length s.before + length s.rest = as_long ts ∙ lengths ts why left s in
@@ -145,36 +160,42 @@ can_pass ts why left s l b =
 
 -- ---- which rule is broken
 
-unexpected : (ts : List Token) (left k : ℕ) (s : Ends ts Unexpected left) → IsWhole ts → k + s.back ≡ length s.before → IsUnexpected ts k
-unexpected ts left k s w e =
-    let here : k ≡ length s.before = omega (arith, e, s.placed) in
+unexpected : (ts : List Token) (left k : ℕ) (r : Refused ts Unexpected left) → IsWhole ts → k + r.back ≡ length r.stopped.before → IsUnexpected ts k
+unexpected ts left k r w e =
+    let s = r.stopped in
+    let here : k ≡ length s.before = omega (arith, e, r.placed) in
     let P : ℕ → Type 0 = IsUnexpected ts in
-    subst P (sym here) (goes_before ts Unexpected left s, none_goes Any ts Unexpected left s w (λ p list m kept. tt))
+    subst P (sym here) (goes_before ts Unexpected r.stop s, none_goes Any ts Unexpected r.stop s w (λ p list m kept. tt))
 
-over : (l : Limit) (ts : List Token) (left k : ℕ) (s : Ends ts (Over l) left) → IsWhole ts → k + s.back ≡ length s.before → IsOver l ts k
-over l ts left k s w e =
+over : (l : Limit) (ts : List Token) (left k : ℕ) (r : Refused ts (Over l) left) → IsWhole ts → k + r.back ≡ length r.stopped.before → IsOver l ts k
+over l ts left k r w e =
+    let s = r.stopped in
     let keeps : (p : Code) (list : List Declaration) → p.methods ≡ methods_of list → KeepsTo l p → KeepsAll l list = λ p list m kept. let A : List Definition → Type 0 = All (KeepsMethod l) in subst A m kept in
-    let none = none_goes (KeepsTo l) ts (Over l) left s w keeps in
-    let passes : Passes l ts (length s.before) = (goes_before ts (Over l) left s, can_pass ts (Over l) left s l s.beyond, goes_beyond ts (Over l) left s l s.beyond, none) in
-    let Q : Tokens → Type 0 = λ b. IsPlaced l b s.back in
-    let P : ℕ → Type 0 = λ n. Passes l ts n × IsPlaced l (take n (lexemes_of ts)) s.back in
-    let there : P (k + s.back) = subst P (sym e) (passes, subst Q (sym (before_is ts (Over l) left s)) s.placed) in
-    (s.back, there.0, there.1)
+    let none = none_goes (KeepsTo l) ts (Over l) r.stop s w keeps in
+    let passes : Passes l ts (length s.before) = (goes_before ts (Over l) r.stop s, can_pass ts (Over l) r.stop s l s.beyond, goes_beyond ts (Over l) r.stop s l s.beyond, none) in
+    let Q : Tokens → Type 0 = λ b. IsPlaced l b r.back in
+    let P : ℕ → Type 0 = λ n. Passes l ts n × IsPlaced l (take n (lexemes_of ts)) r.back in
+    let there : P (k + r.back) = subst P (sym e) (passes, subst Q (sym (before_is ts (Over l) r.stop s)) r.placed) in
+    (r.back, there.0, there.1)
 
-breaks : (why : Why) (ts : List Token) (left k : ℕ) (s : Ends ts why left) → IsWhole ts → k + s.back ≡ length s.before → BreaksAt (rule_of why) ts k
-breaks Unexpected ts left k s w e = unexpected ts left k s w e
-breaks (Over Statements) ts left k s w e = over Statements ts left k s w e
-breaks (Over Levels) ts left k s w e = inr (over Levels ts left k s w e)
-breaks (Over Depth) ts left k s w e = inl (over Depth ts left k s w e)
-breaks (Over Params) ts left k s w e = over Params ts left k s w e
+breaks : (why : Why) (ts : List Token) (left k : ℕ) (r : Refused ts why left) → IsWhole ts → k + r.back ≡ length r.stopped.before → BreaksAt (rule_of why) ts k
+breaks Unexpected ts left k r w e = unexpected ts left k r w e
+breaks (Over Statements) ts left k r w e = over Statements ts left k r w e
+breaks (Over Levels) ts left k r w e = inr (over Levels ts left k r w e)
+breaks (Over Depth) ts left k r w e = inl (over Depth ts left k r w e)
+breaks (Over Params) ts left k r w e = over Params ts left k r w e
 
-pub left_index : (why : Why) (ts : List Token) (left : ℕ) → Ends ts why left → IsWhole ts → length ts - left < length ts
-left_index why ts left s w = omega (arith, left_some ts why left s w, left_within ts why left s)
+left_some : (ts : List Token) (why : Why) (left : ℕ) → Refused ts why left → IsWhole ts → 0 < left
+left_some ts why left r w = omega (arith, r.left_is, r.stopped.left_is, ap length (next_of ts why r.stop r.stopped w).2)
+
+pub left_index : (why : Why) (ts : List Token) (left : ℕ) → Refused ts why left → IsWhole ts → length ts - left < length ts
+left_index why ts left r w = omega (arith, left_some ts why left r w, left_within ts why left r)
 
 -- the token from which on this many are left is refused
-pub refused_at : (why : Why) (ts : List Token) (left : ℕ) (t : Token) (r : Rule) → Ends ts why left → IsWhole ts → t ≡ get_or ts (length ts - left) t → r ≡ rule_of why → IsRefused ts r t.at
-refused_at why ts left t r s w is rule =
+pub refused_at : (why : Why) (ts : List Token) (left : ℕ) (t : Token) (rule : Rule) → Refused ts why left → IsWhole ts → t ≡ get_or ts (length ts - left) t → rule ≡ rule_of why → IsRefused ts rule t.at
+refused_at why ts left t rule r w is same =
+    let s = r.stopped in
     let k : ℕ = length ts - left in
-    let e : k + s.back ≡ length s.before = omega (arith, s.left_is, lengths ts why left s, back_fits why s.before s.back s.placed) in
-    let P : Rule → Type 0 = λ r. BreaksAt r ts k in
-    (k, t, slice_get_read ts (length ts) k t refl (left_index why ts left s w) is, refl, subst P (sym rule) (breaks why ts left k s w e))
+    let e : k + r.back ≡ length s.before = omega (arith, r.left_is, s.left_is, lengths ts why r.stop s, back_fits why s.before r.back r.placed) in
+    let P : Rule → Type 0 = λ rule. BreaksAt rule ts k in
+    (k, t, slice_get_read ts (length ts) k t refl (left_index why ts left r w) is, refl, subst P (sym same) (breaks why ts left k r w e))

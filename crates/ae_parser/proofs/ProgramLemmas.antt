@@ -1,6 +1,6 @@
 -- Whole programs: what their tokens stand for.
-use Rattle.std.proofs.Common.{◌≡◌, ℕ, ◌++◌, List, [], ◌∷◌, length, refl, sym, ap, ◌∙◌, append-nil, subst, Result, Ok, Err, IsErrAnd, map}
-use Rattle.std.specs.Prelude.{MatchResult, All}
+use Rattle.std.proofs.Common.{◌≡◌, ℕ, ◌++◌, List, [], ◌∷◌, length, refl, sym, ap, ◌∙◌, append-nil, subst, map}
+use Rattle.std.specs.Prelude.{All}
 use Rattle.std.proofs.lemmas.List.{map-append, length-map}
 use Rattle.ae_text.specs.Tokens as t
 use Rattle.ae_text.specs.Tokens.{IsWhole}
@@ -16,13 +16,14 @@ use Rattle.ae_code.specs.declared.tree.Program.{Program}
 use Rattle.ae_code.specs.Plain.{Definition, Code}
 use Rattle.ae_code.specs.Shown.{code, definition}
 use Rattle.ae_code.specs.Names.{names_of, numbered, lexeme, lexical}
-use Rattle.ae_code.specs.Grammar.{Tokens, one, Declaration, classes_of, methods_of, decls_of, Derives}
+use Rattle.ae_code.specs.Grammar.{Tokens, one, Declaration, classes_of, methods_of, Derives}
 use Rattle.ae_code.specs.Limits.{KeepsMethod, Within}
 use Rattle.ae_reading.specs.declared.fail.Fail.{Fail}
 use Rattle.ae_reading.specs.declared.fail.Why.{Why}
 use Rattle.ae_reading.specs.declared.fail.Why.TheVariants.{Unexpected, Over}
 use Rattle.ae_reading.specs.declared.fail.Fail.TheVariants.{Refused, Memory}
 use Rattle.ae_reading.specs.Reads.{head, Always, Is, NoEnd, Counts, Failed}
+use Rattle.ae_reading.proofs.Programs.{code_of, code_is}
 use Rattle.ae_parser.specs.declared.declarations.Parts.{Parts}
 use Rattle.ae_parser.specs.Reading.{whole_program, KeepsAll, KeepsAllWhole, HasRead}
 use Rattle.ae_parser.proofs.NamesLemmas.{lexemes_of}
@@ -71,16 +72,6 @@ as_long tokens = length-map tokens (lexeme (names_of tokens))
 
 -- ---- programs
 
-abbrev pub code_of : List (List ℕ) → List Declaration → Code
-code_of names list = record { names = names; classes = classes_of list; methods = methods_of list; decls = decls_of 0 0 list }
-
-code_is : (p : Code) (tokens : List Token) (d : Derives tokens p) → code_of (names_of tokens) d.list ≡ p
-code_is p tokens d = sym (
-    ap (λ (n : List (List ℕ)). record { names = n; classes = p.classes; methods = p.methods; decls = p.decls }) d.names
-    ∙ ap (λ (c : List Class). record { names = names_of tokens; classes = c; methods = p.methods; decls = p.decls }) d.classes
-    ∙ ap (λ (m : List Definition). record { names = names_of tokens; classes = classes_of d.list; methods = m; decls = p.decls }) d.methods
-    ∙ ap (λ (l : List Decl). record { names = names_of tokens; classes = classes_of d.list; methods = methods_of d.list; decls = l }) d.decls)
-
 pub lexemes_derive : (p : Code) (tokens : List Token) (d : Derives tokens p) → whole_program (d.list, tt) (lexemes_of tokens)
 lexemes_derive p tokens d = let P : List (List ℕ) → Type 0 = λ n. whole_program (d.list, tt) (numbered n tokens) in subst P d.names d.derives
 
@@ -124,7 +115,7 @@ read_only : (tokens : List Token) (p : Parts) (h : HasRead (lexemes_of tokens) p
 read_only tokens p h q d =
     let l = lexemes_derive q tokens d in
     let o = h.took.only d.list l.front l.back h.rest l.first (sym l.parts ∙ h.took.whole) refl (end_of l.back l.second) in
-    ap (code_of (names_of tokens)) (sym o.0) ∙ code_is q tokens d
+    ap (code_of (names_of tokens)) (sym o.0) ∙ sym (code_is q tokens d)
 
 pub program_only : (tokens : List Token) (names : List (List ℕ)) (ts : Tokens) (p : Parts) → names ≡ names_of tokens → ts ≡ lexemes_of tokens → HasRead ts p → (q : Code) → Derives tokens q → code (program_of names p) ≡ q
 program_only tokens names ts p e s h q d =
@@ -147,10 +138,8 @@ program_refused tokens (Refused why left) f p d w =
     absurd (f.why.stuck (d.list, tt) (lexemes_of tokens) [] f.why.rest l (append-nil (lexemes_of tokens) ∙ f.why.whole) refl tt (counts why d.list (λ x. keeps_list x p tokens d w)))
 program_refused tokens Memory f p d w = refl
 
-pub failed_at : (tokens : List Token) (ts : Tokens) (e : Fail) → ts ≡ lexemes_of tokens → Failed whole_program KeepsAllWhole Always ts e → Failed whole_program KeepsAllWhole Always (lexemes_of tokens) e
+failed_at : (tokens : List Token) (ts : Tokens) (e : Fail) → ts ≡ lexemes_of tokens → Failed whole_program KeepsAllWhole Always ts e → Failed whole_program KeepsAllWhole Always (lexemes_of tokens) e
 failed_at tokens ts e same f = let P : Tokens → Type 0 = λ l. Failed whole_program KeepsAllWhole Always l e in subst P same f
 
-pub leaves_program : (tokens : List Token) (ts : Tokens) (e : Fail) (r : Result Program Fail) → ts ≡ lexemes_of tokens → Failed whole_program KeepsAllWhole Always ts e → IsErrAnd r (λ y. y ≡ e) →
-    (p : Code) → Derives tokens p → Within p → MatchResult r (λ q. code q ≡ p) (λ y. y ≡ Memory)
-leaves_program tokens ts e (Ok q) same f h p d w = absurd h
-leaves_program tokens ts e (Err y) same f h p d w = h ∙ program_refused tokens e (failed_at tokens ts e same f) p d w
+pub left_for_memory : (tokens : List Token) (ts : Tokens) (e : Fail) → ts ≡ lexemes_of tokens → Failed whole_program KeepsAllWhole Always ts e → (p : Code) → Derives tokens p → Within p → e ≡ Memory
+left_for_memory tokens ts e same f = program_refused tokens e (failed_at tokens ts e same f)

@@ -1,5 +1,5 @@
 -- What reading all declarations of a program answers.
-use Rattle.std.specs.Prelude.{◌≡◌, List, Result, Ok, Err, All, map}
+use Rattle.std.specs.Prelude.{◌≡◌, ℕ, ◌+◌, List, Result, Ok, Err, All, map}
 use Rattle.ae_text.specs.declared.refusal.Rule.{Rule}
 use Rattle.ae_text.specs.declared.refusal.Rule.TheVariants as rule
 use Rattle.ae_code.specs.declared.lexeme.Lexical.TheVariants as tok
@@ -8,10 +8,12 @@ use Rattle.ae_code.specs.declared.limits.Limit.TheVariants as limit
 use Rattle.ae_code.specs.Shown as shown
 use Rattle.ae_code.specs.Grammar.{Tokens, ◌⨾◌, Declaration, declarations, classes_of, methods_of, decls_of}
 use Rattle.ae_code.specs.Limits.{KeepsMethod}
+use Rattle.ae_code.specs.Refused.{IsPlaced}
 use Rattle.ae_reading.specs.declared.fail.Why.{Why}
 use Rattle.ae_reading.specs.declared.fail.Why.TheVariants.{Unexpected, Over}
 use Rattle.ae_reading.specs.declared.fail.Fail.{Fail}
-use Rattle.ae_reading.specs.Reads.{head, Always, Is, Mark, Took, Failed}
+use Rattle.ae_reading.specs.declared.fail.Fail.TheVariants.{Refused, Memory}
+use Rattle.ae_reading.specs.Reads.{head, Always, Is, Mark, Took, Stopped, Failed}
 use Rattle.ae_parser.specs.declared.declarations.Parts.{Parts}
 
 -- all declarations, and the end
@@ -37,6 +39,24 @@ pub record HasRead (ts : Tokens) (p : Parts) : Type 0 where
 abbrev pub ReadsAll : Tokens → Result Parts Fail → Type 0
 ReadsAll ts (Ok p) = HasRead ts p
 ReadsAll ts (Err e) = Failed whole_program KeepsAllWhole Always ts e
+
+-- where the refused token stands, this many tokens before the one at which the parser stops
+abbrev pub Stands : Why → Tokens → ℕ → Type 0
+Stands Unexpected before back = back ≡ 0
+Stands (Over l) before back = IsPlaced l before back
+
+-- the token from which on this many are left is refused
+pub record Refuses (ts : Tokens) (why : Why) (left : ℕ) : Type 0 where
+  pub stop : ℕ
+  pub stopped : Stopped whole_program KeepsAllWhole Always ts why stop
+  pub back : ℕ
+  pub left_is : left ≡ stop + back
+  pub placed : Stands why stopped.before back
+
+-- why there is no program, with the place of the refused token
+abbrev pub Placed : Tokens → Fail → Type 0
+Placed ts (Refused why left) = Refuses ts why left
+Placed ts Memory = Unit {0}
 
 -- the rule that is broken
 abbrev pub rule_of : Why → Rule

@@ -3,10 +3,13 @@
 
 mod classes;
 mod declarations;
+mod laws;
 mod methods;
 mod needs;
 mod numbers;
 mod params;
+mod places;
 mod program;
 
+pub use laws::{programs_are_not_refused, refusals_are_unique};
 pub use program::parse;

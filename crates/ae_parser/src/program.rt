@@ -7,11 +7,11 @@ ghost use Rattle.ae_code.specs.Shown.{code};
 ghost use Rattle.ae_code.specs.Grammar.{Derives};
 ghost use Rattle.ae_code.specs.Limits.{Within};
 ghost use Rattle.ae_code.specs.Refused.{IsRefused, IsDenied};
-ghost use Rattle.ae_reading.specs.Reads.{Always, Stopped, Failed};
-ghost use Rattle.ae_parser.specs.Reading.{whole_program, KeepsAllWhole, rule_of};
+ghost use Rattle.ae_parser.specs.Reading.{Refuses, Placed, rule_of};
 
 use crate::declarations::{Parts, read_all_declarations};
 use crate::numbers::{Numbered, number_names};
+use crate::places::placed;
 use ae_code::{Limit, Program};
 use ae_reading::{Fail, Why};
 use ae_text::{Deny, Refusal, Rule, Token};
@@ -23,14 +23,17 @@ fn program(alloc: Global, tokens: &[Token]) -> Result<Program, Fail>
     ensures ok { IfOk result (λ p. Derives tokens.now (code p)) }
     ensures within { IfOk result (λ p. Within (code p)) }
     ensures only { (p : Code) → Derives tokens.now p → Within p → MatchResult result (λ q. code q ≡ p) (λ e. e ≡ Fail.Memory) }
-    ensures fails { IfErr result (λ e. Failed whole_program KeepsAllWhole Always (numbered (names_of tokens.now) tokens.now) e) }
+    ensures fails { IfErr result (Placed (numbered (names_of tokens.now) tokens.now)) }
 {
     let Numbered { names, lexemes } = number_names(alloc, tokens)?;
     let Parts {
         classes,
         methods,
         decls,
-    } = read_all_declarations(alloc, lexemes.as_slice())?;
+    } = match read_all_declarations(alloc, lexemes.as_slice()) {
+        Ok(parts) => parts,
+        Err(fail) => return Err(placed(lexemes.as_slice(), fail)),
+    };
     Ok(Program {
         names,
         classes,
@@ -62,7 +65,7 @@ fn broken_rule(why: Why) -> Rule
 /// The refusal of the token from which on this many are left.
 fn refusal(tokens: &[Token], why: Why, left: usize) -> Refusal
     requires whole { IsWhole tokens.now }
-    requires stopped { Stopped whole_program KeepsAllWhole Always (numbered (names_of tokens.now) tokens.now) why left }
+    requires refused { Refuses (numbered (names_of tokens.now) tokens.now) why left }
     ensures { IsRefused tokens.now result.rule result.at }
 {
     let refused = &tokens[tokens.len() - left];
@@ -74,7 +77,7 @@ fn refusal(tokens: &[Token], why: Why, left: usize) -> Refusal
 
 fn deny(tokens: &[Token], fail: Fail) -> Deny
     requires whole { IsWhole tokens.now }
-    requires fails { Failed whole_program KeepsAllWhole Always (numbered (names_of tokens.now) tokens.now) fail }
+    requires placed { Placed (numbered (names_of tokens.now) tokens.now) fail }
     ensures denied { IsDenied tokens.now result }
     ensures memory { fail ≡ Fail.Memory → result ≡ Deny.Memory }
 {
@@ -89,7 +92,8 @@ fn deny(tokens: &[Token], fail: Fail) -> Deny
 /// A source that is no program within the limits is refused at the first token with which no
 /// such program goes on: as `Unexpected` where no program of any size does, and else for the
 /// limit that each is over. A block that is too deep is refused at its `{`, and a parameter too many
-/// at its first token, though what stands before them already leads there.
+/// at its first token, though what stands before them already leads there. Where a right side becomes an
+/// expression only behind its 257th token that counts, that one is refused.
 pub fn parse(alloc: Global, tokens: &[Token]) -> Result<Program, Deny>
     requires whole { IsWhole tokens.now }
     requires short { length tokens.now ≤ 1048577 }

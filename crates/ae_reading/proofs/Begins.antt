@@ -1,96 +1,107 @@
--- What languages begin with, loops whose item fails, and choices by more than the next token.
-use Rattle.std.proofs.Common.{◌≡◌, ℕ, ◌++◌, List, [], ◌∷◌, Some, refl, sym, ap, ◌∙◌, append_assoc, subst}
+-- The first token of a tree, and what may come next.
+use Rattle.std.proofs.Common.{◌≡◌, ℕ, ◌++◌, Option, Some, None, refl, sym, ap, ◌∙◌, append_assoc, subst}
+use Rattle.ae_text.specs.declared.refusal.Spot.{Spot}
 use Rattle.ae_code.specs.declared.lexeme.Lexeme.{Lexeme}
 use Rattle.ae_code.specs.declared.lexeme.Lexical.{Lexical}
 use Rattle.ae_code.specs.declared.lexeme.Lexical.TheVariants.{Name}
-use Rattle.ae_code.specs.declared.limits.Limit.{Limit}
-use Rattle.ae_code.specs.Limits.{early}
-use Rattle.ae_code.specs.Grammar.{Tokens, name, each}
-use Rattle.ae_reading.specs.declared.fail.Fail.{Fail}
-use Rattle.ae_reading.specs.declared.fail.Why.{Why}
-use Rattle.ae_reading.specs.Reads.{head, Took, Stopped, Failed, Token, Mark, chain, after}
-use Rattle.ae_reading.proofs.ReadsLemmas.{Lang, Bound, Follow, Links, Both, Run, Turns, NoneAt, counts_by, beyond_as, lead_as, failed_by, run_stopped}
-use Rattle.ae_reading.proofs.Chains.{Chain, ChainTurns, chain_stopped}
+use Rattle.ae_code.specs.Grammar.{Tokens, ◌⨾◌, Then, one_at, one, name}
+use Rattle.ae_reading.specs.Reads.{head, Is, Isnt, IsName, Token, Mark}
+use Rattle.ae_reading.proofs.ReadsLemmas.{Lang, Follow, Links, NoneAt}
+
+-- ---- the next token
+
+pub is_isnt : (k : Lexical) (o : Option Lexeme) → Is k o → Isnt k o → ⊥
+is_isnt k None is isnt = is
+is_isnt k (Some t) is isnt = isnt is
+
+pub isnt_of : (k : Lexical) (o : Option Lexeme) → (Is k o → ⊥) → Isnt k o
+isnt_of k None other = tt
+isnt_of k (Some t) other = other
+
+-- what holds of each token of a kind
+pub of_kind : (k : Lexical) (P : Follow) → ((at : Spot) → P (Some (record { kind = k; at = at }))) → (o : Option Lexeme) → Is k o → P o
+of_kind k P f None i = absurd i
+of_kind k P f (Some t) i = let Q : Lexical → Type 0 = λ j. P (Some (record { kind = j; at = t.at })) in subst Q (sym i) (f t.at)
+
+pub is_by : (k : Lexical) (P : Follow) → ((t : Lexeme) → t.kind ≡ k → P (Some t)) → (o : Option Lexeme) → Is k o → P o
+is_by k P f None i = absurd i
+is_by k P f (Some t) i = f t i
+
+pub of_other : (k j : Lexical) → (k ≡ j → ⊥) → (o : Option Lexeme) → Is k o → Isnt j o
+of_other k j f None i = tt
+of_other k j f (Some t) i = λ e. f (sym i ∙ e)
+
+pub of_name : (j : Lexical) → ((n : ℕ) → Name n ≡ j → ⊥) → (o : Option Lexeme) → IsName o → Isnt j o
+of_name j f None i = absurd i
+of_name j f (Some t) i = λ e. f i.0 (sym i.1 ∙ e)
+
+pub not_both : (k j : Lexical) → (k ≡ j → ⊥) → (o : Option Lexeme) → Is k o → Is j o → ⊥
+not_both k j f None i h = i
+not_both k j f (Some t) i h = f (sym i ∙ h)
 
 -- ---- what a language begins with
 
--- each of its trees begins with such a token
+-- what the first token of each tree is
 abbrev pub Begins : {A : Type 0} → Lang A → Follow → Type 0
-Begins {A} D P = (y : A) (us r : Tokens) → D y us → P (head (us ++ r))
+Begins {A} D P = (x : A) (us r : Tokens) → D x us → P (head (us ++ r))
 
-pub begins_token : (k : Lexical) (P : Follow) → ((t : Lexeme) → t.kind ≡ k → P (Some t)) → Begins (Token k) P
-begins_token k P p y us r d = let t : Lexeme = record { kind = k; at = y } in subst P (sym (ap (λ l. head (l ++ r)) d)) (p t refl)
+pub begins_as : {A : Type 0} (D : Lang A) (P Q : Follow) → ((o : Option Lexeme) → P o → Q o) → Begins D P → Begins D Q
+begins_as D P Q f b x us r d = f (head (us ++ r)) (b x us r d)
 
-pub begins_mark : (k : Lexical) (P : Follow) → ((t : Lexeme) → t.kind ≡ k → P (Some t)) → Begins (Mark k) P
-begins_mark k P p y us r d = begins_token k P p d.0 us r d.1
+pub begins_token : (k : Lexical) → Begins (Token k) (Is k)
+begins_token k at us r d = let P : Tokens → Type 0 = λ l. Is k (head (l ++ r)) in subst P (sym d) refl
 
-pub begins_name : (P : Follow) → ((t : Lexeme) (n : ℕ) → t.kind ≡ Name n → P (Some t)) → Begins name P
-begins_name P p y us r d = begins_token (Name y.name) P (λ t e. p t y.name e) y.at us r d
+pub begins_mark : (k : Lexical) → Begins (Mark k) (Is k)
+begins_mark k x us r d = begins_token k d.0 us r d.1
+
+pub begins_name : Begins name IsName
+begins_name x us r d = let P : Tokens → Type 0 = λ l. IsName (head (l ++ r)) in subst P (sym d) (x.name, refl)
 
 -- where the first part begins with such a token, so do both
-pub begins_both : {A B : Type 0} (D : Lang A) (E : Lang B) (P : Follow) → Begins D P → Begins (Both D E) P
-begins_both D E P b y us r d = subst P (ap head (sym (append_assoc d.front d.back r) ∙ ap (λ l. l ++ r) (sym d.parts))) (b y.0 d.front (d.back ++ r) d.first)
+pub begins_both : {A B : Type 0} (D : Lang A) (E : A → Lang B) (P : Follow) → Begins D P → Begins (λ (p : A × B). D p.0 ⨾ E p.0 p.1) P
+begins_both D E P b x us r d =
+    let Q : Tokens → Type 0 = λ l. P (head l) in
+    subst Q (sym (append_assoc d.front d.back r) ∙ ap (λ l. l ++ r) (sym d.parts)) (b x.0 d.front (d.back ++ r) d.first)
 
 -- what begins so may come next
-pub begins_link : {B : Type 0} (E : Lang B) (F G : Follow) → Begins E F → Links E G F
-begins_link E F G b = λ y us r e g. b y us r e
+pub links_by : {A : Type 0} (D : Lang A) (P F : Follow) → ((o : Option Lexeme) → P o → F o) → Begins D P → (G : Follow) → Links D G F
+links_by D P F f b G x us r d g = begins_as D P F f b x us r d
 
 -- what begins otherwise does not come next
 pub begins_not : {A : Type 0} (D : Lang A) (P : Follow) (rest : Tokens) → Begins D P → (P (head rest) → ⊥) → NoneAt D rest
 begins_not D P rest b other y us r d h = other (subst P h (b y us r d))
 
--- ---- loops whose item fails
+-- ---- what some tokens begin with
 
-pub run_failed : {A : Type 0} {D : Lang A} {V : Bound (List A)} {W : Bound A} {F G : Follow} {ts rest : Tokens} {xs : List A} {e : Fail} →
-    Turns D F G → (F (head rest) → ⊥) → ((l : Limit) (z : A) → W l z → V l (xs ++ z ∷ [])) → ((l : Limit) (z : A) (zs : List A) → V l (xs ++ z ∷ zs) → W l z) →
-    Run D V F ts xs rest → Failed D W G rest e → Failed (each D) V F ts e
-run_failed link goes_on fits back t f = failed_by (λ why left s. run_stopped link goes_on fits back t s) f
+-- these tokens, with r behind them, begin with a token of this kind
+pub record Opens (us r : Tokens) (k : Lexical) : Type 0 where
+  pub token : Lexeme
+  pub front : head (us ++ r) ≡ Some token
+  pub kind : token.kind ≡ k
 
-pub chain_failed : {S A : Type 0} {D : S → Lang A} {next : S → A → S} {V : Bound (List A)} {W : Bound A} {F G : Follow} {s : S} {ts rest : Tokens} {xs : List A} {e : Fail} →
-    ChainTurns D next F G → (F (head rest) → ⊥) → ((l : Limit) (z : A) → W l z → V l (xs ++ z ∷ [])) → ((l : Limit) (z : A) (zs : List A) → V l (xs ++ z ∷ zs) → W l z) →
-    Chain D next V F s ts xs rest → Failed (D (after next s xs)) W G rest e → Failed (chain D next s) V F ts e
-chain_failed link goes_on fits back t f = failed_by (λ why left u. chain_stopped link goes_on fits back t u) f
+pub opens_so : {k : Lexical} (us r : Tokens) → Opens us r k → Is k (head (us ++ r))
+opens_so {k} us r b = let P : Option Lexeme → Type 0 = Is k in subst P (sym b.front) b.kind
 
--- ---- choices by more than the next token
+pub opens_one : {k : Lexical} {at : Spot} (us r : Tokens) → one_at k at us → Opens us r k
+opens_one {k} {at} us r d = record { token = record { kind = k; at = at }; front = ap (λ l. head (l ++ r)) d; kind = refl }
 
--- the trees of D that begin with these tokens and the next one are built from those of E
-abbrev pub BuildsOn : {A B : Type 0} → Lang A → Lang B → Follow → Tokens → Tokens → (B → A) → Type 0
-BuildsOn {A} {B} D E F taken rest build = (y : A) (us r other : Tokens) → D y us → us ++ r ≡ taken ++ other → head other ≡ head rest → F (head r) → (q : B) × (y ≡ build q) × E q us
+-- what begins a first part begins the whole
+pub opens_first : {k : Lexical} {p q : Tokens → Type 0} (us r : Tokens) (d : Then p q us) → Opens d.front (d.back ++ r) k → Opens us r k
+opens_first {k} us r d b = record { token = b.token; front = ap head (ap (λ l. l ++ r) d.parts ∙ append_assoc d.front d.back r) ∙ b.front; kind = b.kind }
 
-pub took_on : {A B : Type 0} (D : Lang A) (E : Lang B) {W : Bound A} {V : Bound B} {F : Follow} {ts rest : Tokens} {q : B} (build : B → A) →
-    ((q : B) (us : Tokens) → E q us → D (build q) us) → ((l : Limit) (q : B) (us : Tokens) → E q us → V l q → W l (build q)) →
-    (t : Took E V F ts q rest) → BuildsOn D E F t.taken rest build → Took D W F ts (build q) rest
-took_on D E {q = q} build intro to t cases = record {
-  taken = t.taken;
-  whole = t.whole;
-  no_end = t.no_end;
-  derives = intro q t.taken t.derives;
-  within = λ l. to l q t.taken t.derives (t.within l);
-  only = λ y us r other d e h f.
-      let p = cases y us r other d e h f in
-      let o = t.only p.0 us r other p.2 e h f in
-      (p.1 ∙ ap build o.0, o.1);
-}
+pub opens_at : {k : Lexical} {at : Spot} {q : Tokens → Type 0} (us r : Tokens) → Then (one_at k at) q us → Opens us r k
+opens_at us r d = opens_first us r d (opens_one d.front (d.back ++ r) d.first)
 
-pub stopped_on : {A B : Type 0} (D : Lang A) (E : Lang B) {W : Bound A} {V : Bound B} {F : Follow} {ts : Tokens} {why : Why} {left : ℕ} (build : B → A) →
-    ((q : B) (us : Tokens) → E q us → D (build q) us) → ((l : Limit) (q : B) (us : Tokens) → E q us → V l q → W l (build q)) → ((l : Limit) (q : B) (us : Tokens) → E q us → W l (build q) → V l q) →
-    (u : Stopped E V F ts why left) → BuildsOn D E F u.before u.rest build → Stopped D W F ts why left
-stopped_on {A} D E {W} {V} {F} {ts} {why} build intro to from u cases = record {
-  before = u.before;
-  rest = u.rest;
-  whole = u.whole;
-  back = u.back;
-  left_is = u.left_is;
-  placed = u.placed;
-  known = u.known;
-  tree = build u.tree;
-  more = u.more;
-  no_end = u.no_end;
-  goes = intro u.tree (u.before ++ u.more) u.goes;
-  within = λ l. to (early l) u.tree (u.before ++ u.more) u.goes (u.within l);
-  lead = lead_as build intro (λ q us d l v. to l q us d v) u.lead;
-  stuck = λ y us r other d e h f w.
-      let p = cases y us r other d e h f in
-      u.stuck p.0 us r other p.2 e h f (counts_by why (λ l v. let P : A → Type 0 = W l in from l p.0 us p.2 (subst P p.1 v)) w);
-  beyond = beyond_as D E build why u.before u.rest intro u.beyond;
-}
+pub opens_mark : {k : Lexical} {q : Tokens → Type 0} (us r : Tokens) → Then (one k) q us → Opens us r k
+opens_mark us r d = opens_first us r d (opens_one d.front (d.back ++ r) d.first.1)
+
+-- the kind of the next token, where a tree begins with it
+pub opens_is : {k j : Lexical} (us r ts : Tokens) → Opens us r k → head (us ++ r) ≡ head ts → Is j (head ts) → k ≡ j
+opens_is {k} {j} us r ts b h is = let P : Option Lexeme → Type 0 = Is j in sym b.kind ∙ subst P (sym h ∙ b.front) is
+
+pub opens_other : {k : Lexical} (us r ts : Tokens) → Opens us r k → head (us ++ r) ≡ head ts → (Is k (head ts) → ⊥) → ⊥
+opens_other {k} us r ts b h other = let P : Option Lexeme → Type 0 = Is k in other (subst P (sym b.front ∙ h) b.kind)
+
+-- a tree that begins with another token lets one that wants none of a kind end
+pub opens_isnt : {k j : Lexical} (us r : Tokens) → Opens us r k → (k ≡ j → ⊥) → Isnt j (head (us ++ r))
+opens_isnt {k} {j} us r b other = let P : Option Lexeme → Type 0 = Isnt j in subst P (sym b.front) (λ e. other (sym b.kind ∙ e))

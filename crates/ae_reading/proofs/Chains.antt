@@ -2,12 +2,14 @@
 use Rattle.std.proofs.Common.{◌≡◌, ℕ, ◌++◌, List, [], ◌∷◌, length, Option, refl, sym, ap, ◌∙◌, append_assoc, append-nil, subst}
 use Rattle.ae_code.specs.declared.limits.Limit.{Limit}
 use Rattle.ae_code.specs.declared.lexeme.Lexeme.{Lexeme}
-use Rattle.ae_code.specs.Grammar.{Tokens}
 use Rattle.ae_code.specs.Limits.{early}
+use Rattle.ae_code.specs.Grammar.{Tokens}
+use Rattle.ae_reading.specs.declared.fail.Fail.{Fail}
 use Rattle.ae_reading.specs.declared.fail.Why.{Why}
 use Rattle.ae_reading.specs.declared.fail.Why.TheVariants.{Unexpected, Over}
-use Rattle.ae_reading.specs.Reads.{head, NoEnd, IsWithin, Took, Lead, Stopped, Counts, Beyond, chain, after}
-use Rattle.ae_reading.proofs.ReadsLemmas.{Lang, Bound, Follow, head-append, NoEnd-append, stands_after, stands_here, none_back, counts_by, lead_here, NoneAt}
+use Rattle.ae_reading.specs.Reads.{head, NoEnd, IsWithin, Took, Lead, Stopped, Failed, Counts, Beyond, chain, after}
+use Rattle.ae_reading.proofs.ReadsLemmas.{Lang, Bound, Follow, Links, head-append, NoEnd-append, counts_by, lead_here, failed_by, NoneAt}
+use Rattle.ae_reading.proofs.Begins.{Begins}
 
 -- The items xs were read. All that begins so begins with these items.
 pub record Chain {S A : Type 0} (D : S → Lang A) (next : S → A → S) (V : Bound (List A)) (F : Follow) (s : S) (ts : Tokens) (xs : List A) (rest : Tokens) : Type 0 where
@@ -50,6 +52,13 @@ chain_start D next V F s ts v = record {
 abbrev pub ChainTurns : {S A : Type 0} → (S → Lang A) → (S → A → S) → Follow → Follow → Type 0
 ChainTurns {S} {A} D next F G = (s : S) (zs : List A) (vs r : Tokens) → chain D next s zs vs → F (head r) → G (head (vs ++ r))
 
+-- the first token behind some of the items, or none of them
+pub chain_turns : {S A : Type 0} (D : S → Lang A) (next : S → A → S) (F G : Follow) → ((s : S) → Begins (D s) G) → ((o : Option Lexeme) → F o → G o) → (s : S) → Links (chain D next s) F G
+chain_turns D next F G begin inside s [] us r d f = let P : Tokens → Type 0 = λ l. G (head (l ++ r)) in subst P (sym d) (inside (head r) f)
+chain_turns D next F G begin inside s (x ∷ xs) us r d f =
+    let P : Tokens → Type 0 = λ l. G (head l) in
+    subst P (sym (append_assoc d.front d.back r) ∙ ap (λ l. l ++ r) (sym d.parts)) (begin s x d.front (d.back ++ r) d.first)
+
 chain_end_next : {S A : Type 0} (D : S → Lang A) (next : S → A → S) (s : S) (rest : Tokens) → NoneAt (D s) rest →
     (zs : List A) (vs r other : Tokens) → chain D next s zs vs → vs ++ r ≡ other → head other ≡ head rest → (zs ≡ []) × (r ≡ other)
 chain_end_next D next s rest none [] vs r other m e h = (refl, ap (λ l. l ++ r) (sym m) ∙ e)
@@ -91,9 +100,11 @@ chain_more {S} {A} {D} {next} {V} {W} {F} {G} {s} {ts} {rest} {rest'} {xs} {x} l
       chain_next D next s W F G xs link goes_on u p.0 p.1 r other p.3 p.4 h1 h f ys p.2;
 }
 
-pub chain_beyond : {S A : Type 0} (D : S → Lang A) (next : S → A → S) (s : S) (why : Why) (xs : List A) (taken before rest : Tokens) → chain D next s xs taken → Beyond (D (after next s xs)) before rest why → Beyond (chain D next s) (taken ++ before) rest why
-chain_beyond D next s Unexpected xs taken before rest m b = tt
-chain_beyond D next s (Over l) xs taken before rest m b = record {
+pub chain_beyond : {S A : Type 0} (D : S → Lang A) (next : S → A → S) (s : S) (V : Bound (List A)) (W : Bound A) (why : Why) (xs : List A) (taken before rest : Tokens) →
+    ((l : Limit) (z : A) → W l z → V l (xs ++ z ∷ [])) → chain D next s xs taken → Beyond (D (after next s xs)) W before rest why → Beyond (chain D next s) V (taken ++ before) rest why
+chain_beyond D next s V W Unexpected xs taken before rest fits m b = tt
+chain_beyond D next s V W (Over l) xs taken before rest fits m b = record {
+  others = λ k n. fits k b.tree (b.others k n);
   next = b.next;
   later = b.later;
   rest_is = b.rest_is;
@@ -128,9 +139,7 @@ chain_stopped {S} {A} {D} {next} {V} {W} {F} {G} {s} {ts} {rest} {xs} {why} {lef
   before = t.taken ++ u.before;
   rest = u.rest;
   whole = t.whole ∙ ap (λ l. t.taken ++ l) u.whole ∙ sym (append_assoc t.taken u.before u.rest);
-  back = u.back;
   left_is = u.left_is;
-  placed = stands_after why t.taken u.before u.back u.placed;
   known = u.known;
   tree = xs ++ u.tree ∷ [];
   more = u.more;
@@ -144,8 +153,13 @@ chain_stopped {S} {A} {D} {next} {V} {W} {F} {G} {s} {ts} {rest} {xs} {why} {lef
       let h1 : head (u.before ++ other) ≡ head rest = head-append u.before other u.rest h ∙ ap head (sym u.whole) in
       let p = t.only ys us r (u.before ++ other) m e1 h1 f in
       chain_stopped_next D next (after next s xs) V W F G xs link goes_on back u p.0 p.1 r other p.3 p.4 h1 h f (counts_by why (λ l v. let P : List A → Type 0 = V l in subst P p.2 v) w);
-  beyond = chain_beyond D next s why xs t.taken u.before u.rest t.derives u.beyond;
+  beyond = chain_beyond D next s V W why xs t.taken u.before u.rest fits t.derives u.beyond;
 }
+
+pub chain_failed : {S A : Type 0} {D : S → Lang A} {next : S → A → S} {V : Bound (List A)} {W : Bound A} {F G : Follow} {s : S} {ts rest : Tokens} {xs : List A} {e : Fail} →
+    ChainTurns D next F G → (F (head rest) → ⊥) → ((l : Limit) (z : A) → W l z → V l (xs ++ z ∷ [])) → ((l : Limit) (z : A) (zs : List A) → V l (xs ++ z ∷ zs) → W l z) →
+    Chain D next V F s ts xs rest → Failed (D (after next s xs)) W G rest e → Failed (chain D next s) V F ts e
+chain_failed link goes_on fits back t f = failed_by (λ why left u. chain_stopped link goes_on fits back t u) f
 
 chain_no_item : {S A : Type 0} (D : S → Lang A) (next : S → A → S) (s : S) (V : Bound (List A)) (F : Follow) (rest : Tokens) (why : Why) (xs : List A) → (F (head rest) → ⊥) →
     ((z : A) (zs : List A) (us r : Tokens) → D s z us → head (us ++ r) ≡ head rest → Counts why (λ l. V l (xs ++ z ∷ zs)) → ⊥) →
@@ -158,14 +172,12 @@ chain_no_item D next s V F rest why xs goes_on none (z ∷ zs) vs r other m e h 
 -- no item can come next: none begins so, or each is over the limit
 pub chain_full : {S A : Type 0} {D : S → Lang A} {next : S → A → S} {V : Bound (List A)} {F : Follow} {s : S} {ts rest : Tokens} {xs : List A} (why : Why) →
     (F (head rest) → ⊥) → ((z : A) (zs : List A) (us r : Tokens) → D (after next s xs) z us → head (us ++ r) ≡ head rest → Counts why (λ l. V l (xs ++ z ∷ zs)) → ⊥) →
-    Beyond (D (after next s xs)) [] rest why → Chain D next V F s ts xs rest → Stopped (chain D next s) V F ts why (length rest)
+    Beyond (D (after next s xs)) (λ l z. V l (xs ++ z ∷ [])) [] rest why → Chain D next V F s ts xs rest → Stopped (chain D next s) V F ts why (length rest)
 chain_full {S} {A} {D} {next} {V} {F} {s} {ts} {rest} {xs} why goes_on none beyond t = record {
   before = t.taken;
   rest = rest;
   whole = t.whole;
-  back = 0;
-  left_is = none_back (length rest);
-  placed = stands_here why t.taken;
+  left_is = refl;
   known = tt;
   tree = xs;
   more = [];
@@ -176,7 +188,7 @@ chain_full {S} {A} {D} {next} {V} {F} {s} {ts} {rest} {xs} why goes_on none beyo
   stuck = λ ys us r other m e h f w.
       let p = t.only ys us r other m e h f in
       chain_no_item D next (after next s xs) V F rest why xs goes_on none p.0 p.1 r other p.3 p.4 h f (counts_by why (λ l v. let P : List A → Type 0 = V l in subst P p.2 v) w);
-  beyond = let P : Tokens → Type 0 = λ l. Beyond (chain D next s) l rest why in subst P (append-nil t.taken) (chain_beyond D next s why xs t.taken [] rest t.derives beyond);
+  beyond = let P : Tokens → Type 0 = λ l. Beyond (chain D next s) V l rest why in subst P (append-nil t.taken) (chain_beyond D next s V (λ l z. V l (xs ++ z ∷ [])) why xs t.taken [] rest (λ l z v. v) t.derives beyond);
 }
 
 pub chain_end : {S A : Type 0} {D : S → Lang A} {next : S → A → S} {V : Bound (List A)} {F : Follow} {s : S} {ts rest : Tokens} {xs : List A} →

@@ -1,6 +1,9 @@
 pub mod ReadsLemmas
-pub mod Chains
-pub mod Parts
 pub mod Begins
+pub mod Chains
+pub mod Runs
+pub mod Parts
+pub mod Paths
 pub mod UniqueLemmas
 pub mod UniquePaths
+pub mod Programs

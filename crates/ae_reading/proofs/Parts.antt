@@ -5,49 +5,20 @@ use Rattle.ae_code.specs.declared.lexeme.Lexeme.{Lexeme}
 use Rattle.ae_code.specs.declared.lexeme.Lexical.{Lexical}
 use Rattle.ae_code.specs.declared.lexeme.Lexical.TheVariants as tok
 use Rattle.ae_code.specs.declared.limits.Limit.{Limit}
-use Rattle.ae_code.specs.Limits.{early}
-use Rattle.ae_code.specs.Grammar.{Tokens, each, further, separated, listed}
+use Rattle.ae_code.specs.Grammar.{Tokens, nothing, each, further, separated, listed}
 use Rattle.ae_reading.specs.declared.fail.Fail.{Fail}
 use Rattle.ae_reading.specs.declared.fail.Why.{Why}
 use Rattle.ae_reading.specs.Reads.{head, Always, Is, Isnt, Free, IsWithin, Took, Stopped, Failed, Mark}
-use Rattle.ae_reading.proofs.ReadsLemmas.{Lang, Bound, Follow, Links, Both, Limits, Pair, Has, Along, Turns, NoneAt, same_head, counts_by, beyond_as, took_as, stopped_as, lead_as, took_then, stopped_second, stopped_first_with, failed_by, first, second, both, free}
-
--- ---- follows and limits
-
--- what lets less follow
-pub took_before : {A : Type 0} {D : Lang A} {W : Bound A} {F G : Follow} {ts rest : Tokens} {x : A} → ((o : Option Lexeme) → G o → F o) → Took D W F ts x rest → Took D W G ts x rest
-took_before {rest = rest} less t = record {
-  taken = t.taken;
-  whole = t.whole;
-  derives = t.derives;
-  within = t.within;
-  no_end = t.no_end;
-  only = λ y us r other d e h f. t.only y us r other d e h (less (head r) f);
-}
-
-pub stopped_before : {A : Type 0} {D : Lang A} {W : Bound A} {F G : Follow} {ts : Tokens} {why : Why} {left : ℕ} → ((o : Option Lexeme) → G o → F o) → Stopped D W F ts why left → Stopped D W G ts why left
-stopped_before less u = record {
-  before = u.before;
-  rest = u.rest;
-  whole = u.whole;
-  back = u.back;
-  left_is = u.left_is;
-  placed = u.placed;
-  tree = u.tree;
-  more = u.more;
-  goes = u.goes;
-  known = u.known;
-  within = u.within;
-  lead = u.lead;
-  no_end = u.no_end;
-  stuck = λ y us r other d e h f w. u.stuck y us r other d e h (less (head r) f) w;
-  beyond = u.beyond;
-}
-
-pub failed_before : {A : Type 0} {D : Lang A} {W : Bound A} {F G : Follow} {ts : Tokens} {e : Fail} → ((o : Option Lexeme) → G o → F o) → Failed D W F ts e → Failed D W G ts e
-failed_before less f = failed_by (λ why left s. stopped_before less s) f
+use Rattle.ae_reading.proofs.ReadsLemmas.{Lang, Bound, Follow, Links, Both, Limits, Pair, Has, Along, When, NoneAt, took_as, stopped_as, took_when, stopped_when, took_nothing, took_then, stopped_second, stopped_first_with, failed_by, first, second, both, free}
+use Rattle.ae_reading.proofs.Runs.{each-one, each_turns}
+use Rattle.ae_reading.proofs.Begins.{Begins, is_isnt, is_by, begins_as, begins_not, opens_so, opens_mark}
 
 -- ---- a part that may be absent
+
+-- a tree of D, or none
+abbrev pub optional : {A : Type 0} → Lang A → Lang (Option A)
+optional D None = nothing
+optional D (Some x) = D x
 
 -- The trees of D are `none`, which stands for no token, and those that are built from the trees of E.
 pub record Optional {A B : Type 0} (D : Lang A) (E : Lang B) (W : Bound A) (V : Bound B) (none : A) (some : B → A) : Type 0 where
@@ -58,22 +29,16 @@ pub record Optional {A B : Type 0} (D : Lang A) (E : Lang B) (W : Bound A) (V : 
   pub to : (q : B) (us : Tokens) → E q us → (l : Limit) → V l q → W l (some q)
   pub from : (q : B) (us : Tokens) → E q us → (l : Limit) → W l (some q) → V l q
 
-absent_only : {A B : Type 0} (E : Lang B) {none : A} (some : B → A) (ts : Tokens) → NoneAt E ts →
-    (y : A) (us r other : Tokens) → us ++ r ≡ other → head other ≡ head ts → ((y ≡ none) × (us ≡ [])) ⊎ ((q : B) × (y ≡ some q) × E q us) → (y ≡ none) × (r ≡ other)
-absent_only E some ts nowhere y us r other e h (inl c) = (c.0, ap (λ l. l ++ r) (sym c.1) ∙ e)
-absent_only E some ts nowhere y us r other e h (inr c) = absurd (nowhere c.0 us r c.2 (ap head e ∙ h))
+absent_case : {A B : Type 0} (E : Lang B) {none : A} (some : B → A) (ts : Tokens) → NoneAt E ts →
+    (y : A) (us r : Tokens) → head (us ++ r) ≡ head ts → ((y ≡ none) × (us ≡ [])) ⊎ ((q : B) × (y ≡ some q) × E q us) → (y ≡ none) × (us ≡ [])
+absent_case E some ts nowhere y us r h (inl c) = c
+absent_case E some ts nowhere y us r h (inr c) = absurd (nowhere c.0 us r c.2 h)
 
 -- the next token does not begin E
 pub took_absent : {A B : Type 0} {D : Lang A} {E : Lang B} {W : Bound A} {V : Bound B} {none : A} {some : B → A} (F : Follow) {ts : Tokens} →
     Optional D E W V none some → NoneAt E ts → Took D W F ts none ts
-took_absent {A} {B} {D} {E} {W} {V} {none} {some} F {ts} o nowhere = record {
-  taken = [];
-  whole = refl;
-  derives = o.absent;
-  within = o.none_within;
-  no_end = tt;
-  only = λ y us r other d e h f. absent_only E some ts nowhere y us r other e h (o.cases y us d);
-}
+took_absent {D = D} {E = E} {W = W} {none = none} {some = some} F {ts} o nowhere =
+    took_nothing D W F ts none o.absent o.none_within (λ y us r d h f. absent_case E some ts nowhere y us r h (o.cases y us d))
 
 present_case : {A B : Type 0} (E : Lang B) (F : Follow) {none : A} (some : B → A) (ts : Tokens) → (F (head ts) → ⊥) →
     (y : A) (us r : Tokens) → head (us ++ r) ≡ head ts → F (head r) → ((y ≡ none) × (us ≡ [])) ⊎ ((q : B) × (y ≡ some q) × E q us) → (q : B) × (y ≡ some q) × E q us
@@ -81,52 +46,58 @@ present_case E F some ts begins y us r h f (inl c) = let P : Option Lexeme → T
 present_case E F some ts begins y us r h f (inr c) = c
 
 -- the next token cannot follow, so the part is there
+present_when : {A B : Type 0} {D : Lang A} {E : Lang B} {W : Bound A} {V : Bound B} {F : Follow} {none : A} {some : B → A} {ts : Tokens} →
+    Optional D E W V none some → (F (head ts) → ⊥) → When D E W V F F ts some
+present_when {E = E} {F = F} {some = some} {ts = ts} o begins = record {
+  intro = o.present;
+  cases = λ y us r d h f. let p = present_case E F some ts begins y us r h f (o.cases y us d) in (p.0, p.1, p.2, f);
+  to = o.to;
+  from = o.from;
+}
+
 pub took_present : {A B : Type 0} {D : Lang A} {E : Lang B} {W : Bound A} {V : Bound B} {F : Follow} {none : A} {some : B → A} {ts rest : Tokens} {q : B} →
     Optional D E W V none some → (F (head ts) → ⊥) → Took E V F ts q rest → Took D W F ts (some q) rest
-took_present {A} {B} {D} {E} {W} {V} {F} {none} {some} {ts} {rest} {q} o begins t = record {
-  taken = t.taken;
-  whole = t.whole;
-  no_end = t.no_end;
-  derives = o.present q t.taken t.derives;
-  within = λ l. o.to q t.taken t.derives l (t.within l);
-  only = λ y us r other d e h f.
-      let p = present_case E F some ts begins y us r (same_head us r t.taken other rest ts e h t.whole) f (o.cases y us d) in
-      let s = t.only p.0 us r other p.2 e h f in
-      (p.1 ∙ ap some s.0, s.1);
-}
+took_present {D = D} {E = E} {F = F} {some = some} {ts = ts} o begins t = took_when D E some (present_when {F = F} {some = some} {ts = ts} o begins) t
 
 pub stopped_present : {A B : Type 0} {D : Lang A} {E : Lang B} {W : Bound A} {V : Bound B} {F : Follow} {none : A} {some : B → A} {ts : Tokens} {why : Why} {left : ℕ} →
     Optional D E W V none some → (F (head ts) → ⊥) → Stopped E V F ts why left → Stopped D W F ts why left
-stopped_present {A} {B} {D} {E} {W} {V} {F} {none} {some} {ts} {why} {left} o begins u = record {
-  before = u.before;
-  rest = u.rest;
-  whole = u.whole;
-  back = u.back;
-  left_is = u.left_is;
-  placed = u.placed;
-  known = u.known;
-  tree = some u.tree;
-  more = u.more;
-  no_end = u.no_end;
-  goes = o.present u.tree (u.before ++ u.more) u.goes;
-  within = λ l. o.to u.tree (u.before ++ u.more) u.goes (early l) (u.within l);
-  lead = lead_as some o.present o.to u.lead;
-  stuck = λ y us r other d e h f w.
-      let p = present_case E F some ts begins y us r (same_head us r u.before other u.rest ts e h u.whole) f (o.cases y us d) in
-      u.stuck p.0 us r other p.2 e h f (counts_by why (λ l v. let P : A → Type 0 = W l in o.from p.0 us p.2 l (subst P p.1 v)) w);
-  beyond = beyond_as D E some why u.before u.rest o.present u.beyond;
-}
+stopped_present {D = D} {E = E} {F = F} {some = some} {ts = ts} o begins u = stopped_when D E some (present_when {F = F} {some = some} {ts = ts} o begins) u
 
 pub failed_present : {A B : Type 0} {D : Lang A} {E : Lang B} {W : Bound A} {V : Bound B} {F : Follow} {none : A} {some : B → A} {ts : Tokens} {e : Fail} →
     Optional D E W V none some → (F (head ts) → ⊥) → Failed E V F ts e → Failed D W F ts e
 failed_present o begins f = failed_by (λ why left s. stopped_present o begins s) f
+
+-- what comes next may not follow, so there is a tree of D
+optional_when : {A : Type 0} {D : Lang A} {V : Bound (Option A)} {W : Bound A} {F G : Follow} {ts : Tokens} → (F (head ts) → ⊥) → ((o : Option Lexeme) → F o → G o) →
+    ((l : Limit) (z : A) → W l z → V l (Some z)) → ((l : Limit) (z : A) → V l (Some z) → W l z) → When (optional D) D V W F G ts Some
+optional_when {A} {D} {V} {W} {F} {G} {ts} begins less fits back = record { intro = λ q us d. d; cases = there; to = λ q us d l w. fits l q w; from = λ q us d l v. back l q v }
+  where
+    there : (y : Option A) (us r : Tokens) → optional D y us → head (us ++ r) ≡ head ts → F (head r) → (q : A) × (y ≡ Some q) × D q us × G (head r)
+    there None us r d h f = let P : Option Lexeme → Type 0 = F in absurd (begins (subst P (ap head (ap (λ l. l ++ r) (sym d)) ∙ h) f))
+    there (Some z) us r d h f = (z, refl, d, less (head r) f)
+
+pub took_optional : {A : Type 0} {D : Lang A} {V : Bound (Option A)} {W : Bound A} {F G : Follow} {ts rest : Tokens} {x : A} → (F (head ts) → ⊥) → ((o : Option Lexeme) → F o → G o) →
+    ((l : Limit) (z : A) → W l z → V l (Some z)) → ((l : Limit) (z : A) → V l (Some z) → W l z) → Took D W G ts x rest → Took (optional D) V F ts (Some x) rest
+took_optional {D = D} {F = F} {G = G} begins less fits back t = took_when (optional D) D Some (optional_when {F = F} {G = G} begins less fits back) t
+
+pub stopped_optional : {A : Type 0} {D : Lang A} {V : Bound (Option A)} {W : Bound A} {F G : Follow} {ts : Tokens} {why : Why} {left : ℕ} → (F (head ts) → ⊥) → ((o : Option Lexeme) → F o → G o) →
+    ((l : Limit) (z : A) → W l z → V l (Some z)) → ((l : Limit) (z : A) → V l (Some z) → W l z) → Stopped D W G ts why left → Stopped (optional D) V F ts why left
+stopped_optional {D = D} {F = F} {G = G} begins less fits back u = stopped_when (optional D) D Some (optional_when {F = F} {G = G} begins less fits back) u
+
+-- no tree of D begins here
+pub left_out : {A : Type 0} {D : Lang A} {V : Bound (Option A)} {F : Follow} {ts : Tokens} → NoneAt D ts → IsWithin V None → Took (optional D) V F ts None ts
+left_out {A} {D} {V} {F} {ts} none v = took_nothing (optional D) V F ts None refl v there
+  where
+    there : (y : Option A) (us r : Tokens) → optional D y us → head (us ++ r) ≡ head ts → F (head r) → (y ≡ None) × (us ≡ [])
+    there None us r d h f = (refl, d)
+    there (Some z) us r d h f = absurd (none z us r d h)
 
 -- ---- one more item, with its comma
 
 abbrev pub Comma : Lexical
 Comma = tok.Sign sign.Comma
 
-further_along : {A : Type 0} (D : Lang A) (W : Bound A) (ts : Tokens) → Along (further D) (Both (Mark Comma) D) W (Pair Free W) ts (λ p. p.1)
+pub further_along : {A : Type 0} (D : Lang A) (W : Bound A) (ts : Tokens) → Along (further D) (Both (Mark Comma) D) W (Pair Free W) ts (λ p. p.1)
 further_along D W ts = record {
   intro = λ q us d. d;
   cases = λ y us r d h. ((tt, y), refl, d);
@@ -158,48 +129,33 @@ pub record Commas (F G : Follow) : Type 0 where
   pub ends : (o : Option Lexeme) → G o → F o
   pub stops : (o : Option Lexeme) → G o → Isnt Comma o
 
-further_head : {A : Type 0} (D : Lang A) (y : A) (us r : Tokens) → further D y us → (t : Lexeme) × (t.kind ≡ Comma) × (head (us ++ r) ≡ Some t)
-further_head D y us r d =
-    let t : Lexeme = record { kind = Comma; at = d.first.0 } in
-    (t, refl, ap (λ l. head (l ++ r)) (d.parts ∙ ap (λ l. l ++ d.back) d.first.1))
-
-pub commas_turn : {A : Type 0} (D : Lang A) {F G : Follow} → Commas F G → Turns (further D) G F
-commas_turn D {F} {G} c [] vs r m g = let P : Option Lexeme → Type 0 = F in subst P (ap (λ l. head (l ++ r)) (sym m)) (c.ends (head r) g)
-commas_turn D {F} {G} c (z ∷ zs) vs r m g =
-    let h = further_head D z m.front (m.back ++ r) m.first in
-    let P : Option Lexeme → Type 0 = F in
-    subst P (sym (ap head (ap (λ l. l ++ r) m.parts ∙ append_assoc m.front m.back r) ∙ h.2)) (c.comma h.0 h.1)
+pub begins_further : {A : Type 0} (D : Lang A) → Begins (further D) (Is Comma)
+begins_further D x us r d = opens_so us r (opens_mark us r d)
 
 pub commas_link : {A : Type 0} (D : Lang A) {F G : Follow} → Commas F G → Links (each (further D)) G F
-commas_link D c = λ ys us r m g. commas_turn D c ys us r m g
-
-isnt_is : (k : Lexical) (o : Option Lexeme) → Isnt k o → Is k o → ⊥
-isnt_is k None n i = i
-isnt_is k (Some t) n i = n i
+commas_link D {F} {G} c = each_turns (further D) G F (begins_as (further D) (Is Comma) F (is_by Comma F c.comma) (begins_further D)) c.ends
 
 -- with a comma the list goes on
 pub commas_go_on : {F G : Follow} (rest : Tokens) → Commas F G → Is Comma (head rest) → G (head rest) → ⊥
-commas_go_on {F} {G} rest c i g = isnt_is Comma (head rest) (c.stops (head rest) g) i
+commas_go_on {F} {G} rest c i g = is_isnt Comma (head rest) i (c.stops (head rest) g)
 
 -- and without one it does not
 pub no_comma : {A : Type 0} (D : Lang A) (rest : Tokens) → (Is Comma (head rest) → ⊥) → NoneAt (further D) rest
-no_comma D rest other y us r d h =
-    let k = further_head D y us r d in
-    let P : Option Lexeme → Type 0 = Is Comma in
-    other (subst P (sym k.2 ∙ h) k.1)
+no_comma D rest other = begins_not (further D) (Is Comma) rest (begins_further D) other
 
 -- the limit of a list is the one of its first item and that of the others behind it
 pub record Parted {A : Type 0} (W : Bound A) (V : Limit → A → List A → Type 0) (U : Bound (List A)) : Type 0 where
   pub to : (l : Limit) (x : A) (xs : List A) → W l x → V l x xs → U l (x ∷ xs)
   pub from : (l : Limit) (x : A) (xs : List A) → U l (x ∷ xs) → W l x × V l x xs
 
+-- at least one, as its first and the others
 abbrev pub Whole : {A : Type 0} → Lang A → Lang (A × List A)
 Whole D = Both D (each (further D))
 
 abbrev pub joined : {A : Type 0} → A × List A → List A
 joined p = p.0 ∷ p.1
 
-separated_cases : {A : Type 0} (D : Lang A) (ys : List A) (us : Tokens) → separated D ys us → (q : A × List A) × (ys ≡ joined q) × Whole D q us
+pub separated_cases : {A : Type 0} (D : Lang A) (ys : List A) (us : Tokens) → separated D ys us → (q : A × List A) × (ys ≡ joined q) × Whole D q us
 separated_cases D [] us d = absurd d
 separated_cases D (y ∷ ys) us d = ((y, ys), refl, d)
 
@@ -227,6 +183,16 @@ pub separated_more : {A : Type 0} {D : Lang A} {W : Bound A} (V : Limit → A �
     Parted W V U → Commas F G → Took D W F ts x mid → Failed (each (further D)) (λ l. V l x) G mid e → Failed (separated D) U G ts e
 separated_more {A} {D} {W} V {U} {F} {G} {ts} p c t f = failed_by (λ why left s.
     stopped_as (separated D) (Whole D) joined (separated_along D {V = V} ts p) (stopped_second V (commas_link D {F = F} {G = G} c) t s)) f
+
+-- where each item ends by itself, and no limit counts
+pub free_commas : {G : Follow} → ((o : Option Lexeme) → G o → Isnt Comma o) → Commas Always G
+free_commas stops = record { comma = λ t e. tt; ends = λ o g. tt; stops = stops }
+
+pub free_parted : {A : Type 0} → Parted Free (λ l (x : A). Free l) Free
+free_parted = record { to = λ l x xs w v. tt; from = λ l x xs v. (tt, tt) }
+
+pub has_separated : {A : Type 0} (D : Lang A) → Has D Free → Has (separated D) Free
+has_separated D a = record { tree = a.tree ∷ []; tokens = a.tokens; is = each-one D a.tree a.tokens a.is; known = a.known; within = λ l. tt }
 
 -- ---- lists that may be empty
 

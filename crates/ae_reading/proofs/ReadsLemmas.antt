@@ -1,21 +1,20 @@
 -- Languages in sequence, in turn and by choice, with limits.
-use Rattle.std.proofs.Common.{◌≡◌, ℕ, ◌+◌, inl, inr, ◌++◌, List, [], ◌∷◌, length, Option, Some, None, refl, sym, ap, ◌∙◌, append_assoc, append-nil, subst, arith, length-append, ◌<◌, Result, Ok, Err, IsErrAnd, Bor}
+use Rattle.std.proofs.Common.{◌≡◌, ℕ, ◌++◌, [], ◌∷◌, length, Option, Some, None, refl, sym, ap, ◌∙◌, append_assoc, append-nil, subst, arith, length-append, ◌+◌, ◌<◌, ◌≤◌, Result, Ok, Err, IsErrAnd, Bor}
 use Rattle.ae_text.specs.declared.refusal.Spot.{Spot}
 use Rattle.ae_code.specs.declared.lexeme.Lexeme.{Lexeme}
 use Rattle.ae_code.specs.declared.lexeme.Lexical.{Lexical}
 use Rattle.ae_code.specs.declared.lexeme.Lexical.TheVariants.{Name, End}
 use Rattle.ae_code.specs.declared.limits.Limit.{Limit}
-use Rattle.ae_code.specs.declared.limits.Limit.TheVariants.{Statements, Levels, Depth, Params}
-use Rattle.ae_code.specs.Grammar.{Tokens, ◌⨾◌, each, name}
+use Rattle.ae_code.specs.Grammar.{Tokens, ◌⨾◌, one, name}
 use Rattle.ae_code.specs.Limits.{early}
 use Rattle.ae_code.specs.Names.{io}
 use Rattle.ae_code.specs.declared.tree.NameAt.{NameAt}
-use Rattle.ae_code.specs.Refused.{IsKnown, AreKnown, IsPlaced, IsEarlier}
+use Rattle.ae_code.specs.Refused.{IsKnown, AreKnown}
 use Rattle.ae_reading.specs.declared.fail.Fail.{Fail}
 use Rattle.ae_reading.specs.declared.fail.Fail.TheVariants.{Refused, Memory}
 use Rattle.ae_reading.specs.declared.fail.Why.{Why}
 use Rattle.ae_reading.specs.declared.fail.Why.TheVariants.{Unexpected, Over}
-use Rattle.ae_reading.specs.Reads.{head, Always, NoEnd, Free, IsWithin, Took, Lead, Stopped, Stands, Counts, Beyond, Fails, Failed, Reads, Token, Mark}
+use Rattle.ae_reading.specs.Reads.{head, Always, NoEnd, Free, IsWithin, Took, Lead, Stopped, Counts, Beyond, Fails, Failed, Reads, Token, Mark}
 
 abbrev pub Lang : Type 0 → Type 1
 Lang A = A → Tokens → Type 0
@@ -39,45 +38,6 @@ pub AreKnown-append : (a b : Tokens) → AreKnown a → AreKnown b → AreKnown 
 AreKnown-append [] b m n = n
 AreKnown-append (t ∷ a) b m n = (m.0, AreKnown-append a b m.1 n)
 
-earlier_after : (taken before : Tokens) (back : ℕ) → IsEarlier before back → IsEarlier (taken ++ before) back
-earlier_after taken before back e = record {
-  front = taken ++ e.front;
-  early = e.early;
-  mark = e.mark;
-  late = e.late;
-  whole = ap (λ l. taken ++ l) e.whole ∙ sym (append_assoc taken e.front (e.early ++ e.mark ∷ e.late));
-  undecided = e.undecided;
-  counts = e.counts;
-  is_257th = e.is_257th;
-  back_is = e.back_is;
-}
-
-placed_after : (l : Limit) (taken before : Tokens) (back : ℕ) → IsPlaced l before back → IsPlaced l (taken ++ before) back
-placed_after Statements taken before back p = p
-placed_after Levels taken before back p = p
-placed_after Depth taken before back (inl p) = inl p
-placed_after Depth taken before back (inr p) = inr (earlier_after taken before back p)
-placed_after Params taken before back p = p
-
--- the place of a refusal stays where tokens stand before
-pub stands_after : (why : Why) (taken before : Tokens) (back : ℕ) → Stands why before back → Stands why (taken ++ before) back
-stands_after Unexpected taken before back p = p
-stands_after (Over l) taken before back p = placed_after l taken before back p
-
-placed_here : (l : Limit) (before : Tokens) → IsPlaced l before 0
-placed_here Statements before = refl
-placed_here Levels before = refl
-placed_here Depth before = inl refl
-placed_here Params before = refl
-
--- the next token itself is refused
-pub stands_here : (why : Why) (before : Tokens) → Stands why before 0
-stands_here Unexpected before = refl
-stands_here (Over l) before = placed_here l before
-
-pub none_back : (n : ℕ) → n ≡ n + 0
-none_back n = omega arith
-
 pub counts_by : (why : Why) {w v : Limit → Type 0} → ((l : Limit) → w l → v l) → Counts why w → Counts why v
 counts_by Unexpected f c = tt
 counts_by (Over l) f c = f l c
@@ -98,9 +58,18 @@ Limits W V l p = W l p.0 × V l p.0 p.1
 abbrev pub Pair : {A B : Type 0} → Bound A → Bound B → Bound (A × B)
 Pair W V = Limits W (λ l x. V l)
 
-pub took_then : {A B : Type 0} {D : Lang A} {E : Lang B} {F G : Follow} {W : Bound A} (V : Limit → A → B → Type 0) {ts rest rest' : Tokens} {x : A} {y : B} →
-    Links E G F → Took D W F ts x rest → Took E (λ l. V l x) G rest y rest' → Took (Both D E) (Limits W V) G ts (x, y) rest'
-took_then {A} {B} {D} {E} {F} {G} {W} V {ts} {rest} {rest'} {x} {y} link t u = record {
+-- the language of the second part may depend on the first
+abbrev pub After : {A B : Type 0} → Lang A → (A → Lang B) → Lang (A × B)
+After D E p = D p.0 ⨾ E p.0 p.1
+
+-- what each second part and then G let follow lets D end
+abbrev pub AfterLinks : {A B : Type 0} → (A → Lang B) → Follow → Follow → Type 0
+AfterLinks {A} {B} E G F = (x : A) (y : B) (us r : Tokens) → E x y us → G (head r) → F (head (us ++ r))
+
+-- both were read
+pub took_after : {A B : Type 0} {D : Lang A} {E : A → Lang B} {F G : Follow} {W : Bound A} (V : Limit → A → B → Type 0) {ts rest rest' : Tokens} {x : A} {y : B} →
+    AfterLinks E G F → Took D W F ts x rest → Took (E x) (λ l. V l x) G rest y rest' → Took (After D E) (Limits W V) G ts (x, y) rest'
+took_after {A} {B} {D} {E} {F} {G} {W} V {ts} {rest} {rest'} {x} {y} link t u = record {
   taken = t.taken ++ u.taken;
   whole = t.whole ∙ ap (λ l. t.taken ++ l) u.whole ∙ sym (append_assoc t.taken u.taken rest');
   no_end = NoEnd-append t.taken u.taken t.no_end u.no_end;
@@ -109,14 +78,17 @@ took_then {A} {B} {D} {E} {F} {G} {W} V {ts} {rest} {rest'} {x} {y} link t u = r
   only = λ p us r other d e h f.
       let e1 : d.front ++ (d.back ++ r) ≡ t.taken ++ (u.taken ++ other) = sym (append_assoc d.front d.back r) ∙ ap (λ l. l ++ r) (sym d.parts) ∙ e ∙ append_assoc t.taken u.taken other in
       let h1 : head (u.taken ++ other) ≡ head rest = head-append u.taken other rest' h ∙ ap head (sym u.whole) in
-      let one = t.only p.0 d.front (d.back ++ r) (u.taken ++ other) d.first e1 h1 (link p.1 d.back r d.second f) in
-      let two = u.only p.1 d.back r other d.second one.1 h f in
+      let one = t.only p.0 d.front (d.back ++ r) (u.taken ++ other) d.first e1 h1 (link p.0 p.1 d.back r d.second f) in
+      let P : A → Type 0 = λ a. E a p.1 d.back in
+      let two = u.only p.1 d.back r other (subst P one.0 d.second) one.1 h f in
       (ap (λ a. (a, p.1)) one.0 ∙ ap (λ b. (x, b)) two.0, two.1);
 }
 
-pub beyond_second : {A B : Type 0} (D : Lang A) (E : Lang B) (why : Why) (x : A) (taken before rest : Tokens) → D x taken → Beyond E before rest why → Beyond (Both D E) (taken ++ before) rest why
-beyond_second D E Unexpected x taken before rest d b = tt
-beyond_second D E (Over l) x taken before rest d b = record {
+beyond_second : {A B : Type 0} (D : Lang A) (E : A → Lang B) (W : Bound A) (V : Limit → A → B → Type 0) (why : Why) (x : A) (taken before rest : Tokens) →
+    D x taken → IsWithin W x → Beyond (E x) (λ l. V l x) before rest why → Beyond (After D E) (Limits W V) (taken ++ before) rest why
+beyond_second D E W V Unexpected x taken before rest d w b = tt
+beyond_second D E W V (Over l) x taken before rest d w b = record {
+  others = λ m n. (w m, b.others m n);
   next = b.next;
   later = b.later;
   rest_is = b.rest_is;
@@ -127,8 +99,8 @@ beyond_second D E (Over l) x taken before rest d b = record {
   goes_on = record { front = taken; back = before ++ (b.next ∷ b.after); parts = append_assoc taken before (b.next ∷ b.after); first = d; second = b.goes_on };
 }
 
-pub lead_second : {A B : Type 0} (D : Lang A) (E : Lang B) (W : Bound A) (V : Limit → A → B → Type 0) {x : A} (taken before : Tokens) →
-    D x taken → IsWithin W x → Lead E (λ l. V l x) before → Lead (Both D E) (Limits W V) (taken ++ before)
+lead_second : {A B : Type 0} (D : Lang A) (E : A → Lang B) (W : Bound A) (V : Limit → A → B → Type 0) {x : A} (taken before : Tokens) →
+    D x taken → IsWithin W x → Lead (E x) (λ l. V l x) before → Lead (After D E) (Limits W V) (taken ++ before)
 lead_second D E W V {x} taken before d w u = record {
   start = taken ++ u.start;
   ahead = u.ahead;
@@ -141,15 +113,14 @@ lead_second D E W V {x} taken before d w u = record {
   within = λ l. (w l, u.within l);
 }
 
-pub stopped_second : {A B : Type 0} {D : Lang A} {E : Lang B} {F G : Follow} {W : Bound A} (V : Limit → A → B → Type 0) {ts rest : Tokens} {x : A} {why : Why} {left : ℕ} →
-    Links E G F → Took D W F ts x rest → Stopped E (λ l. V l x) G rest why left → Stopped (Both D E) (Limits W V) G ts why left
-stopped_second {A} {B} {D} {E} {F} {G} {W} V {ts} {rest} {x} {why} {left} link t u = record {
+-- the first part was read, and the second stops
+pub after_second : {A B : Type 0} {D : Lang A} {E : A → Lang B} {F G : Follow} {W : Bound A} (V : Limit → A → B → Type 0) {ts rest : Tokens} {x : A} {why : Why} {left : ℕ} →
+    AfterLinks E G F → Took D W F ts x rest → Stopped (E x) (λ l. V l x) G rest why left → Stopped (After D E) (Limits W V) G ts why left
+after_second {A} {B} {D} {E} {F} {G} {W} V {ts} {rest} {x} {why} {left} link t u = record {
   before = t.taken ++ u.before;
   rest = u.rest;
   whole = t.whole ∙ ap (λ l. t.taken ++ l) u.whole ∙ sym (append_assoc t.taken u.before u.rest);
-  back = u.back;
   left_is = u.left_is;
-  placed = stands_after why t.taken u.before u.back u.placed;
   tree = (x, u.tree);
   more = u.more;
   known = u.known;
@@ -160,23 +131,81 @@ stopped_second {A} {B} {D} {E} {F} {G} {W} V {ts} {rest} {x} {why} {left} link t
   stuck = λ p us r other d e h f w.
       let e1 : d.front ++ (d.back ++ r) ≡ t.taken ++ (u.before ++ other) = sym (append_assoc d.front d.back r) ∙ ap (λ l. l ++ r) (sym d.parts) ∙ e ∙ append_assoc t.taken u.before other in
       let h1 : head (u.before ++ other) ≡ head rest = head-append u.before other u.rest h ∙ ap head (sym u.whole) in
-      let one = t.only p.0 d.front (d.back ++ r) (u.before ++ other) d.first e1 h1 (link p.1 d.back r d.second f) in
-      u.stuck p.1 d.back r other d.second one.1 h f (counts_by why (λ l v. let P : A → Type 0 = λ a. V l a p.1 in subst P one.0 v.1) w);
-  beyond = beyond_second D E why x t.taken u.before u.rest t.derives u.beyond;
+      let one = t.only p.0 d.front (d.back ++ r) (u.before ++ other) d.first e1 h1 (link p.0 p.1 d.back r d.second f) in
+      let Q : A → Type 0 = λ a. E a p.1 d.back in
+      u.stuck p.1 d.back r other (subst Q one.0 d.second) one.1 h f (counts_by why (λ l v. let P : A → Type 0 = λ a. V l a p.1 in subst P one.0 v.1) w);
+  beyond = beyond_second D E W V why x t.taken u.before u.rest t.derives t.within u.beyond;
 }
 
-pub beyond_first : {A B : Type 0} (D : Lang A) (E : Lang B) (why : Why) (y : B) (before rest us : Tokens) → E y us → AreKnown us → Beyond D before rest why → Beyond (Both D E) before rest why
-beyond_first D E Unexpected y before rest us e k b = tt
-beyond_first D E (Over l) y before rest us e k b = record {
+-- a second part within the limits behind each first one
+pub record HasEach {A B : Type 0} (E : A → Lang B) (W : Bound A) (V : Limit → A → B → Type 0) : Type 0 where
+  pub tree : A → B
+  pub tokens : A → Tokens
+  pub is : (x : A) → E x (tree x) (tokens x)
+  pub known : (x : A) → AreKnown (tokens x)
+  pub within : (l : Limit) (x : A) → W l x → V l x (tree x)
+
+beyond_first : {A B : Type 0} (D : Lang A) (E : A → Lang B) (W : Bound A) (V : Limit → A → B → Type 0) (why : Why) (before rest : Tokens) → HasEach E W V → Beyond D W before rest why → Beyond (After D E) (Limits W V) before rest why
+beyond_first D E W V Unexpected before rest has b = tt
+beyond_first D E W V (Over l) before rest has b = record {
+  others = λ m n. (b.others m n, has.within m b.tree (b.others m n));
   next = b.next;
   later = b.later;
   rest_is = b.rest_is;
-  tree = (b.tree, y);
-  after = b.after ++ us;
-  known = AreKnown-append b.after us b.known k;
+  tree = (b.tree, has.tree b.tree);
+  after = b.after ++ has.tokens b.tree;
+  known = AreKnown-append b.after (has.tokens b.tree) b.known (has.known b.tree);
   passes = b.passes;
-  goes_on = record { front = before ++ (b.next ∷ b.after); back = us; parts = sym (append_assoc before (b.next ∷ b.after) us); first = b.goes_on; second = e };
+  goes_on = record { front = before ++ (b.next ∷ b.after); back = has.tokens b.tree; parts = sym (append_assoc before (b.next ∷ b.after) (has.tokens b.tree)); first = b.goes_on; second = has.is b.tree };
 }
+
+lead_first : {A B : Type 0} (D : Lang A) (E : A → Lang B) (W : Bound A) (V : Limit → A → B → Type 0) {before : Tokens} → HasEach E W V → Lead D W before → Lead (After D E) (Limits W V) before
+lead_first D E W V has u = record {
+  start = u.start;
+  ahead = u.ahead;
+  parts = u.parts;
+  leads = u.leads;
+  tree = (u.tree, has.tree u.tree);
+  more = u.more ++ has.tokens u.tree;
+  goes = record { front = u.start ++ u.more; back = has.tokens u.tree; parts = sym (append_assoc u.start u.more (has.tokens u.tree)); first = u.goes; second = has.is u.tree };
+  known = AreKnown-append u.more (has.tokens u.tree) u.known (has.known u.tree);
+  within = λ l. (u.within l, has.within l u.tree (u.within l));
+}
+
+-- the first part stops, and the second is one of those
+pub after_first : {A B : Type 0} {D : Lang A} {E : A → Lang B} {F G : Follow} {W : Bound A} (V : Limit → A → B → Type 0) {ts : Tokens} {why : Why} {left : ℕ} →
+    AfterLinks E G F → HasEach E W V → Stopped D W F ts why left → Stopped (After D E) (Limits W V) G ts why left
+after_first {A} {B} {D} {E} {F} {G} {W} V {ts} {why} {left} link has u = record {
+  before = u.before;
+  rest = u.rest;
+  whole = u.whole;
+  left_is = u.left_is;
+  known = AreKnown-append u.more (has.tokens u.tree) u.known (has.known u.tree);
+  tree = (u.tree, has.tree u.tree);
+  more = u.more ++ has.tokens u.tree;
+  no_end = u.no_end;
+  goes = record { front = u.before ++ u.more; back = has.tokens u.tree; parts = sym (append_assoc u.before u.more (has.tokens u.tree)); first = u.goes; second = has.is u.tree };
+  within = λ l. (u.within l, has.within (early l) u.tree (u.within l));
+  lead = lead_first D E W V has u.lead;
+  stuck = λ p us r other d e h f w.
+      let e1 : d.front ++ (d.back ++ r) ≡ u.before ++ other = sym (append_assoc d.front d.back r) ∙ ap (λ l. l ++ r) (sym d.parts) ∙ e in
+      u.stuck p.0 d.front (d.back ++ r) other d.first e1 h (link p.0 p.1 d.back r d.second f) (counts_by why (λ l v. v.0) w);
+  beyond = beyond_first D E W V why u.before u.rest has u.beyond;
+}
+
+pub took_then : {A B : Type 0} {D : Lang A} {E : Lang B} {F G : Follow} {W : Bound A} (V : Limit → A → B → Type 0) {ts rest rest' : Tokens} {x : A} {y : B} →
+    Links E G F → Took D W F ts x rest → Took E (λ l. V l x) G rest y rest' → Took (Both D E) (Limits W V) G ts (x, y) rest'
+took_then {D = D} {E = E} {F = F} {G = G} V link t u = took_after {D = D} {E = λ x. E} {F = F} {G = G} V (λ x. link) t u
+
+pub stopped_second : {A B : Type 0} {D : Lang A} {E : Lang B} {F G : Follow} {W : Bound A} (V : Limit → A → B → Type 0) {ts rest : Tokens} {x : A} {why : Why} {left : ℕ} →
+    Links E G F → Took D W F ts x rest → Stopped E (λ l. V l x) G rest why left → Stopped (Both D E) (Limits W V) G ts why left
+stopped_second {D = D} {E = E} {F = F} {G = G} V link t u = after_second {D = D} {E = λ x. E} {F = F} {G = G} V (λ x. link) t u
+
+-- behind a first part that stops, the second may be any that is within the limits behind each first part
+pub stopped_first_with : {A B : Type 0} {D : Lang A} {E : Lang B} {F G : Follow} {W : Bound A} (V : Limit → A → B → Type 0) {ts : Tokens} {why : Why} {left : ℕ} →
+    Links E G F → (y : B) (us : Tokens) → E y us → AreKnown us → ((l : Limit) (x : A) → W l x → V l x y) → Stopped D W F ts why left → Stopped (Both D E) (Limits W V) G ts why left
+stopped_first_with {D = D} {E = E} {F = F} {G = G} V link y us e known fits u =
+    after_first {D = D} {E = λ x. E} {F = F} {G = G} V (λ x. link) (record { tree = λ x. y; tokens = λ x. us; is = λ x. e; known = λ x. known; within = fits }) u
 
 -- a tree within the limits
 pub record Has {A : Type 0} (D : Lang A) (W : Bound A) : Type 0 where
@@ -188,43 +217,6 @@ pub record Has {A : Type 0} (D : Lang A) (W : Bound A) : Type 0 where
 
 pub has_both : {A B : Type 0} {D : Lang A} {E : Lang B} {W : Bound A} {V : Bound B} → Has D W → Has E V → Has (Both D E) (Pair W V)
 has_both a b = record { tree = (a.tree, b.tree); tokens = a.tokens ++ b.tokens; is = record { front = a.tokens; back = b.tokens; parts = refl; first = a.is; second = b.is }; known = AreKnown-append a.tokens b.tokens a.known b.known; within = λ l. (a.within l, b.within l) }
-
-pub lead_first : {A B : Type 0} (D : Lang A) (E : Lang B) (W : Bound A) (V : Limit → A → B → Type 0) {before : Tokens} →
-    (y : B) (us : Tokens) → E y us → AreKnown us → ((l : Limit) (x : A) → W l x → V l x y) → Lead D W before → Lead (Both D E) (Limits W V) before
-lead_first D E W V y us e known fits u = record {
-  start = u.start;
-  ahead = u.ahead;
-  parts = u.parts;
-  leads = u.leads;
-  tree = (u.tree, y);
-  more = u.more ++ us;
-  goes = record { front = u.start ++ u.more; back = us; parts = sym (append_assoc u.start u.more us); first = u.goes; second = e };
-  known = AreKnown-append u.more us u.known known;
-  within = λ l. (u.within l, fits l u.tree (u.within l));
-}
-
--- behind a first part that stops, the second may be any that is within the limits behind each first part
-pub stopped_first_with : {A B : Type 0} {D : Lang A} {E : Lang B} {F G : Follow} {W : Bound A} (V : Limit → A → B → Type 0) {ts : Tokens} {why : Why} {left : ℕ} →
-    Links E G F → (y : B) (us : Tokens) → E y us → AreKnown us → ((l : Limit) (x : A) → W l x → V l x y) → Stopped D W F ts why left → Stopped (Both D E) (Limits W V) G ts why left
-stopped_first_with {A} {B} {D} {E} {F} {G} {W} V {ts} {why} {left} link y0 us0 e0 known fits u = record {
-  before = u.before;
-  rest = u.rest;
-  whole = u.whole;
-  back = u.back;
-  left_is = u.left_is;
-  placed = u.placed;
-  known = AreKnown-append u.more us0 u.known known;
-  tree = (u.tree, y0);
-  more = u.more ++ us0;
-  no_end = u.no_end;
-  goes = record { front = u.before ++ u.more; back = us0; parts = sym (append_assoc u.before u.more us0); first = u.goes; second = e0 };
-  within = λ l. (u.within l, fits (early l) u.tree (u.within l));
-  lead = lead_first D E W V y0 us0 e0 known fits u.lead;
-  stuck = λ p us r other d e h f w.
-      let e1 : d.front ++ (d.back ++ r) ≡ u.before ++ other = sym (append_assoc d.front d.back r) ∙ ap (λ l. l ++ r) (sym d.parts) ∙ e in
-      u.stuck p.0 d.front (d.back ++ r) other d.first e1 h (link p.1 d.back r d.second f) (counts_by why (λ l v. v.0) w);
-  beyond = beyond_first D E why y0 u.before u.rest us0 e0 known u.beyond;
-}
 
 -- ---- by choice, and along what builds a tree
 
@@ -241,23 +233,10 @@ pub record Along {A B : Type 0} (D : Lang A) (E : Lang B) (W : Bound A) (V : Bou
   pub to : (q : B) (us : Tokens) → E q us → (l : Limit) → V l q → W l (build q)
   pub from : (q : B) (us : Tokens) → E q us → (l : Limit) → W l (build q) → V l q
 
-pub took_as : {A B : Type 0} (D : Lang A) (E : Lang B) {W : Bound A} {V : Bound B} {F : Follow} {ts rest : Tokens} {q : B} (build : B → A) →
-    Along D E W V ts build → Took E V F ts q rest → Took D W F ts (build q) rest
-took_as {A} {B} D E {W} {V} {F} {ts} {rest} {q} build a t = record {
-  taken = t.taken;
-  whole = t.whole;
-  no_end = t.no_end;
-  derives = a.intro q t.taken t.derives;
-  within = λ l. a.to q t.taken t.derives l (t.within l);
-  only = λ y us r other d e h f.
-      let p = a.cases y us r d (same_head us r t.taken other rest ts e h t.whole) in
-      let o = t.only p.0 us r other p.2 e h f in
-      (p.1 ∙ ap build o.0, o.1);
-}
-
-pub beyond_as : {A B : Type 0} (D : Lang A) (E : Lang B) (build : B → A) (why : Why) (before rest : Tokens) → ((q : B) (us : Tokens) → E q us → D (build q) us) → Beyond E before rest why → Beyond D before rest why
-beyond_as D E build Unexpected before rest intro b = tt
-beyond_as D E build (Over l) before rest intro b = record { next = b.next; later = b.later; rest_is = b.rest_is; tree = build b.tree; after = b.after; known = b.known; passes = b.passes; goes_on = intro b.tree (before ++ (b.next ∷ b.after)) b.goes_on }
+pub beyond_as : {A B : Type 0} (D : Lang A) (E : Lang B) (W : Bound A) (V : Bound B) (build : B → A) (why : Why) (before rest : Tokens) →
+    ((q : B) (us : Tokens) → E q us → D (build q) us) → ((q : B) (us : Tokens) → E q us → (l : Limit) → V l q → W l (build q)) → Beyond E V before rest why → Beyond D W before rest why
+beyond_as D E W V build Unexpected before rest intro to b = tt
+beyond_as D E W V build (Over l) before rest intro to b = record { others = λ m n. to b.tree (before ++ (b.next ∷ b.after)) b.goes_on m (b.others m n); next = b.next; later = b.later; rest_is = b.rest_is; tree = build b.tree; after = b.after; known = b.known; passes = b.passes; goes_on = intro b.tree (before ++ (b.next ∷ b.after)) b.goes_on }
 
 pub lead_as : {A B : Type 0} {D : Lang A} {E : Lang B} {W : Bound A} {V : Bound B} {before : Tokens} (build : B → A) →
     ((q : B) (us : Tokens) → E q us → D (build q) us) → ((q : B) (us : Tokens) → E q us → (l : Limit) → V l q → W l (build q)) → Lead E V before → Lead D W before
@@ -273,27 +252,80 @@ lead_as build intro to u = record {
   within = λ l. to u.tree (u.start ++ u.more) u.goes l (u.within l);
 }
 
-pub stopped_as : {A B : Type 0} (D : Lang A) (E : Lang B) {W : Bound A} {V : Bound B} {F : Follow} {ts : Tokens} {why : Why} {left : ℕ} (build : B → A) →
-    Along D E W V ts build → Stopped E V F ts why left → Stopped D W F ts why left
-stopped_as {A} {B} D E {W} {V} {F} {ts} {why} {left} build a u = record {
+-- the trees of D that begin with these tokens and the next one are built from those of E, which G lets end here
+abbrev pub BuildsOn : {A B : Type 0} → Lang A → Lang B → Follow → Follow → Tokens → Tokens → (B → A) → Type 0
+BuildsOn {A} {B} D E F G taken rest build = (y : A) (us r other : Tokens) → D y us → us ++ r ≡ taken ++ other → head other ≡ head rest → F (head r) → (q : B) × (y ≡ build q) × E q us × G (head r)
+
+pub took_on : {A B : Type 0} (D : Lang A) (E : Lang B) {W : Bound A} {V : Bound B} {F G : Follow} {ts rest : Tokens} {q : B} (build : B → A) →
+    ((q : B) (us : Tokens) → E q us → D (build q) us) → ((q : B) (us : Tokens) → E q us → (l : Limit) → V l q → W l (build q)) →
+    (t : Took E V G ts q rest) → BuildsOn D E F G t.taken rest build → Took D W F ts (build q) rest
+took_on D E {q = q} build intro to t cases = record {
+  taken = t.taken;
+  whole = t.whole;
+  no_end = t.no_end;
+  derives = intro q t.taken t.derives;
+  within = λ l. to q t.taken t.derives l (t.within l);
+  only = λ y us r other d e h f.
+      let p = cases y us r other d e h f in
+      let o = t.only p.0 us r other p.2 e h p.3 in
+      (p.1 ∙ ap build o.0, o.1);
+}
+
+pub stopped_on : {A B : Type 0} (D : Lang A) (E : Lang B) {W : Bound A} {V : Bound B} {F G : Follow} {ts : Tokens} {why : Why} {left : ℕ} (build : B → A) →
+    ((q : B) (us : Tokens) → E q us → D (build q) us) → ((q : B) (us : Tokens) → E q us → (l : Limit) → V l q → W l (build q)) → ((q : B) (us : Tokens) → E q us → (l : Limit) → W l (build q) → V l q) →
+    (u : Stopped E V G ts why left) → BuildsOn D E F G u.before u.rest build → Stopped D W F ts why left
+stopped_on {A} D E {W} {V} {F} {G} {ts} {why} build intro to from u cases = record {
   before = u.before;
   rest = u.rest;
   whole = u.whole;
-  back = u.back;
   left_is = u.left_is;
-  placed = u.placed;
   known = u.known;
   tree = build u.tree;
   more = u.more;
   no_end = u.no_end;
-  goes = a.intro u.tree (u.before ++ u.more) u.goes;
-  within = λ l. a.to u.tree (u.before ++ u.more) u.goes (early l) (u.within l);
-  lead = lead_as build a.intro a.to u.lead;
+  goes = intro u.tree (u.before ++ u.more) u.goes;
+  within = λ l. to u.tree (u.before ++ u.more) u.goes (early l) (u.within l);
+  lead = lead_as build intro to u.lead;
   stuck = λ y us r other d e h f w.
-      let p = a.cases y us r d (same_head us r u.before other u.rest ts e h u.whole) in
-      u.stuck p.0 us r other p.2 e h f (counts_by why (λ l v. let P : A → Type 0 = W l in a.from p.0 us p.2 l (subst P p.1 v)) w);
-  beyond = beyond_as D E build why u.before u.rest a.intro u.beyond;
+      let p = cases y us r other d e h f in
+      u.stuck p.0 us r other p.2 e h p.3 (counts_by why (λ l v. let P : A → Type 0 = W l in from p.0 us p.2 l (subst P p.1 v)) w);
+  beyond = beyond_as D E W V build why u.before u.rest intro to u.beyond;
 }
+
+-- the trees of D that begin as ts does, and may end, are built from those of E, which G lets end here
+pub record When {A B : Type 0} (D : Lang A) (E : Lang B) (W : Bound A) (V : Bound B) (F G : Follow) (ts : Tokens) (build : B → A) : Type 0 where
+  pub intro : (q : B) (us : Tokens) → E q us → D (build q) us
+  pub cases : (y : A) (us r : Tokens) → D y us → head (us ++ r) ≡ head ts → F (head r) → (q : B) × (y ≡ build q) × E q us × G (head r)
+  pub to : (q : B) (us : Tokens) → E q us → (l : Limit) → V l q → W l (build q)
+  pub from : (q : B) (us : Tokens) → E q us → (l : Limit) → W l (build q) → V l q
+
+pub took_when : {A B : Type 0} (D : Lang A) (E : Lang B) {W : Bound A} {V : Bound B} {F G : Follow} {ts rest : Tokens} {q : B} (build : B → A) →
+    When D E W V F G ts build → Took E V G ts q rest → Took D W F ts (build q) rest
+took_when D E {F = F} {ts = ts} {rest = rest} build a t =
+    took_on D E {F = F} build a.intro a.to t (λ y us r other d e h f. a.cases y us r d (same_head us r t.taken other rest ts e h t.whole) f)
+
+pub stopped_when : {A B : Type 0} (D : Lang A) (E : Lang B) {W : Bound A} {V : Bound B} {F G : Follow} {ts : Tokens} {why : Why} {left : ℕ} (build : B → A) →
+    When D E W V F G ts build → Stopped E V G ts why left → Stopped D W F ts why left
+stopped_when D E {F = F} {ts = ts} build a u =
+    stopped_on D E {F = F} build a.intro a.to a.from u (λ y us r other d e h f. a.cases y us r d (same_head us r u.before other u.rest ts e h u.whole) f)
+
+pub when_along : {A B : Type 0} {D : Lang A} {E : Lang B} {W : Bound A} {V : Bound B} (F : Follow) {ts : Tokens} {build : B → A} → Along D E W V ts build → When D E W V F F ts build
+when_along F a = record { intro = a.intro; cases = λ y us r d h f. let p = a.cases y us r d h in (p.0, p.1, p.2, f); to = a.to; from = a.from }
+
+pub took_as : {A B : Type 0} (D : Lang A) (E : Lang B) {W : Bound A} {V : Bound B} {F : Follow} {ts rest : Tokens} {q : B} (build : B → A) →
+    Along D E W V ts build → Took E V F ts q rest → Took D W F ts (build q) rest
+took_as D E {F = F} build a t = took_when D E build (when_along F a) t
+
+pub stopped_as : {A B : Type 0} (D : Lang A) (E : Lang B) {W : Bound A} {V : Bound B} {F : Follow} {ts : Tokens} {why : Why} {left : ℕ} (build : B → A) →
+    Along D E W V ts build → Stopped E V F ts why left → Stopped D W F ts why left
+stopped_as D E {F = F} build a u = stopped_when D E build (when_along F a) u
+
+-- what lets less follow
+pub took_before : {A : Type 0} {D : Lang A} {W : Bound A} {F G : Follow} {ts rest : Tokens} {x : A} → ((o : Option Lexeme) → G o → F o) → Took D W F ts x rest → Took D W G ts x rest
+took_before {D = D} {G = G} less t = took_on D D {F = G} (λ y. y) (λ q us d. d) (λ q us d l v. v) t (λ y us r other d e h f. (y, refl, d, less (head r) f))
+
+pub stopped_before : {A : Type 0} {D : Lang A} {W : Bound A} {F G : Follow} {ts : Tokens} {why : Why} {left : ℕ} → ((o : Option Lexeme) → G o → F o) → Stopped D W F ts why left → Stopped D W G ts why left
+stopped_before {D = D} {G = G} less u = stopped_on D D {F = G} (λ y. y) (λ q us d. d) (λ q us d l v. v) (λ q us d l v. v) u (λ y us r other d e h f. (y, refl, d, less (head r) f))
 
 -- all tokens begin a tree within all limits
 pub lead_here : {A : Type 0} {D : Lang A} {W : Bound A} (before : Tokens) (x : A) (more : Tokens) → D x (before ++ more) → AreKnown more → IsWithin W x → Lead D W before
@@ -309,16 +341,14 @@ lead_here before x more goes known within = record {
   within = within;
 }
 
--- no tree of D begins as ts does
-pub stopped_here : {A : Type 0} {D : Lang A} {W : Bound A} {F : Follow} {ts : Tokens} → Has D W →
-    ((y : A) (us r : Tokens) → D y us → head (us ++ r) ≡ head ts → ⊥) → Stopped D W F ts Unexpected (length ts)
-stopped_here {A} {D} {W} {F} {ts} x none = record {
+-- each tree that begins here is over the limit
+pub over_here : {A : Type 0} {D : Lang A} {W : Bound A} {F : Follow} {ts : Tokens} (why : Why) → Has D W →
+    ((y : A) (us r : Tokens) → D y us → head (us ++ r) ≡ head ts → Counts why (λ l. W l y) → ⊥) → Beyond D W [] ts why → Stopped D W F ts why (length ts)
+over_here {ts = ts} why x none beyond = record {
   before = [];
   rest = ts;
   whole = refl;
-  back = 0;
-  left_is = none_back (length ts);
-  placed = refl;
+  left_is = refl;
   known = x.known;
   tree = x.tree;
   more = x.tokens;
@@ -326,190 +356,28 @@ stopped_here {A} {D} {W} {F} {ts} x none = record {
   goes = x.is;
   within = λ l. x.within (early l);
   lead = lead_here [] x.tree x.tokens x.is x.known x.within;
-  stuck = λ y us r other d e h f w. none y us r d (ap head e ∙ h);
-  beyond = tt;
+  stuck = λ y us r other d e h f w. none y us r d (ap head e ∙ h) w;
+  beyond = beyond;
 }
 
--- ---- one after another
-
--- The items xs were read. All that begins so begins with these items.
-pub record Run {A : Type 0} (D : Lang A) (V : Bound (List A)) (F : Follow) (ts : Tokens) (xs : List A) (rest : Tokens) : Type 0 where
-  pub taken : Tokens
-  pub whole : ts ≡ taken ++ rest
-  pub derives : each D xs taken
-  pub within : IsWithin V xs
-  pub no_end : NoEnd taken
-  pub only : (ys : List A) (us r other : Tokens) → each D ys us → us ++ r ≡ taken ++ other → head other ≡ head rest → F (head r) →
-      (zs : List A) × (vs : Tokens) × (ys ≡ xs ++ zs) × each D zs vs × (vs ++ r ≡ other)
-
-pub each-append : {A : Type 0} (D : Lang A) (xs zs : List A) (a b : Tokens) → each D xs a → each D zs b → each D (xs ++ zs) (a ++ b)
-each-append D [] zs a b m n = let P : Tokens → Type 0 = λ l. each D zs (l ++ b) in subst P (sym m) n
-each-append D (x ∷ xs) zs a b m n = record {
-  front = m.front;
-  back = m.back ++ b;
-  parts = ap (λ l. l ++ b) m.parts ∙ append_assoc m.front m.back b;
-  first = m.first;
-  second = each-append D xs zs m.back b m.second n;
-}
-
-pub each-one : {A : Type 0} (D : Lang A) (x : A) (a : Tokens) → D x a → each D (x ∷ []) a
-each-one D x a d = record { front = a; back = []; parts = sym (append-nil a); first = d; second = refl }
-
-pub run_start : {A : Type 0} (D : Lang A) (V : Bound (List A)) (F : Follow) (ts : Tokens) → IsWithin V [] → Run D V F ts [] ts
-run_start D V F ts v = record {
-  taken = [];
-  whole = refl;
-  derives = refl;
-  within = v;
-  no_end = tt;
-  only = λ ys us r other m e h f. (ys, us, refl, m, e);
-}
-
--- what the items after it and the end let follow lets an item end
-abbrev pub Turns : {A : Type 0} → Lang A → Follow → Follow → Type 0
-Turns D F G = (zs : List _) (vs r : Tokens) → each D zs vs → F (head r) → G (head (vs ++ r))
+-- no tree of D begins as ts does
+pub stopped_here : {A : Type 0} {D : Lang A} {W : Bound A} {F : Follow} {ts : Tokens} → Has D W →
+    ((y : A) (us r : Tokens) → D y us → head (us ++ r) ≡ head ts → ⊥) → Stopped D W F ts Unexpected (length ts)
+stopped_here x none = over_here Unexpected x (λ y us r d h w. none y us r d h) tt
 
 abbrev pub NoneAt : {A : Type 0} → Lang A → Tokens → Type 0
 NoneAt {A} D rest = (y : A) (us r : Tokens) → D y us → head (us ++ r) ≡ head rest → ⊥
 
-end_next : {A : Type 0} (D : Lang A) (rest : Tokens) → NoneAt D rest →
-    (zs : List A) (vs r other : Tokens) → each D zs vs → vs ++ r ≡ other → head other ≡ head rest → (zs ≡ []) × (r ≡ other)
-end_next D rest none [] vs r other m e h = (refl, ap (λ l. l ++ r) (sym m) ∙ e)
-end_next D rest none (z ∷ zs) vs r other m e h =
-    absurd (none z m.front (m.back ++ r) m.first (ap head (sym (append_assoc m.front m.back r) ∙ ap (λ l. l ++ r) (sym m.parts) ∙ e) ∙ h))
-
-stopped_next : {A : Type 0} (D : Lang A) (V : Bound (List A)) (W : Bound A) (F G : Follow) {rest : Tokens} {why : Why} {left : ℕ} (xs : List A) → Turns D F G → (F (head rest) → ⊥) →
-    ((l : Limit) (z : A) (zs : List A) → V l (xs ++ z ∷ zs) → W l z) → (u : Stopped D W G rest why left) →
-    (zs : List A) (vs r other : Tokens) → each D zs vs → vs ++ r ≡ u.before ++ other → head (u.before ++ other) ≡ head rest → head other ≡ head u.rest → F (head r) → Counts why (λ l. V l (xs ++ zs)) → ⊥
-stopped_next D V W F G {rest} {why} xs link goes_on back u [] vs r other m e h1 h f w =
-    let P : Option Lexeme → Type 0 = F in goes_on (subst P (ap head (ap (λ l. l ++ r) (sym m) ∙ e) ∙ h1) f)
-stopped_next D V W F G {rest} {why} xs link goes_on back u (z ∷ zs) vs r other m e h1 h f w =
-    u.stuck z m.front (m.back ++ r) other m.first (sym (append_assoc m.front m.back r) ∙ ap (λ l. l ++ r) (sym m.parts) ∙ e) h (link zs m.back r m.second f) (counts_by why (λ l. back l z zs) w)
-
-run_next : {A : Type 0} (D : Lang A) (W : Bound A) (F G : Follow) {rest rest' : Tokens} (xs : List A) {x : A} → Turns D F G → (F (head rest) → ⊥) → (u : Took D W G rest x rest') →
-    (zs : List A) (vs r other : Tokens) → each D zs vs → vs ++ r ≡ u.taken ++ other → head (u.taken ++ other) ≡ head rest → head other ≡ head rest' → F (head r) →
-    (ys : List A) → ys ≡ xs ++ zs → (zs : List A) × (vs : Tokens) × (ys ≡ (xs ++ x ∷ []) ++ zs) × each D zs vs × (vs ++ r ≡ other)
-run_next D W F G {rest} xs link goes_on u [] vs r other m e h1 h f ys w =
-    let P : Option Lexeme → Type 0 = F in absurd (goes_on (subst P (ap head (ap (λ l. l ++ r) (sym m) ∙ e) ∙ h1) f))
-run_next D W F G {rest} {rest'} xs {x} link goes_on u (z ∷ zs) vs r other m e h1 h f ys w =
-    let o = u.only z m.front (m.back ++ r) other m.first (sym (append_assoc m.front m.back r) ∙ ap (λ l. l ++ r) (sym m.parts) ∙ e) h (link zs m.back r m.second f) in
-    (zs, m.back, w ∙ ap (λ a. xs ++ a ∷ zs) o.0 ∙ sym (append_assoc xs (x ∷ []) zs), m.second, o.1)
-
-pub run_more : {A : Type 0} {D : Lang A} {V : Bound (List A)} {W : Bound A} {F G : Follow} {ts rest rest' : Tokens} {xs : List A} {x : A} →
-    Turns D F G → (F (head rest) → ⊥) → IsWithin V (xs ++ x ∷ []) → Run D V F ts xs rest → Took D W G rest x rest' → Run D V F ts (xs ++ x ∷ []) rest'
-run_more {A} {D} {V} {W} {F} {G} {ts} {rest} {rest'} {xs} {x} link goes_on v t u = record {
-  taken = t.taken ++ u.taken;
-  whole = t.whole ∙ ap (λ l. t.taken ++ l) u.whole ∙ sym (append_assoc t.taken u.taken rest');
-  no_end = NoEnd-append t.taken u.taken t.no_end u.no_end;
-  derives = each-append D xs (x ∷ []) t.taken u.taken t.derives (each-one D x u.taken u.derives);
-  within = v;
-  only = λ ys us r other m e h f.
-      let e1 : us ++ r ≡ t.taken ++ (u.taken ++ other) = e ∙ append_assoc t.taken u.taken other in
-      let h1 : head (u.taken ++ other) ≡ head rest = head-append u.taken other rest' h ∙ ap head (sym u.whole) in
-      let p = t.only ys us r (u.taken ++ other) m e1 h1 f in
-      run_next D W F G xs link goes_on u p.0 p.1 r other p.3 p.4 h1 h f ys p.2;
-}
-
-pub beyond_next : {A : Type 0} (D : Lang A) (why : Why) (xs : List A) (taken before rest : Tokens) → each D xs taken → Beyond D before rest why → Beyond (each D) (taken ++ before) rest why
-beyond_next D Unexpected xs taken before rest m b = tt
-beyond_next D (Over l) xs taken before rest m b = record {
-  next = b.next;
-  later = b.later;
-  rest_is = b.rest_is;
-  tree = xs ++ b.tree ∷ [];
-  after = b.after;
-  known = b.known;
-  passes = b.passes;
-  goes_on = let P : Tokens → Type 0 = λ l. each D (xs ++ b.tree ∷ []) l in
-      subst P (sym (append_assoc taken before (b.next ∷ b.after))) (each-append D xs (b.tree ∷ []) taken (before ++ (b.next ∷ b.after)) m (each-one D b.tree (before ++ (b.next ∷ b.after)) b.goes_on));
-}
-
-lead_next : {A : Type 0} {D : Lang A} {V : Bound (List A)} {W : Bound A} (xs : List A) (taken before : Tokens) →
-    ((l : Limit) (z : A) → W l z → V l (xs ++ z ∷ [])) → each D xs taken → Lead D W before → Lead (each D) V (taken ++ before)
-lead_next {D = D} xs taken before fits m u = record {
-  start = taken ++ u.start;
-  ahead = u.ahead;
-  parts = ap (λ l. taken ++ l) u.parts ∙ sym (append_assoc taken u.start u.ahead);
-  leads = u.leads;
-  tree = xs ++ u.tree ∷ [];
-  more = u.more;
-  goes = let P : Tokens → Type 0 = λ l. each D (xs ++ u.tree ∷ []) l in
-      subst P (sym (append_assoc taken u.start u.more)) (each-append D xs (u.tree ∷ []) taken (u.start ++ u.more) m (each-one D u.tree (u.start ++ u.more) u.goes));
-  known = u.known;
-  within = λ l. fits l u.tree (u.within l);
-}
-
--- an item stops
-pub run_stopped : {A : Type 0} {D : Lang A} {V : Bound (List A)} {W : Bound A} {F G : Follow} {ts rest : Tokens} {xs : List A} {why : Why} {left : ℕ} →
-    Turns D F G → (F (head rest) → ⊥) → ((l : Limit) (z : A) → W l z → V l (xs ++ z ∷ [])) → ((l : Limit) (z : A) (zs : List A) → V l (xs ++ z ∷ zs) → W l z) →
-    Run D V F ts xs rest → Stopped D W G rest why left → Stopped (each D) V F ts why left
-run_stopped {A} {D} {V} {W} {F} {G} {ts} {rest} {xs} {why} {left} link goes_on fits back t u = record {
-  before = t.taken ++ u.before;
-  rest = u.rest;
-  whole = t.whole ∙ ap (λ l. t.taken ++ l) u.whole ∙ sym (append_assoc t.taken u.before u.rest);
-  back = u.back;
-  left_is = u.left_is;
-  placed = stands_after why t.taken u.before u.back u.placed;
-  known = u.known;
-  tree = xs ++ u.tree ∷ [];
-  more = u.more;
-  no_end = NoEnd-append t.taken u.before t.no_end u.no_end;
-  goes = let P : Tokens → Type 0 = λ l. each D (xs ++ u.tree ∷ []) l in
-      subst P (sym (append_assoc t.taken u.before u.more)) (each-append D xs (u.tree ∷ []) t.taken (u.before ++ u.more) t.derives (each-one D u.tree (u.before ++ u.more) u.goes));
-  within = λ l. fits (early l) u.tree (u.within l);
-  lead = lead_next xs t.taken u.before fits t.derives u.lead;
-  stuck = λ ys us r other m e h f w.
-      let e1 : us ++ r ≡ t.taken ++ (u.before ++ other) = e ∙ append_assoc t.taken u.before other in
-      let h1 : head (u.before ++ other) ≡ head rest = head-append u.before other u.rest h ∙ ap head (sym u.whole) in
-      let p = t.only ys us r (u.before ++ other) m e1 h1 f in
-      stopped_next D V W F G xs link goes_on back u p.0 p.1 r other p.3 p.4 h1 h f (counts_by why (λ l v. let P : List A → Type 0 = V l in subst P p.2 v) w);
-  beyond = beyond_next D why xs t.taken u.before u.rest t.derives u.beyond;
-}
-
-no_item : {A : Type 0} (D : Lang A) (V : Bound (List A)) (F : Follow) (rest : Tokens) (why : Why) (xs : List A) → (F (head rest) → ⊥) →
-    ((z : A) (zs : List A) (us r : Tokens) → D z us → head (us ++ r) ≡ head rest → Counts why (λ l. V l (xs ++ z ∷ zs)) → ⊥) →
-    (zs : List A) (vs r other : Tokens) → each D zs vs → vs ++ r ≡ other → head other ≡ head rest → F (head r) → Counts why (λ l. V l (xs ++ zs)) → ⊥
-no_item D V F rest why xs goes_on none [] vs r other m e h f w =
-    let P : Option Lexeme → Type 0 = F in goes_on (subst P (ap head (ap (λ l. l ++ r) (sym m) ∙ e) ∙ h) f)
-no_item D V F rest why xs goes_on none (z ∷ zs) vs r other m e h f w =
-    none z zs m.front (m.back ++ r) m.first (ap head (sym (append_assoc m.front m.back r) ∙ ap (λ l. l ++ r) (sym m.parts) ∙ e) ∙ h) w
-
--- no item can come next: none begins so, or each is over the limit
-pub run_full : {A : Type 0} {D : Lang A} {V : Bound (List A)} {F : Follow} {ts rest : Tokens} {xs : List A} (why : Why) →
-    (F (head rest) → ⊥) → ((z : A) (zs : List A) (us r : Tokens) → D z us → head (us ++ r) ≡ head rest → Counts why (λ l. V l (xs ++ z ∷ zs)) → ⊥) →
-    Beyond D [] rest why → Run D V F ts xs rest → Stopped (each D) V F ts why (length rest)
-run_full {A} {D} {V} {F} {ts} {rest} {xs} why goes_on none beyond t = record {
-  before = t.taken;
-  rest = rest;
-  whole = t.whole;
-  back = 0;
-  left_is = none_back (length rest);
-  placed = stands_here why t.taken;
-  known = tt;
-  tree = xs;
-  more = [];
-  no_end = t.no_end;
-  goes = let P : Tokens → Type 0 = λ l. each D xs l in subst P (sym (append-nil t.taken)) t.derives;
-  within = λ l. t.within (early l);
-  lead = lead_here t.taken xs [] (let P : Tokens → Type 0 = λ l. each D xs l in subst P (sym (append-nil t.taken)) t.derives) tt t.within;
-  stuck = λ ys us r other m e h f w.
-      let p = t.only ys us r other m e h f in
-      no_item D V F rest why xs goes_on none p.0 p.1 r other p.3 p.4 h f (counts_by why (λ l v. let P : List A → Type 0 = V l in subst P p.2 v) w);
-  beyond = let P : Tokens → Type 0 = λ l. Beyond (each D) l rest why in subst P (append-nil t.taken) (beyond_next D why xs t.taken [] rest t.derives beyond);
-}
-
-pub run_end : {A : Type 0} {D : Lang A} {V : Bound (List A)} {F : Follow} {ts rest : Tokens} {xs : List A} →
-    NoneAt D rest → Run D V F ts xs rest → Took (each D) V F ts xs rest
-run_end {A} {D} {V} {F} {ts} {rest} {xs} none t = record {
-  taken = t.taken;
-  whole = t.whole;
-  derives = t.derives;
-  within = t.within;
-  no_end = t.no_end;
-  only = λ ys us r other m e h f.
-      let p = t.only ys us r other m e h f in
-      let q = end_next D rest none p.0 p.1 r other p.3 p.4 h in
-      (p.2 ∙ ap (λ l. xs ++ l) q.0 ∙ append-nil xs, q.1);
+-- nothing is taken
+pub took_nothing : {A : Type 0} (D : Lang A) (W : Bound A) (F : Follow) (ts : Tokens) (x : A) → D x [] → IsWithin W x →
+    ((y : A) (us r : Tokens) → D y us → head (us ++ r) ≡ head ts → F (head r) → (y ≡ x) × (us ≡ [])) → Took D W F ts x ts
+took_nothing D W F ts x d w single = record {
+  taken = [];
+  whole = refl;
+  derives = d;
+  within = w;
+  no_end = tt;
+  only = λ y us r other m e h f. let p = single y us r m (ap head e ∙ h) f in (p.0, ap (λ l. l ++ r) (sym p.1) ∙ e);
 }
 
 -- ---- one token
@@ -598,6 +466,13 @@ failed_mark f = failed_by (λ why left s. stopped_mark s) f
 pub failed_as : {A B : Type 0} (D : Lang A) (E : Lang B) {W : Bound A} {V : Bound B} {F : Follow} {ts : Tokens} {e : Fail} (build : B → A) → Along D E W V ts build → Failed E V F ts e → Failed D W F ts e
 failed_as D E build a f = failed_by (λ why left s. stopped_as D E build a s) f
 
+pub failed_when : {A B : Type 0} (D : Lang A) (E : Lang B) {W : Bound A} {V : Bound B} {F G : Follow} {ts : Tokens} {e : Fail} (build : B → A) →
+    When D E W V F G ts build → Failed E V G ts e → Failed D W F ts e
+failed_when D E build a f = failed_by (λ why left s. stopped_when D E build a s) f
+
+pub failed_before : {A : Type 0} {D : Lang A} {W : Bound A} {F G : Follow} {ts : Tokens} {e : Fail} → ((o : Option Lexeme) → G o → F o) → Failed D W F ts e → Failed D W G ts e
+failed_before less f = failed_by (λ why left s. stopped_before less s) f
+
 -- any token may follow
 pub free : {B : Type 0} (E : Lang B) (G : Follow) → Links E G Always
 free E G = λ y us r e f. tt
@@ -614,13 +489,24 @@ pub passes : {T A : Type 0} (show : T → A) (D E : Lang A) (W V : Bound A) (F G
 passes show D E W V F G ts us (Ok x) f g s = f (show x.0) x.1.now s
 passes show D E W V F G ts us (Err e) f g s = g e s
 
+-- no more tokens are left than there were
+pub took_shorter : {A : Type 0} {D : Lang A} {W : Bound A} {F : Follow} {ts rest : Tokens} {x : A} → Took D W F ts x rest → length rest ≤ length ts
+took_shorter {rest = rest} t = omega (arith, ap length t.whole, length-append t.taken rest)
+
+pub lengths : (us a b : Tokens) → us ≡ a ++ b → length us ≡ length a + length b
+lengths us a b e = ap length e ∙ length-append a b
+
 -- a token is one of those that were there
 pub token_smaller : (k : Lexical) (F : Follow) (ts rest : Tokens) (at : Spot) → Took (Token k) Free F ts at rest → length rest < length ts
 token_smaller k F ts rest at s = omega (arith, ap length s.whole, length-append s.taken rest, ap length s.derives)
 
+-- so is the mark that a part begins with
+pub mark_smaller : {A : Type 0} (k : Lexical) (E : Lang A) (W : Bound A) (F : Follow) (ts rest : Tokens) (x : A) → Took (λ y. one k ⨾ E y) W F ts x rest → length rest < length ts
+mark_smaller k E W F ts rest x s = omega (arith, ap length s.whole, length-append s.taken rest, ap length s.derives.parts, length-append s.derives.front s.derives.back, ap length s.derives.first.1)
+
 -- the next token is refused
-pub refuses : {T A : Type 0} (show : T → A) (D : Lang A) (W : Bound A) (F : Follow) (ts : Tokens) (r : Result (T × Bor Tokens) Fail) →
-    r ≡ Err (Refused Unexpected (length ts)) → Stopped D W F ts Unexpected (length ts) → Reads show D W F ts r
+pub refuses : {T A : Type 0} (show : T → A) (D : Lang A) (W : Bound A) (F : Follow) (ts : Tokens) (r : Result (T × Bor Tokens) Fail) {why : Why} {left : ℕ} →
+    r ≡ Err (Refused why left) → Stopped D W F ts why left → Reads show D W F ts r
 refuses {T} show D W F ts r e s = let P : Result (T × Bor Tokens) Fail → Type 0 = Reads show D W F ts in subst P (sym e) (record { why = s })
 
 -- ---- names

@@ -1,13 +1,15 @@
 -- Tokens stand for one tree at most: sequences, choices, loops and optional parts.
-use Rattle.std.proofs.Common.{◌≡◌, ℕ, ◌++◌, List, [], ◌∷◌, Option, Some, None, refl, sym, ap, ◌∙◌, append_assoc, subst}
+use Rattle.std.proofs.Common.{◌≡◌, ◌++◌, List, [], ◌∷◌, Option, Some, None, refl, sym, ap, ◌∙◌, append_assoc, subst}
 use Rattle.ae_text.specs.declared.refusal.Spot.{Spot}
-use Rattle.ae_text.specs.declared.token.Sign.TheVariants as sign
 use Rattle.ae_code.specs.declared.lexeme.Lexeme.{Lexeme}
 use Rattle.ae_code.specs.declared.lexeme.Lexical.{Lexical}
-use Rattle.ae_code.specs.declared.lexeme.Lexical.TheVariants as tok
-use Rattle.ae_code.specs.Grammar.{Tokens, ◌⨾◌, nothing, each, further, separated, listed, name}
-use Rattle.ae_reading.specs.Reads.{head, Always, Is, Isnt, IsName, Token, Mark}
-use Rattle.ae_reading.proofs.ReadsLemmas.{Lang, Follow, Both, Links, name_token, name_of_token}
+use Rattle.ae_code.specs.Grammar.{Tokens, each, further, separated, listed, name}
+use Rattle.ae_reading.specs.Reads.{head, Always, Is, Isnt, Token, Mark, chain}
+use Rattle.ae_reading.proofs.ReadsLemmas.{Lang, Follow, Both, After, Links, name_token, name_of_token}
+use Rattle.ae_reading.proofs.Begins.{Begins, begins_as, begins_mark, links_by, of_kind, is_isnt}
+use Rattle.ae_reading.proofs.Chains.{chain_turns}
+use Rattle.ae_reading.proofs.Runs.{Items, each_chain, each_turns}
+use Rattle.ae_reading.proofs.Parts.{Comma, begins_further, optional, Whole, joined, separated_cases}
 
 -- two texts that begin with trees of D, and are one, begin with one tree
 abbrev pub Unique : {A : Type 0} → Lang A → Follow → Type 0
@@ -15,57 +17,12 @@ Unique {A} D F = (x y : A) (us vs r s : Tokens) → D x us → D y vs → us ++ 
 
 -- ---- the first token of a tree
 
--- what the first token of each tree is
-abbrev pub Begins : {A : Type 0} → Lang A → Follow → Type 0
-Begins {A} D P = (x : A) (us r : Tokens) → D x us → P (head (us ++ r))
-
 -- where all may end, no tree begins
 abbrev pub Apart : {A : Type 0} → Lang A → Follow → Type 0
 Apart {A} D F = (x : A) (us r : Tokens) → D x us → F (head (us ++ r)) → ⊥
 
-pub begins_as : {A : Type 0} (D : Lang A) (P Q : Follow) → ((o : Option Lexeme) → P o → Q o) → Begins D P → Begins D Q
-begins_as D P Q f b x us r d = f (head (us ++ r)) (b x us r d)
-
-pub begins_token : (k : Lexical) → Begins (Token k) (Is k)
-begins_token k at us r d = let P : Tokens → Type 0 = λ l. Is k (head (l ++ r)) in subst P (sym d) refl
-
-pub begins_mark : (k : Lexical) → Begins (Mark k) (Is k)
-begins_mark k x us r d = begins_token k d.0 us r d.1
-
-pub begins_name : Begins name IsName
-begins_name x us r d = let P : Tokens → Type 0 = λ l. IsName (head (l ++ r)) in subst P (sym d) (x.name, refl)
-
-pub begins_both : {A B : Type 0} (D : Lang A) (E : A → Lang B) (P : Follow) → Begins D P → Begins (λ (p : A × B). D p.0 ⨾ E p.0 p.1) P
-begins_both D E P b x us r d =
-    let Q : Tokens → Type 0 = λ l. P (head l) in
-    subst Q (sym (append_assoc d.front d.back r) ∙ ap (λ l. l ++ r) (sym d.parts)) (b x.0 d.front (d.back ++ r) d.first)
-
-pub links_by : {A : Type 0} (D : Lang A) (P F : Follow) → ((o : Option Lexeme) → P o → F o) → Begins D P → (G : Follow) → Links D G F
-links_by D P F f b G x us r d g = begins_as D P F f b x us r d
-
 pub apart_by : {A : Type 0} (D : Lang A) (P F : Follow) → ((o : Option Lexeme) → P o → F o → ⊥) → Begins D P → Apart D F
 apart_by D P F f b x us r d g = f (head (us ++ r)) (b x us r d) g
-
--- what holds of each token of a kind
-pub of_kind : (k : Lexical) (P : Follow) → ((at : Spot) → P (Some (record { kind = k; at = at }))) → (o : Option Lexeme) → Is k o → P o
-of_kind k P f None i = absurd i
-of_kind k P f (Some t) i = let Q : Lexical → Type 0 = λ j. P (Some (record { kind = j; at = t.at })) in subst Q (sym i) (f t.at)
-
-pub of_other : (k j : Lexical) → (k ≡ j → ⊥) → (o : Option Lexeme) → Is k o → Isnt j o
-of_other k j f None i = tt
-of_other k j f (Some t) i = λ e. f (sym i ∙ e)
-
-pub of_name : (j : Lexical) → ((n : ℕ) → tok.Name n ≡ j → ⊥) → (o : Option Lexeme) → IsName o → Isnt j o
-of_name j f None i = absurd i
-of_name j f (Some t) i = λ e. f i.0 (sym i.1 ∙ e)
-
-pub not_both : (k j : Lexical) → (k ≡ j → ⊥) → (o : Option Lexeme) → Is k o → Is j o → ⊥
-not_both k j f None i h = i
-not_both k j f (Some t) i h = f (sym i ∙ h)
-
-pub is_and_isnt : (k : Lexical) (o : Option Lexeme) → Is k o → Isnt k o → ⊥
-is_and_isnt k None i h = i
-is_and_isnt k (Some t) i h = h i
 
 -- ---- single tokens
 
@@ -85,10 +42,6 @@ pub unique_name : Unique name Always
 unique_name = unique_token name_token (λ x y e. name_of_token y x e)
 
 -- ---- sequences
-
--- the language of the second part may depend on the first
-abbrev pub After : {A B : Type 0} → Lang A → (A → Lang B) → Lang (A × B)
-After D E p = D p.0 ⨾ E p.0 p.1
 
 pub one_text : (us vs a b c d r s : Tokens) → us ≡ a ++ b → vs ≡ c ++ d → us ++ r ≡ vs ++ s → a ++ (b ++ r) ≡ c ++ (d ++ s)
 one_text us vs a b c d r s p q same = sym (append_assoc a b r) ∙ ap (λ l. l ++ r) (sym p) ∙ same ∙ ap (λ l. l ++ s) q ∙ append_assoc c d s
@@ -144,11 +97,6 @@ pub by_first : {T : Type 0} (Form : T → Type 0) (form : (t : T) → Lang (Form
 by_first Form form F form_of first t u q p us vs r s d e same f g =
     let both : Some t ≡ Some u = sym (first t q us r d f) ∙ ap (λ l. form_of (head l)) same ∙ first u p vs s e g in cc
 
--- a part that may be left out
-abbrev pub optional : {A : Type 0} → Lang A → Lang (Option A)
-optional D None = nothing
-optional D (Some x) = D x
-
 pub unique_optional : {A : Type 0} (D : Lang A) (F : Follow) → Apart D F → Unique D F → Unique (optional D) F
 unique_optional D F apart one None None us vs r s d e same t u = (refl, sym (ap (λ l. l ++ r) d) ∙ same ∙ ap (λ l. l ++ s) e)
 unique_optional D F apart one None (Some y) us vs r s d e same t u =
@@ -163,90 +111,54 @@ unique_optional D F apart one (Some x) (Some y) us vs r s d e same t u = let o =
 
 -- ---- loops
 
--- one after another, where what may stand next depends on what stood before
-abbrev pub run : {S A : Type 0} → (S → Lang A) → (S → A → S) → S → Lang (List A)
-run D next s [] = nothing
-run D next s (x ∷ xs) = D s x ⨾ run D next (next s x) xs
-
-run_turns : {S A : Type 0} (D : S → Lang A) (next : S → A → S) (F G : Follow) → ((s : S) → Begins (D s) G) → ((o : Option Lexeme) → F o → G o) → (s : S) → Links (run D next s) F G
-run_turns D next F G begin inside s [] us r d f = let P : Tokens → Type 0 = λ l. G (head (l ++ r)) in subst P (sym d) (inside (head r) f)
-run_turns D next F G begin inside s (x ∷ xs) us r d f =
-    let P : Tokens → Type 0 = λ l. G (head l) in
-    subst P (sym (append_assoc d.front d.back r) ∙ ap (λ l. l ++ r) (sym d.parts)) (begin s x d.front (d.back ++ r) d.first)
-
-pub unique_run : {S A : Type 0} (D : S → Lang A) (next : S → A → S) (F G : Follow) → ((s : S) → Begins (D s) G) → ((o : Option Lexeme) → F o → G o) → ((s : S) → Apart (D s) F) → ((s : S) → Unique (D s) G) → (s : S) → Unique (run D next s) F
-unique_run D next F G begin inside apart one n [] [] us vs r s d e same t u = (refl, sym (ap (λ l. l ++ r) d) ∙ same ∙ ap (λ l. l ++ s) e)
-unique_run D next F G begin inside apart one n [] (y ∷ ys) us vs r s d e same t u =
+pub unique_chain : {S A : Type 0} (D : S → Lang A) (next : S → A → S) (F G : Follow) → ((s : S) → Begins (D s) G) → ((o : Option Lexeme) → F o → G o) → ((s : S) → Apart (D s) F) → ((s : S) → Unique (D s) G) → (s : S) → Unique (chain D next s) F
+unique_chain D next F G begin inside apart one n [] [] us vs r s d e same t u = (refl, sym (ap (λ l. l ++ r) d) ∙ same ∙ ap (λ l. l ++ s) e)
+unique_chain D next F G begin inside apart one n [] (y ∷ ys) us vs r s d e same t u =
     let P : Follow = F in
     let all : r ≡ e.front ++ (e.back ++ s) = sym (ap (λ l. l ++ r) d) ∙ same ∙ ap (λ l. l ++ s) e.parts ∙ append_assoc e.front e.back s in
     absurd (apart n y e.front (e.back ++ s) e.first (subst P (ap head all) t))
-unique_run D next F G begin inside apart one n (x ∷ xs) [] us vs r s d e same t u =
+unique_chain D next F G begin inside apart one n (x ∷ xs) [] us vs r s d e same t u =
     let P : Follow = F in
     let all : s ≡ d.front ++ (d.back ++ r) = sym (ap (λ l. l ++ s) e) ∙ sym same ∙ ap (λ l. l ++ r) d.parts ∙ append_assoc d.front d.back r in
     absurd (apart n x d.front (d.back ++ r) d.first (subst P (ap head all) u))
-unique_run {S} {A} D next F G begin inside apart one n (x ∷ xs) (y ∷ ys) us vs r s d e same t u =
+unique_chain {S} {A} D next F G begin inside apart one n (x ∷ xs) (y ∷ ys) us vs r s d e same t u =
     let all : d.front ++ (d.back ++ r) ≡ e.front ++ (e.back ++ s) = one_text us vs d.front d.back e.front e.back r s d.parts e.parts same in
-    let a = one n x y d.front e.front (d.back ++ r) (e.back ++ s) d.first e.first all (run_turns D next F G begin inside (next n x) xs d.back r d.second t) (run_turns D next F G begin inside (next n y) ys e.back s e.second u) in
-    let P : A → Type 0 = λ z. run D next (next n z) xs d.back in
-    let b = unique_run D next F G begin inside apart one (next n y) xs ys d.back e.back r s (subst P a.0 d.second) e.second a.1 t u in
+    let a = one n x y d.front e.front (d.back ++ r) (e.back ++ s) d.first e.first all (chain_turns D next F G begin inside (next n x) xs d.back r d.second t) (chain_turns D next F G begin inside (next n y) ys e.back s e.second u) in
+    let P : A → Type 0 = λ z. chain D next (next n z) xs d.back in
+    let b = unique_chain D next F G begin inside apart one (next n y) xs ys d.back e.back r s (subst P a.0 d.second) e.second a.1 t u in
     (ap (λ p. p ∷ xs) a.0 ∙ ap (λ q. y ∷ q) b.0, b.1)
 
-each_run : {A : Type 0} (D : Lang A) (xs : List A) (us : Tokens) → each D xs us → run (λ (s : Unit {0}). D) (λ s x. s) tt xs us
-each_run D [] us d = d
-each_run D (x ∷ xs) us d = record { front = d.front; back = d.back; parts = d.parts; first = d.first; second = each_run D xs d.back d.second }
-
 pub unique_each : {A : Type 0} (D : Lang A) (F G : Follow) → Begins D G → ((o : Option Lexeme) → F o → G o) → Apart D F → Unique D G → Unique (each D) F
-unique_each D F G begin inside apart one = unique_as (each D) (run (λ (s : Unit {0}). D) (λ s x. s) tt) F (λ q. q) (λ y us d. (y, refl, each_run D y us d))
-    (unique_run (λ s. D) (λ s x. s) F G (λ s. begin) inside (λ s. apart) (λ s. one) tt)
-
--- the first token behind some of D, or none of them
-pub each_turns : {A : Type 0} (D : Lang A) (F G : Follow) → Begins D G → ((o : Option Lexeme) → F o → G o) → Links (each D) F G
-each_turns D F G begin inside xs us r d f = run_turns (λ (s : Unit {0}). D) (λ s x. s) F G (λ s. begin) inside tt xs us r (each_run D xs us d) f
+unique_each D F G begin inside apart one = unique_as (each D) (Items D tt) F (λ q. q) (λ y us d. (y, refl, each_chain D tt y us d))
+    (unique_chain (λ s. D) (λ s x. s) F G (λ s. begin) inside (λ s. apart) (λ s. one) tt)
 
 -- ---- lists with commas
 
-abbrev comma : Lexical
-comma = tok.Sign sign.Comma
-
-pub begins_further : {A : Type 0} (D : Lang A) → Begins (further D) (Is (tok.Sign sign.Comma))
-begins_further D x us r d = begins_both (Mark comma) (λ c. D) (Is comma) (begins_mark comma) (tt, x) us r d
-
 pub unique_further : {A : Type 0} (D : Lang A) (G : Follow) → Unique D G → Unique (further D) G
-unique_further D G one = unique_as (further D) (Both (Mark comma) D) G (λ q. q.1) (λ y us d. ((tt, y), refl, d)) (unique_then (Mark comma) D G (unique_mark comma) one)
+unique_further D G one = unique_as (further D) (Both (Mark Comma) D) G (λ q. q.1) (λ y us d. ((tt, y), refl, d)) (unique_then (Mark Comma) D G (unique_mark Comma) one)
 
-pub unique_furthers : {A : Type 0} (D : Lang A) (F G : Follow) → ((o : Option Lexeme) → Is (tok.Sign sign.Comma) o → G o) → ((o : Option Lexeme) → F o → G o) → ((o : Option Lexeme) → F o → Isnt (tok.Sign sign.Comma) o) → Unique D G → Unique (each (further D)) F
-unique_furthers D F G goes inside ends one = unique_each (further D) F G (begins_as (further D) (Is comma) G goes (begins_further D)) inside
-    (apart_by (further D) (Is comma) F (λ o i f. is_and_isnt comma o i (ends o f)) (begins_further D)) (unique_further D G one)
+pub unique_furthers : {A : Type 0} (D : Lang A) (F G : Follow) → ((o : Option Lexeme) → Is Comma o → G o) → ((o : Option Lexeme) → F o → G o) → ((o : Option Lexeme) → F o → Isnt Comma o) → Unique D G → Unique (each (further D)) F
+unique_furthers D F G goes inside ends one = unique_each (further D) F G (begins_as (further D) (Is Comma) G goes (begins_further D)) inside
+    (apart_by (further D) (Is Comma) F (λ o i f. is_isnt Comma o i (ends o f)) (begins_further D)) (unique_further D G one)
 
--- at least one, as its first and the others
-abbrev pub some : {A : Type 0} → Lang A → Lang (A × List A)
-some D = Both D (each (further D))
+pub unique_some : {A : Type 0} (D : Lang A) (F G : Follow) → ((o : Option Lexeme) → Is Comma o → G o) → ((o : Option Lexeme) → F o → G o) → ((o : Option Lexeme) → F o → Isnt Comma o) → Unique D G → Unique (Whole D) F
+unique_some D F G goes inside ends one = unique_both D (each (further D)) G F (each_turns (further D) F G (begins_as (further D) (Is Comma) G goes (begins_further D)) inside) one (unique_furthers D F G goes inside ends one)
 
-pub unique_some : {A : Type 0} (D : Lang A) (F G : Follow) → ((o : Option Lexeme) → Is (tok.Sign sign.Comma) o → G o) → ((o : Option Lexeme) → F o → G o) → ((o : Option Lexeme) → F o → Isnt (tok.Sign sign.Comma) o) → Unique D G → Unique (some D) F
-unique_some D F G goes inside ends one = unique_both D (each (further D)) G F (each_turns (further D) F G (begins_as (further D) (Is comma) G goes (begins_further D)) inside) one (unique_furthers D F G goes inside ends one)
-
-abbrev pub both_of : {A : Type 0} → A × List A → List A
-both_of q = q.0 ∷ q.1
-
-pub some_of : {A : Type 0} (D : Lang A) (y : List A) (us : Tokens) → separated D y us → (q : A × List A) × (y ≡ both_of q) × some D q us
-some_of D [] us d = absurd d
-some_of D (x ∷ xs) us d = ((x, xs), refl, d)
-
-pub unique_separated : {A : Type 0} (D : Lang A) (F G : Follow) → ((o : Option Lexeme) → Is (tok.Sign sign.Comma) o → G o) → ((o : Option Lexeme) → F o → G o) → ((o : Option Lexeme) → F o → Isnt (tok.Sign sign.Comma) o) → Unique D G → Unique (separated D) F
-unique_separated D F G goes inside ends one = unique_as (separated D) (some D) F both_of (some_of D) (unique_some D F G goes inside ends one)
+pub unique_separated : {A : Type 0} (D : Lang A) (F G : Follow) → ((o : Option Lexeme) → Is Comma o → G o) → ((o : Option Lexeme) → F o → G o) → ((o : Option Lexeme) → F o → Isnt Comma o) → Unique D G → Unique (separated D) F
+unique_separated D F G goes inside ends one = unique_as (separated D) (Whole D) F joined (separated_cases D) (unique_some D F G goes inside ends one)
 
 -- none, or some
 abbrev pub list_of : {A : Type 0} → Option (A × List A) → List A
 list_of None = []
 list_of (Some q) = q.0 ∷ q.1
 
-listed_cases : {A : Type 0} (D : Lang A) (y : List A) (us : Tokens) → listed D y us → (q : Option (A × List A)) × (y ≡ list_of q) × optional (some D) q us
+listed_cases : {A : Type 0} (D : Lang A) (y : List A) (us : Tokens) → listed D y us → (q : Option (A × List A)) × (y ≡ list_of q) × optional (Whole D) q us
 listed_cases D [] us d = (None, refl, d)
 listed_cases D (x ∷ xs) us d = (Some (x, xs), refl, d)
 
-pub unique_listed : {A : Type 0} (D : Lang A) (F G : Follow) → ((o : Option Lexeme) → Is (tok.Sign sign.Comma) o → G o) → ((o : Option Lexeme) → F o → G o) → ((o : Option Lexeme) → F o → Isnt (tok.Sign sign.Comma) o) → Apart D F → Unique D G → Unique (listed D) F
-unique_listed D F G goes inside ends apart one = unique_as (listed D) (optional (some D)) F list_of (listed_cases D)
-    (unique_optional (some D) F (λ x us r d f. let P : Follow = F in
+pub unique_listed : {A : Type 0} (D : Lang A) (F G : Follow) → ((o : Option Lexeme) → Is Comma o → G o) → ((o : Option Lexeme) → F o → G o) → ((o : Option Lexeme) → F o → Isnt Comma o) → Apart D F → Unique D G → Unique (listed D) F
+unique_listed D F G goes inside ends apart one = unique_as (listed D) (optional (Whole D)) F list_of (listed_cases D)
+    (unique_optional (Whole D) F (λ x us r d f. let P : Follow = F in
     apart x.0 d.front (d.back ++ r) d.first (subst P (ap head (ap (λ l. l ++ r) d.parts ∙ append_assoc d.front d.back r)) f))
     (unique_some D F G goes inside ends one))
 

@@ -1,17 +1,17 @@
 -- Tokens stand for one path at most.
-use Rattle.std.proofs.Common.{◌≡◌, ◌++◌, List, ◌∷◌, refl, sym, ap, ◌∙◌, inl, inr}
+use Rattle.std.proofs.Common.{◌≡◌, ◌++◌, ◌∷◌, refl, sym, ap, ◌∙◌, inl, inr}
 use Rattle.std.specs.Prelude.{◌⊎◌}
 use Rattle.ae_text.specs.declared.token.Keyword.TheVariants as word
 use Rattle.ae_text.specs.declared.token.Sign.TheVariants as sign
 use Rattle.ae_code.specs.declared.lexeme.Lexeme.{Lexeme}
-use Rattle.ae_code.specs.declared.lexeme.Lexical.{Lexical}
 use Rattle.ae_code.specs.declared.lexeme.Lexical.TheVariants as tok
 use Rattle.ae_code.specs.declared.tree.NameAt.{NameAt}
-use Rattle.ae_code.specs.declared.tree.Path.{Path}
 use Rattle.ae_code.specs.Grammar.{Tokens, each, name, root, step, path}
 use Rattle.ae_reading.specs.Reads.{Always, Is, Isnt, IsName, Token, Mark}
 use Rattle.ae_reading.proofs.ReadsLemmas.{Follow, Both, name_token}
-use Rattle.ae_reading.proofs.UniqueLemmas.{Unique, Begins, begins_name, begins_token, begins_mark, begins_both, apart_by, is_and_isnt, unique_at, unique_name, unique_mark, unique_then, unique_both, unique_each, unique_as}
+use Rattle.ae_reading.proofs.UniqueLemmas.{Unique, apart_by, unique_at, unique_name, unique_mark, unique_then, unique_both, unique_each, unique_as}
+use Rattle.ae_reading.proofs.Begins.{Begins, begins_name, begins_token, begins_mark, begins_both, is_isnt}
+use Rattle.ae_reading.proofs.Paths.{dot, path_of}
 
 -- what a path begins with
 abbrev pub IsRoot : Follow
@@ -35,22 +35,16 @@ unique_root x y us vs r s (inr d) (inr e) same t u =
     let o = unique_at (tok.Word word.This) x.at y.at us vs r s d.1 e.1 same t u in
     (ap (λ n. record { name = n; at = x.at }) (d.0 ∙ sym e.0) ∙ ap (λ a. record { name = y.name; at = a }) o.0, o.1)
 
-abbrev dot : Lexical
-dot = tok.Sign sign.Dot
-
 begins_step : Begins step (Is (tok.Sign sign.Dot))
 begins_step x us r d = begins_both (Mark dot) (λ c. name) (Is dot) (begins_mark dot) (tt, x) us r d
 
 unique_step : Unique step Always
 unique_step = unique_as step (Both (Mark dot) name) Always (λ q. q.1) (λ y us d. ((tt, y), refl, d)) (unique_then (Mark dot) name Always (unique_mark dot) unique_name)
 
-abbrev path_of : NameAt × List NameAt → Path
-path_of q = record { root = q.0; steps = q.1 }
-
 pub unique_path : Unique path (Isnt (tok.Sign sign.Dot))
 unique_path = unique_as path (Both root (each step)) (Isnt dot) path_of (λ y us d. ((y.root, y.steps), refl, d))
     (unique_both root (each step) Always (Isnt dot) (λ y us r d f. tt) unique_root
-    (unique_each step (Isnt dot) Always (λ x us r d. tt) (λ o f. tt) (apart_by step (Is dot) (Isnt dot) (is_and_isnt dot) begins_step) unique_step))
+    (unique_each step (Isnt dot) Always (λ x us r d. tt) (λ o f. tt) (apart_by step (Is dot) (Isnt dot) (is_isnt dot) begins_step) unique_step))
 
 pub begins_path : Begins path IsRoot
 begins_path x us r d = begins_both root (λ c. each step) IsRoot begins_root (x.root, x.steps) us r d

@@ -1,6 +1,6 @@
 -- What a step of the parser found. D x us says that the tree x stands for the tokens us,
 -- W l x that it keeps to the limit l, and F which token may follow it.
-use Rattle.std.specs.Prelude.{◌≡◌, ℕ, ◌+◌, ◌++◌, List, [], ◌∷◌, length, Option, Some, None, Result, Ok, Err}
+use Rattle.std.specs.Prelude.{◌≡◌, ◌<◌, ℕ, ◌++◌, List, [], ◌∷◌, length, Option, Some, None, Result, Ok, Err}
 use Rattle.std.specs.Borrow.{Bor}
 use Rattle.ae_text.specs.declared.refusal.Spot.{Spot}
 use Rattle.ae_code.specs.declared.lexeme.Lexeme.{Lexeme}
@@ -8,8 +8,8 @@ use Rattle.ae_code.specs.declared.lexeme.Lexical.{Lexical}
 use Rattle.ae_code.specs.declared.lexeme.Lexical.TheVariants.{Name, End}
 use Rattle.ae_code.specs.declared.limits.Limit.{Limit}
 use Rattle.ae_code.specs.Grammar.{Tokens, ◌⨾◌, nothing, one_at, one}
-use Rattle.ae_code.specs.Limits.{early}
-use Rattle.ae_code.specs.Refused.{AreKnown, IsPlaced, IsHead, CanPass}
+use Rattle.ae_code.specs.Limits.{early, rank}
+use Rattle.ae_code.specs.Refused.{AreKnown, IsHead, CanPass}
 use Rattle.ae_reading.specs.declared.fail.Fail.{Fail}
 use Rattle.ae_reading.specs.declared.fail.Fail.TheVariants.{Refused, Memory}
 use Rattle.ae_reading.specs.declared.fail.Why.{Why}
@@ -95,8 +95,8 @@ abbrev pub Counts : Why → (Limit → Type 0) → Type 0
 Counts Unexpected keeps = Unit {0}
 Counts (Over l) keeps = keeps l
 
--- a tree of some size goes on with the next token, which the limit can refuse
-pub record Larger {A : Type 0} (l : Limit) (D : A → Tokens → Type 0) (before rest : Tokens) : Type 0 where
+-- a tree within the limits named before this one goes on with the next token, which this limit can refuse
+pub record Larger {A : Type 0} (l : Limit) (D : A → Tokens → Type 0) (W : Limit → A → Type 0) (before rest : Tokens) : Type 0 where
   pub next : Lexeme
   pub later : Tokens
   pub rest_is : rest ≡ next ∷ later
@@ -105,15 +105,11 @@ pub record Larger {A : Type 0} (l : Limit) (D : A → Tokens → Type 0) (before
   pub goes_on : D tree (before ++ (next ∷ after))
   pub known : AreKnown after
   pub passes : CanPass l next.kind
+  pub others : (m : Limit) → rank m < rank l → W m tree
 
-abbrev pub Beyond : {A : Type 0} → (A → Tokens → Type 0) → Tokens → Tokens → Why → Type 0
-Beyond D before rest Unexpected = Unit {0}
-Beyond D before rest (Over l) = Larger l D before rest
-
--- the refused token stands this many tokens before the next one
-abbrev pub Stands : Why → Tokens → ℕ → Type 0
-Stands Unexpected before back = back ≡ 0
-Stands (Over l) before back = IsPlaced l before back
+abbrev pub Beyond : {A : Type 0} → (A → Tokens → Type 0) → (Limit → A → Type 0) → Tokens → Tokens → Why → Type 0
+Beyond D W before rest Unexpected = Unit {0}
+Beyond D W before rest (Over l) = Larger l D W before rest
 
 -- The first tokens begin a tree within all limits, and the others only lead up to what comes next.
 pub record Lead {A : Type 0} (D : A → Tokens → Type 0) (W : Limit → A → Type 0) (before : Tokens) : Type 0 where
@@ -128,14 +124,12 @@ pub record Lead {A : Type 0} (D : A → Tokens → Type 0) (W : Limit → A → 
   pub within : IsWithin W tree
 
 -- The tokens before `rest` begin a tree within the limits, but for those that are decided early. With the next token no tree goes on;
--- where a limit is the cause, some tree does, and none that keeps to it. The refused token is the one with `left` tokens from it on.
+-- where a limit is the cause, one within the limits named before it does, and none that keeps to it. From the next token on, `left` tokens are left.
 pub record Stopped {A : Type 0} (D : A → Tokens → Type 0) (W : Limit → A → Type 0) (F : Option Lexeme → Type 0) (ts : Tokens) (why : Why) (left : ℕ) : Type 0 where
   pub before : Tokens
   pub rest : Tokens
   pub whole : ts ≡ before ++ rest
-  pub back : ℕ
-  pub left_is : left ≡ length rest + back
-  pub placed : Stands why before back
+  pub left_is : left ≡ length rest
   pub tree : A
   pub more : Tokens
   pub goes : D tree (before ++ more)
@@ -144,7 +138,7 @@ pub record Stopped {A : Type 0} (D : A → Tokens → Type 0) (W : Limit → A �
   pub lead : Lead D W before
   pub no_end : NoEnd before
   pub stuck : (y : A) (us r other : Tokens) → D y us → us ++ r ≡ before ++ other → head other ≡ head rest → F (head r) → Counts why (λ l. W l y) → ⊥
-  pub beyond : Beyond D before rest why
+  pub beyond : Beyond D W before rest why
 
 abbrev pub Fails : {A : Type 0} → (A → Tokens → Type 0) → (Limit → A → Type 0) → (Option Lexeme → Type 0) → Tokens → Fail → Type 0
 Fails D W F ts (Refused why left) = Stopped D W F ts why left

@@ -15,12 +15,12 @@ use Rattle.ae_code.specs.Grammar.{Tokens, ◌⨾◌, one_at, name, separated, wh
 use Rattle.ae_code.specs.Limits.{Keeps, KeepsIn, IsFew, Opens, KeepsBlock}
 use Rattle.ae_reading.specs.declared.fail.Fail.{Fail}
 use Rattle.ae_reading.specs.Reads.{head, Always, Free, Is, Isnt, IsWithin, Took, Failed, Token}
-use Rattle.ae_reading.proofs.ReadsLemmas.{AreKnown-append, Lang, Bound, Follow, Links, Both, Limits, Pair, Has, Along, NoneAt, took_as, failed_as, failed_by, has_both, has_name, at_once, free, first, second, both, io_name}
-use Rattle.ae_reading.proofs.Parts.{Optional, took_absent, took_present, failed_present, took_before, failed_before}
-use Rattle.ae_types.proofs.FirstLemmas.{begins_mark, begins_first, begins_other, is_isnt}
+use Rattle.ae_reading.proofs.ReadsLemmas.{AreKnown-append, Lang, Bound, Follow, Links, Both, Limits, Pair, Has, Along, NoneAt, took_as, failed_as, failed_by, has_both, has_name, at_once, free, first, second, both, io_name, took_before, failed_before, After, AfterLinks, HasEach, took_after, after_first, after_second}
+use Rattle.ae_reading.proofs.Parts.{Optional, took_absent, took_present, failed_present}
+use Rattle.ae_reading.proofs.Begins.{opens_mark, opens_first, opens_other, is_isnt}
 use Rattle.ae_expressions.specs.Ends.{Ends}
 use Rattle.ae_statements.specs.Productions.{stmt, KeepsStmt, NoElse, braced, KeepsBraced, otherwise, Closes}
-use Rattle.ae_statements.proofs.ShapeLemmas.{Pre, Suf, Lets, Dep, DepLinks, HasEach, took_pre, pre_first, pre_second, has_pre, took_suf, suf_first, suf_second, has_suf, has_whole, took_dep, dep_first, dep_second, begins_lets, sign_ends}
+use Rattle.ae_statements.proofs.ShapeLemmas.{Pre, Suf, Lets, took_pre, pre_first, pre_second, has_pre, took_suf, suf_first, suf_second, has_suf, has_whole, begins_lets, sign_ends}
 use Rattle.ae_statements.proofs.FormLemmas.{Formed, formed}
 use Rattle.ae_statements.proofs.SimpleLemmas.{simple_took, simple_failed}
 
@@ -52,7 +52,7 @@ braced_along n levels ts some = record {
   from = λ q us d l v. (v.1, v.2);
 }
 
-none_few : (l : Limit) → IsFew l End
+pub none_few : (l : Limit) → IsFew l End
 none_few limit.Statements = omega arith
 none_few limit.Levels = tt
 none_few limit.Depth = tt
@@ -99,7 +99,7 @@ braced_last n levels {ts} some t u f = failed_as (braced n) (Unbraced n) (λ b. 
 
 -- a block may follow what lets a brace follow
 brace_link : (F : Follow) (n : ℕ) → Lets opening F → Links (braced n) Always F
-brace_link F n lets y us r d f = begins_lets F us r lets (begins_mark us r d)
+brace_link F n lets y us r d f = begins_lets F us r lets (opens_mark us r d)
 
 abbrev pub Blocked : {A : Type 0} → Lexical → Lang A → ℕ → Lang (Spot × (A × Lines))
 Blocked w E n = Both (Token w) (Both E (braced n))
@@ -178,7 +178,7 @@ has_names = record {
   within = λ l. tt;
 }
 
-brace_no_comma : (t : Lexeme) → t.kind ≡ opening → t.kind ≡ tok.Sign sign.Comma → ⊥
+pub brace_no_comma : (t : Lexeme) → t.kind ≡ opening → t.kind ≡ tok.Sign sign.Comma → ⊥
 brace_no_comma t e i = let same : opening ≡ tok.Sign sign.Comma = sym e ∙ i in cc
 
 pub splits : (n levels : ℕ) (ts : Tokens) → 1 ≤ levels → Is (tok.Word word.Split) (head ts) → OneBlock (tok.Word word.Split) (separated name) Free (Isnt (tok.Sign sign.Comma)) n levels ts (divided n)
@@ -235,7 +235,7 @@ abbrev pub Two : Type 0
 Two = Lines × Option Lines
 
 abbrev pub two : ℕ → Lang Two
-two n = Dep (braced n) (λ b. other (behind n b))
+two n = After (braced n) (λ b. other (behind n b))
 
 abbrev pub KeepsTwo : ℕ → Bound Two
 KeepsTwo levels = Limits (KeepsBraced levels) (λ l b. KeepsOther levels l)
@@ -332,7 +332,7 @@ other_optional m levels = record {
 }
 
 no_otherwise : (m : ℕ) (ts : Tokens) → (Is (tok.Word word.Else) (head ts) → ⊥) → NoneAt (otherwise m) ts
-no_otherwise m ts none y us r d h = begins_other us r ts (begins_mark us r d) h none
+no_otherwise m ts none y us r d h = opens_other us r ts (opens_mark us r d) h none
 
 -- no second block comes
 pub other_absent : (m levels : ℕ) {ts : Tokens} → (Is (tok.Word word.Else) (head ts) → ⊥) → Took (other m) (KeepsOther levels) NoElse ts None ts
@@ -344,7 +344,7 @@ other_took m levels {ts} is t = took_present (other_optional m levels) (λ f. is
 pub other_failed : (m levels : ℕ) {ts : Tokens} {e : Fail} → Is (tok.Word word.Else) (head ts) → Failed (otherwise m) (KeepsBraced levels) Always ts e → Failed (other m) (KeepsOther levels) NoElse ts e
 other_failed m levels {ts} is f = failed_present (other_optional m levels) (λ g. is_isnt (tok.Word word.Else) (head ts) is g) (failed_before {F = Always} {G = NoElse} (λ o f. tt) f)
 
-other_links : (n : ℕ) → DepLinks (λ b. other (behind n b)) NoElse Always
+other_links : (n : ℕ) → AfterLinks (λ b. other (behind n b)) NoElse Always
 other_links n x y us r d f = tt
 
 abbrev KeepsSecond : ℕ → Limit → Lines → Option Lines → Type 0
@@ -355,17 +355,17 @@ has_other n levels = record { tree = λ b. None; tokens = λ b. []; is = λ b. r
 
 pub two_took : (n levels : ℕ) {ts mid rest : Tokens} {b : Lines} {o : Option Lines} →
     Took (braced n) (KeepsBraced levels) Always ts b mid → Took (other (behind n b)) (KeepsOther levels) NoElse mid o rest → Took (two n) (KeepsTwo levels) NoElse ts (b, o) rest
-two_took n levels t u = took_dep (KeepsSecond levels) (other_links n) t u
+two_took n levels t u = took_after (KeepsSecond levels) (other_links n) t u
 
 pub two_first : (n levels : ℕ) {ts : Tokens} {e : Fail} → Failed (braced n) (KeepsBraced levels) Always ts e → Failed (two n) (KeepsTwo levels) NoElse ts e
-two_first n levels f = failed_by (λ why left s. dep_first (KeepsSecond levels) (other_links n) (has_other n levels) s) f
+two_first n levels f = failed_by (λ why left s. after_first (KeepsSecond levels) (other_links n) (has_other n levels) s) f
 
 pub two_second : (n levels : ℕ) {ts mid : Tokens} {b : Lines} {e : Fail} →
     Took (braced n) (KeepsBraced levels) Always ts b mid → Failed (other (behind n b)) (KeepsOther levels) NoElse mid e → Failed (two n) (KeepsTwo levels) NoElse ts e
-two_second n levels t f = failed_by (λ why left s. dep_second (KeepsSecond levels) (other_links n) t s) f
+two_second n levels t f = failed_by (λ why left s. after_second (KeepsSecond levels) (other_links n) t s) f
 
 two_links : (n : ℕ) → Links (two n) NoElse (Ends 0)
-two_links n y us r d f = begins_lets (Ends 0) us r (sign_ends sign.OpenBrace refl) (begins_first us r d (begins_mark d.front (d.back ++ r) d.first))
+two_links n y us r d f = begins_lets (Ends 0) us r (sign_ends sign.OpenBrace refl) (opens_first us r d (opens_mark d.front (d.back ++ r) d.first))
 
 has_two : (n levels : ℕ) → 1 ≤ levels → Has (two n) (KeepsTwo levels)
 has_two n levels some =

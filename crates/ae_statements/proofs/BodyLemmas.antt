@@ -16,9 +16,9 @@ use Rattle.ae_code.specs.Limits.{Keeps, IsFew, EachKeeps, KeepsBlock, count}
 use Rattle.ae_reading.specs.declared.fail.Fail.{Fail}
 use Rattle.ae_reading.specs.declared.fail.Why.TheVariants.{Over}
 use Rattle.ae_reading.specs.Reads.{head, Always, Free, Is, Took, Stopped, Failed, Larger, Token}
-use Rattle.ae_reading.proofs.ReadsLemmas.{Lang, Bound, Follow, Links, Both, Limits, Pair, Along, Has, NoneAt, took_as, failed_as, stopped_as, failed_by, took_then, stopped_second, stopped_first_with, lead_here, none_back, stands_here, nowhere, at_once, free, first, second, both}
-use Rattle.ae_reading.proofs.Parts.{Optional, took_absent, took_present, failed_present, took_before, failed_before}
-use Rattle.ae_types.proofs.FirstLemmas.{begins_at, begins_other}
+use Rattle.ae_reading.proofs.ReadsLemmas.{Lang, Bound, Follow, Links, Both, Limits, Pair, Along, Has, NoneAt, took_as, failed_as, stopped_as, failed_by, took_then, stopped_second, stopped_first_with, lead_here, nowhere, at_once, free, first, second, both, took_before, failed_before}
+use Rattle.ae_reading.proofs.Parts.{Optional, took_absent, took_present, failed_present}
+use Rattle.ae_reading.proofs.Begins.{opens_at, opens_other}
 use Rattle.ae_statements.specs.Productions.{Closes, ended, returned, KeepsReturned, returning}
 use Rattle.ae_statements.proofs.ShapeLemmas.{Pre, Suf, Lets, took_pre, pre_first, pre_second, took_suf, suf_first, suf_second, has_suf, has_whole}
 use Rattle.ae_statements.proofs.BlockLemmas.{opening, closing, KeepsLines, none_keep}
@@ -114,7 +114,7 @@ parts_along ts = record {
 
 last_link : Links grammar.returning Ending Closes
 last_link None us r d f = let P : Tokens → Type 0 = λ l. Closes (head (l ++ r)) in subst P (sym d) (inl f)
-last_link (Some q) us r d f = let b = begins_at us r d in let P : Option Lexeme → Type 0 = Closes in subst P (sym b.front) (inr b.kind)
+last_link (Some q) us r d f = let b = opens_at us r d in let P : Option Lexeme → Type 0 = Closes in subst P (sym b.front) (inr b.kind)
 
 last_cases : (y : Last) (us : Tokens) → grammar.returning y us → ((y ≡ None) × (us ≡ [])) ⊎ ((q : Spot × Expression) × (y ≡ Some q) × returned q us)
 last_cases None us d = inl (refl, d)
@@ -143,7 +143,7 @@ some_along : (b : Lines) (ts : Tokens) → count b < 1024 → Along returned ret
 some_along b ts few = record { intro = λ q us d. d; cases = λ y us r d h. (y, refl, d); to = λ q us d l v. (room_at l b few, v); from = λ q us d l v. v.1 }
 
 no_return : (ts : Tokens) → (Is (tok.Word word.Return) (head ts) → ⊥) → NoneAt returned ts
-no_return ts none y us r d h = begins_other us r ts (begins_at us r d) h none
+no_return ts none y us r d h = opens_other us r ts (opens_at us r d) h none
 
 return_no_end : (o : Option Lexeme) → Is (tok.Word word.Return) o → Ending o → ⊥
 return_no_end None i e = i
@@ -179,9 +179,10 @@ last_stuck b rest full is (Some q) us r other d e h f w = absurd (omega (arith, 
 abbrev zero_end : Tokens
 zero_end = record { kind = tok.Int (pos 0); at = nowhere } ∷ record { kind = tok.Sign sign.Semicolon; at = nowhere } ∷ []
 
-last_larger : (rest : Tokens) → Is (tok.Word word.Return) (head rest) → Larger limit.Statements grammar.returning [] rest
-last_larger [] is = absurd is
-last_larger (t ∷ rest) is = record {
+last_larger : (W : Limit → Last → Type 0) (rest : Tokens) → Is (tok.Word word.Return) (head rest) → Larger limit.Statements grammar.returning W [] rest
+last_larger W [] is = absurd is
+last_larger W (t ∷ rest) is = record {
+  others = λ m k. absurd (omega (arith, k));
   next = t;
   later = rest;
   rest_is = refl;
@@ -203,9 +204,7 @@ last_full b rest full is = record {
   before = [];
   rest = rest;
   whole = refl;
-  back = 0;
-  left_is = none_back (length rest);
-  placed = stands_here (Over limit.Statements) [];
+  left_is = refl;
   tree = None;
   more = [];
   goes = refl;
@@ -214,7 +213,7 @@ last_full b rest full is = record {
   lead = lead_here [] None [] refl tt (λ l. tt);
   no_end = tt;
   stuck = λ y us r other d e h f w. last_stuck b rest full is y us r other d e h f w;
-  beyond = last_larger rest is;
+  beyond = last_larger (λ l. KeepsLast l b) rest is;
 }
 
 pub lines_full : {ts rest : Tokens} {b : Lines} → 1024 ≤ count b → Is (tok.Word word.Return) (head rest) → Took (statements 1) (KeepsLines 63) Closes ts b rest → Stopped returning (KeepsLines 63) Ending ts (Over limit.Statements) (length rest)

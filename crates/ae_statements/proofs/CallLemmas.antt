@@ -1,5 +1,5 @@
 -- Arguments and calls.
-use Rattle.std.proofs.Common.{◌≡◌, ℕ, ◌<◌, ◌++◌, List, [], ◌∷◌, length, map, Bool, true, false, Option, Some, None, inl, inr, All, refl, sym, ap, ◌∙◌, append_assoc, subst, arith, length-append}
+use Rattle.std.proofs.Common.{◌≡◌, ℕ, ◌++◌, List, [], ◌∷◌, map, Bool, true, false, Option, Some, None, inl, inr, All, refl, sym, ap, ◌∙◌, append_assoc, subst}
 use Rattle.std.proofs.lemmas.List.{map-append}
 use Rattle.std.proofs.lemmas.List.Elements.{All-nil, All-push, All-cons, All-head, All-tail}
 use Rattle.ae_text.specs.declared.token.Keyword.TheVariants as word
@@ -17,10 +17,10 @@ use Rattle.ae_code.specs.Grammar.{Tokens, Then, ◌⨾◌, one, whole, expressio
 use Rattle.ae_code.specs.Limits.{Keeps, AllKeep}
 use Rattle.ae_reading.specs.declared.fail.Fail.{Fail}
 use Rattle.ae_reading.specs.Reads.{head, Always, Free, Is, Isnt, IsWithin, Took, Failed}
-use Rattle.ae_reading.proofs.ReadsLemmas.{Links, Both, Pair, Has, Along, Run, NoneAt, took_as, failed_as, run_start, run_more, run_end}
-use Rattle.ae_reading.proofs.Parts.{Commas, Parted, commas_turn, commas_go_on, no_comma}
-use Rattle.ae_reading.proofs.Begins.{run_failed}
-use Rattle.ae_types.proofs.FirstLemmas.{Begins, begins_mark, begins_first, begins_at, begins_one, begins_isnt}
+use Rattle.ae_reading.proofs.ReadsLemmas.{Links, Both, Pair, Has, Along, NoneAt, took_as, failed_as}
+use Rattle.ae_reading.proofs.Parts.{Commas, Parted, commas_go_on, no_comma, commas_link}
+use Rattle.ae_reading.proofs.Runs.{Run, run_start, run_more, run_end, run_failed}
+use Rattle.ae_reading.proofs.Begins.{Opens, opens_mark, opens_first, opens_at, opens_one, opens_isnt}
 use Rattle.ae_expressions.specs.Ends.{Ends}
 use Rattle.ae_statements.specs.Productions.{ended, called, KeepsCalled, but_last, last, receiver_of}
 use Rattle.ae_statements.proofs.ShapeLemmas.{Lets, has_suf, has_pre, sign_ends}
@@ -46,33 +46,33 @@ pub record Starts (us r : Tokens) : Type 0 where
   pub front : head (us ++ r) ≡ Some token
   pub can : starts_word token.kind ≡ true
 
-starts_as : {k : Lexical} (us r : Tokens) → starts_word k ≡ true → Begins us r k → Starts us r
+starts_as : {k : Lexical} (us r : Tokens) → starts_word k ≡ true → Opens us r k → Starts us r
 starts_as {k} us r can b = record { token = b.token; front = b.front; can = ap starts_word b.kind ∙ can }
 
 starts_first : {p q : Tokens → Type 0} (us r : Tokens) (d : Then p q us) → Starts d.front (d.back ++ r) → Starts us r
 starts_first us r d s = record { token = s.token; front = ap head (ap (λ l. l ++ r) d.parts ∙ append_assoc d.front d.back r) ∙ s.front; can = s.can }
 
 starts_root : (x : NameAt) (us r : Tokens) → root x us → Starts us r
-starts_root x us r (inl d) = starts_as us r refl (begins_one us r d)
-starts_root x us r (inr d) = starts_as us r refl (begins_one us r d.1)
+starts_root x us r (inl d) = starts_as us r refl (opens_one us r d)
+starts_root x us r (inr d) = starts_as us r refl (opens_one us r d.1)
 
 starts_path : (p : Path) (us r : Tokens) → path p us → Starts us r
 starts_path p us r d = starts_first us r d (starts_root p.root d.front (d.back ++ r) d.first)
 
 starts_truth : (b : Bool) (at : _) (us r : Tokens) (l : ℕ) → expression (Truth b at) l us → Starts us r
-starts_truth true at us r l d = starts_as us r refl (begins_one us r d)
-starts_truth false at us r l d = starts_as us r refl (begins_one us r d)
+starts_truth true at us r l d = starts_as us r refl (opens_one us r d)
+starts_truth false at us r l d = starts_as us r refl (opens_one us r d)
 
 pub expression_starts : (e : Expression) (l : ℕ) (us r : Tokens) → expression e l us → Starts us r
-expression_starts (Number n at) l us r d = starts_as us r refl (begins_one us r d)
+expression_starts (Number n at) l us r d = starts_as us r refl (opens_one us r d)
 expression_starts (Truth b at) l us r d = starts_truth b at us r l d
-expression_starts (Nothing at) l us r d = starts_as us r refl (begins_one us r d)
+expression_starts (Nothing at) l us r d = starts_as us r refl (opens_one us r d)
 expression_starts (Read p) l us r d = starts_path p us r d
 expression_starts (Item p e) l us r d = starts_first us r d (starts_path p d.front (d.back ++ r) d.first)
-expression_starts (Length p at) l us r d = starts_as us r refl (begins_at us r d)
-expression_starts (Grouped e at) l us r d = starts_as us r refl (begins_at us r d)
-expression_starts (Negated e at) l us r d = starts_as us r refl (begins_at us r d)
-expression_starts (Minus e at) l us r d = starts_as us r refl (begins_at us r d)
+expression_starts (Length p at) l us r d = starts_as us r refl (opens_at us r d)
+expression_starts (Grouped e at) l us r d = starts_as us r refl (opens_at us r d)
+expression_starts (Negated e at) l us r d = starts_as us r refl (opens_at us r d)
+expression_starts (Minus e at) l us r d = starts_as us r refl (opens_at us r d)
 expression_starts (Binary o a b) l us r d = starts_first us r d.1 (expression_starts a _ d.1.front (d.1.back ++ r) d.1.first)
 
 not_start : (t : Lexeme) (k : Lexical) → t.kind ≡ k → starts_word k ≡ false → starts_word t.kind ≡ true → ⊥
@@ -122,7 +122,7 @@ pub arguments_more : (ts rest rest' : Tokens) (xs ys : List Expr) (x : Expr) →
 arguments_more ts rest rest' xs ys x comma e t u =
     let P : List Expression → Type 0 = λ l. Arguments ts l rest' in
     subst P (sym (ap (λ (l : List Expr). map shown.expression l) e ∙ map-append shown.expression xs (x ∷ [])))
-    (run_more (commas_turn whole commas) (commas_go_on rest commas comma) (λ l. All-push (Keeps l) (map shown.expression xs) (shown.expression x) (t.within l) (u.within l)) t u)
+    (run_more (commas_link whole commas) (commas_go_on rest commas comma) (λ l. All-push (Keeps l) (map shown.expression xs) (shown.expression x) (t.within l) (u.within l)) t u)
 
 pub arguments_failed : (ts rest : Tokens) (es : List Expression) (e : Fail) → Is (tok.Sign sign.Comma) (head rest) →
     Arguments ts es rest → Failed (further whole) Keeps (Ends 0) rest e → Failed (each (further whole)) AllKeep Closed ts e
@@ -131,13 +131,10 @@ arguments_failed ts rest es e comma t f =
     failed_here (λ l z w. All-push (Keeps l) es z (within l) w) f
   where
     failed_here : ((l : Limit) (z : Expression) → Keeps l z → AllKeep l (es ++ z ∷ [])) → Failed (further whole) Keeps (Ends 0) rest e → Failed (each (further whole)) AllKeep Closed ts e
-    failed_here fits g = run_failed (commas_turn whole commas) (commas_go_on rest commas comma) fits (λ l z zs v. all_at (Keeps l) es zs z v) t g
+    failed_here fits g = run_failed (commas_link whole commas) (commas_go_on rest commas comma) fits (λ l z zs v. all_at (Keeps l) es zs z v) t g
 
 pub arguments_end : (ts rest : Tokens) (es : List Expression) → (Is (tok.Sign sign.Comma) (head rest) → ⊥) → Arguments ts es rest → Took (each (further whole)) AllKeep Closed ts es rest
 arguments_end ts rest es other t = run_end (no_comma whole rest other) t
-
-pub argument_smaller : (ts rest : Tokens) (x : Expression) → Took (further whole) Keeps (Ends 0) ts x rest → length rest < length ts
-argument_smaller ts rest x s = omega (arith, ap length s.whole, length-append s.taken rest, ap length s.derives.parts, length-append s.derives.front s.derives.back, ap length s.derives.first.1)
 
 pub parted : Parted Keeps (λ l x xs. AllKeep l xs) AllKeep
 parted = record { to = λ l x xs w v. All-cons (Keeps l) x xs w v; from = λ l x xs v. (All-head (Keeps l) x xs v, All-tail (Keeps l) x xs v) }
@@ -172,7 +169,7 @@ paren_no_less : tok.Sign sign.OpenParen ≡ tok.Sign sign.Less → ⊥
 paren_no_less e = cc
 
 pub no_less : Links (ended arguments) Always (Isnt (tok.Sign sign.Less))
-no_less y us r d f = begins_isnt us r (begins_first us r d (begins_mark d.front (d.back ++ r) d.first)) paren_no_less
+no_less y us r d f = opens_isnt us r (opens_first us r d (opens_mark d.front (d.back ++ r) d.first)) paren_no_less
 
 pub last_snoc : (root x : NameAt) (xs : List NameAt) → last root (xs ++ x ∷ []) ≡ x
 last_snoc root x [] = refl

@@ -14,8 +14,9 @@ use Rattle.ae_code.specs.Grammar.{Tokens, each, root, step, path, receiver, whol
 use Rattle.ae_code.specs.Limits.{KeepsRight, AllKeep, early}
 use Rattle.ae_reading.specs.declared.fail.Why.TheVariants.{Unexpected}
 use Rattle.ae_reading.specs.Reads.{head, Always, Is, Isnt, IsName, IsWithin, NoEnd, Stopped}
-use Rattle.ae_reading.proofs.ReadsLemmas.{NoEnd-append, none_back, lead_here, name_token}
+use Rattle.ae_reading.proofs.ReadsLemmas.{NoEnd-append, lead_here, name_token}
 use Rattle.ae_reading.proofs.UniquePaths.{IsRoot}
+use Rattle.ae_reading.proofs.Begins.{isnt_of}
 use Rattle.ae_statements.specs.Productions.{ended}
 use Rattle.ae_statements.specs.Deciding.{Calling, IsCall, IsCallable, IsCallTail, IsPlain, IsValue, starts, follows_path, follows_compared, follows_group}
 use Rattle.ae_statements.proofs.CallLemmas.{none_within}
@@ -32,10 +33,6 @@ Paren = tok.Sign sign.OpenParen
 
 abbrev pub Less : Lexical
 Less = tok.Sign sign.Less
-
-pub isnt_head : (k : Lexical) (o : Option Lexeme) → (Is k o → ⊥) → Isnt k o
-isnt_head k None n = tt
-isnt_head k (Some t) n = n
 
 root_no_end : (x : NameAt) (us : Tokens) → root x us → NoEnd us
 root_no_end x us (inl d) = let P : Tokens → Type 0 = NoEnd in subst P (sym d) ((λ e. cc), tt)
@@ -70,9 +67,7 @@ neither before rest c no_end none = record {
   before = before;
   rest = rest;
   whole = refl;
-  back = 0;
-  left_is = none_back (length rest);
-  placed = refl;
+  left_is = refl;
   tree = Returned c.tree;
   more = c.more;
   goes = c.goes;
@@ -143,7 +138,7 @@ transported : (k : Lexical) (other rest : Tokens) → head other ≡ head rest �
 transported k other rest h i = let P : Option Lexeme → Type 0 = Is k in subst P h i
 
 pub isnt_transported : (k : Lexical) (other rest : Tokens) → head other ≡ head rest → (Is k (head rest) → ⊥) → Isnt k (head other)
-isnt_transported k other rest h n = isnt_head k (head other) (λ i. n (transported k other rest h i))
+isnt_transported k other rest h n = isnt_of k (head other) (λ i. n (transported k other rest h i))
 
 -- nothing goes on behind a path
 pub neither_path : (p : Path) (ps rest : Tokens) → path p ps → IsCallable p ps → (Is (tok.Sign sign.Dot) (head rest) → ⊥) → (Is (tok.Sign sign.OpenParen) (head rest) → ⊥) → (Is (tok.Sign sign.Less) (head rest) → ⊥) → (Follows follows_path (head rest) → ⊥) → Stopped (ended right_side) KeepsRight Always (ps ++ rest) Unexpected (length rest)
@@ -246,11 +241,12 @@ value_only before rest plain no_call y us r other d e h = by_side (plain_side y 
     by_side (inl s) = (s.0, s.1)
     by_side (inr s) = absurd (no_call s.0 us r other s.2 e h)
 
-pub value_path : (p : Path) (ps later : Tokens) (t : Lexeme) → path p ps → IsCallable p ps → (t.kind ≡ tok.Sign sign.Dot → ⊥) → (t.kind ≡ tok.Sign sign.OpenParen → ⊥) → (t.kind ≡ tok.Sign sign.Less → ⊥) → follows_path t.kind ≡ true → IsValue (ps ++ (t ∷ later))
+pub value_path : (p : Path) (ps later : Tokens) (t : Lexeme) → path p ps → IsCallable p ps → (t.kind ≡ tok.Sign sign.Dot → ⊥) → (t.kind ≡ tok.Sign sign.OpenParen → ⊥) → (t.kind ≡ tok.Sign sign.Less → ⊥) → follows_path t.kind ≡ true → IsValue (ps ++ (t ∷ later)) (length (t ∷ later))
 value_path p ps later t q k no_dot no_paren no_less f = record {
   before = ps;
   rest = t ∷ later;
   whole = refl;
+  left_is = refl;
   only = value_only ps (t ∷ later) (λ other h. path_plain p ps other q) no_call;
   undecided = inr (p, inl q);
   both = inr (calling_path p ps k, comparing_path p ps later t q f);
@@ -265,11 +261,12 @@ value_path p ps later t q k no_dot no_paren no_less f = record {
         let b = call_behind c us r p ps other d e q (isnt_transported Dot other (t ∷ later) h no_dot) in
         no_tail other h (tail_head other b.tail)
 
-pub value_less : (p : Path) (ps later : Tokens) (less t : Lexeme) → path p ps → IsCallable p ps → less.kind ≡ tok.Sign sign.Less → (IsName (Some t) → ⊥) → starts t.kind ≡ true → IsValue (ps ++ (less ∷ t ∷ later))
+pub value_less : (p : Path) (ps later : Tokens) (less t : Lexeme) → path p ps → IsCallable p ps → less.kind ≡ tok.Sign sign.Less → (IsName (Some t) → ⊥) → starts t.kind ≡ true → IsValue (ps ++ (less ∷ t ∷ later)) (length (t ∷ later))
 value_less p ps later less t q c k no_name f = record {
   before = ps ++ less ∷ [];
   rest = t ∷ later;
   whole = sym (append_assoc ps (less ∷ []) (t ∷ later));
+  left_is = refl;
   only = value_only (ps ++ less ∷ []) (t ∷ later) (λ other h. let P : Tokens → Type 0 = IsPlain in subst P (sym (append_assoc ps (less ∷ []) other)) (path_plain p ps (less ∷ other) q)) no_call;
   undecided = inr (p, inr (inl (record { front = ps; back = less ∷ []; parts = refl; first = q; second = one_of Less less k })));
   both = inr (calling_less p ps less c k, comparing_less p ps later less t q k f);
@@ -281,11 +278,12 @@ value_less p ps later less t q c k no_name f = record {
         let P : Option Lexeme → Type 0 = IsName in
         no_name (subst P h (tail_name less other k b.tail))
 
-pub value_name : (p : Path) (ps later : Tokens) (less n t : Lexeme) (m : ℕ) → path p ps → IsCallable p ps → less.kind ≡ tok.Sign sign.Less → n.kind ≡ tok.Name m → follows_group t.kind ≡ false → follows_compared t.kind ≡ true → IsValue (ps ++ (less ∷ n ∷ t ∷ later))
+pub value_name : (p : Path) (ps later : Tokens) (less n t : Lexeme) (m : ℕ) → path p ps → IsCallable p ps → less.kind ≡ tok.Sign sign.Less → n.kind ≡ tok.Name m → follows_group t.kind ≡ false → follows_compared t.kind ≡ true → IsValue (ps ++ (less ∷ n ∷ t ∷ later)) (length (t ∷ later))
 value_name p ps later less n t m q c k i no_group f = record {
   before = ps ++ less ∷ n ∷ [];
   rest = t ∷ later;
   whole = sym (append_assoc ps (less ∷ n ∷ []) (t ∷ later));
+  left_is = refl;
   only = value_only (ps ++ less ∷ n ∷ []) (t ∷ later) (λ other h. let P : Tokens → Type 0 = IsPlain in subst P (sym (append_assoc ps (less ∷ n ∷ []) other)) (path_plain p ps (less ∷ n ∷ other) q)) no_call;
   undecided = inr (p, inr (inr (named n m, record { front = ps; back = less ∷ n ∷ []; parts = refl; first = q; second = record { front = less ∷ []; back = n ∷ []; parts = refl; first = one_of Less less k; second = name_of n m i } })));
   both = inr (calling_name p ps less n m c k i, comparing_name p ps later less n t m q k i f);
@@ -316,11 +314,12 @@ no_steps (Some p) m x e = let h : p.steps ++ m ∷ [] ≡ [] = ap (λ (q : Path)
     not_nil (y ∷ xs) h = cc
 
 -- `this` alone is not called
-pub value_this : (rest : Tokens) (first : Lexeme) → first.kind ≡ tok.Word word.This → (Is (tok.Sign sign.Dot) (head rest) → ⊥) → IsValue (first ∷ rest)
+pub value_this : (rest : Tokens) (first : Lexeme) → first.kind ≡ tok.Word word.This → (Is (tok.Sign sign.Dot) (head rest) → ⊥) → IsValue (first ∷ rest) (length rest)
 value_this rest first k no_dot = record {
   before = first ∷ [];
   rest = rest;
   whole = refl;
+  left_is = refl;
   only = value_only (first ∷ []) rest (λ other h. path_plain alone (first ∷ []) other alone_is) no_call;
   undecided = inr (alone, inl alone_is);
   both = inl (sym (path_marks alone (first ∷ []) alone_is));
@@ -340,11 +339,12 @@ value_this rest first k no_dot = record {
         let kinds : tok.Name n.0 ≡ tok.Word word.This = sym n.1 ∙ k in cc
 
 -- no call begins with another token
-pub value_other : (ts : Tokens) → IsPlain ts → (IsName (head ts) → ⊥) → (Is (tok.Word word.This) (head ts) → ⊥) → IsValue ts
+pub value_other : (ts : Tokens) → IsPlain ts → (IsName (head ts) → ⊥) → (Is (tok.Word word.This) (head ts) → ⊥) → IsValue ts (length ts)
 value_other ts plain no_name no_this = record {
   before = [];
   rest = ts;
   whole = refl;
+  left_is = refl;
   only = value_only [] ts (λ other h. ((λ i. plain.0 (transported (tok.Word word.Take) other ts h i)), (λ i. plain.1 (transported (tok.Word word.New) other ts h i)))) no_call;
   undecided = inl refl;
   both = inl refl;

@@ -39,9 +39,9 @@ name_none ts e ps less n m c k i =
 pub name_neither : (ts later : Tokens) (t : Lexeme) → ts ≡ t ∷ later → false ≡ follows_group t.kind → false ≡ follows_compared t.kind → BehindName ts (decided.Neither (length ts))
 name_neither ts later t e g f ps less n m c k i = neither_name c.0 ps ts less n m c.1 c.2 k i (NoFollow-some follows_compared ts later t e (sym f)) (NoFollow-some follows_group ts later t e (sym g))
 
-pub name_value : (ts later : Tokens) (t : Lexeme) → ts ≡ t ∷ later → false ≡ follows_group t.kind → true ≡ follows_compared t.kind → BehindName ts decided.Value
+pub name_value : (ts later : Tokens) (t : Lexeme) → ts ≡ t ∷ later → false ≡ follows_group t.kind → true ≡ follows_compared t.kind → BehindName ts (decided.Value (length ts))
 name_value ts later t e g f ps less n m c k i =
-    let P : Tokens → Type 0 = λ z. IsValue (ps ++ less ∷ n ∷ z) in
+    let P : Tokens → Type 0 = λ z. IsValue (ps ++ less ∷ n ∷ z) (length z) in
     subst P (sym e) (value_name c.0 ps later less n t m c.1 c.2 k i (sym g) (sym f))
 
 -- ---- behind a path and `<`
@@ -61,9 +61,9 @@ less_name ts later t d e i f ps less c k =
 pub less_neither : (ts later : Tokens) (t : Lexeme) → ts ≡ t ∷ later → (IsName (head ts) → ⊥) → false ≡ starts t.kind → BehindLess ts (decided.Neither (length ts))
 less_neither ts later t e n f ps less c k = neither_less c.0 ps ts less c.1 c.2 k n (NoFollow-some starts ts later t e (sym f))
 
-pub less_value : (ts later : Tokens) (t : Lexeme) → ts ≡ t ∷ later → (IsName (head ts) → ⊥) → true ≡ starts t.kind → BehindLess ts decided.Value
+pub less_value : (ts later : Tokens) (t : Lexeme) → ts ≡ t ∷ later → (IsName (head ts) → ⊥) → true ≡ starts t.kind → BehindLess ts (decided.Value (length ts))
 less_value ts later t e n f ps less c k =
-    let P : Tokens → Type 0 = λ z. IsValue (ps ++ less ∷ z) in
+    let P : Tokens → Type 0 = λ z. IsValue (ps ++ less ∷ z) (length z) in
     let Q : Tokens → Type 0 = λ z. IsName (head z) in
     subst P (sym e) (value_less c.0 ps later less t c.1 c.2 k (λ i. n (subst Q (sym e) i)) (sym f))
 
@@ -98,9 +98,9 @@ path_less ts later t d e no_dot i f p ps q c none =
 pub path_neither : (ts later : Tokens) (t : Lexeme) → ts ≡ t ∷ later → (Is (tok.Sign sign.Dot) (head ts) → ⊥) → (Is (tok.Sign sign.OpenParen) (head ts) → ⊥) → (Is (tok.Sign sign.Less) (head ts) → ⊥) → false ≡ follows_path t.kind → BehindPath ts (decided.Neither (length ts))
 path_neither ts later t e no_dot no_paren no_less f p ps q c none = neither_path p ps ts q (callable p ps ts c no_dot) no_dot no_paren no_less (NoFollow-some follows_path ts later t e (sym f))
 
-pub path_value : (ts later : Tokens) (t : Lexeme) → ts ≡ t ∷ later → (Is (tok.Sign sign.Dot) (head ts) → ⊥) → (Is (tok.Sign sign.OpenParen) (head ts) → ⊥) → (Is (tok.Sign sign.Less) (head ts) → ⊥) → true ≡ follows_path t.kind → BehindPath ts decided.Value
+pub path_value : (ts later : Tokens) (t : Lexeme) → ts ≡ t ∷ later → (Is (tok.Sign sign.Dot) (head ts) → ⊥) → (Is (tok.Sign sign.OpenParen) (head ts) → ⊥) → (Is (tok.Sign sign.Less) (head ts) → ⊥) → true ≡ follows_path t.kind → BehindPath ts (decided.Value (length ts))
 path_value ts later t e no_dot no_paren no_less f p ps q c none =
-    let P : Tokens → Type 0 = λ z. IsValue (ps ++ z) in
+    let P : Tokens → Type 0 = λ z. IsValue (ps ++ z) (length z) in
     subst P (sym e) (value_path p ps later t q (callable p ps ts c no_dot) (not_here (tok.Sign sign.Dot) ts later t e no_dot) (not_here (tok.Sign sign.OpenParen) ts later t e no_paren) (not_here (tok.Sign sign.Less) ts later t e no_less) (sym f))
 
 -- ---- from the start
@@ -126,7 +126,7 @@ this_steps ts rest d i s f first k =
     let r : root x (first ∷ []) = inr (refl, ap (λ j. record { kind = j; at = first.at } ∷ []) k) in
     rooted x first ts rest d r s (this_callable x first s.fields s.taken ts rest r s.are s.whole i) f
 
-pub this_alone : (ts : Tokens) → (Is (tok.Sign sign.Dot) (head ts) → ⊥) → (first : Lexeme) → first.kind ≡ tok.Word word.This → IsValue (first ∷ ts)
+pub this_alone : (ts : Tokens) → (Is (tok.Sign sign.Dot) (head ts) → ⊥) → (first : Lexeme) → first.kind ≡ tok.Word word.This → IsValue (first ∷ ts) (length ts)
 this_alone ts n first k = value_this ts first k n
 
 pub from_name : (ts mid rest : Tokens) (t : Lexeme) (d : Decided) → ts ≡ t ∷ mid → IsName (head ts) → AllSteps mid rest → BehindPath rest d → Decides ts d
@@ -141,8 +141,5 @@ from_name ts mid rest t d e i s f =
 pub from_this : (ts mid : Tokens) (t : Lexeme) (d : Decided) → ts ≡ t ∷ mid → Is (tok.Word word.This) (head ts) → ((first : Lexeme) → first.kind ≡ tok.Word word.This → Decides (first ∷ mid) d) → Decides ts d
 from_this ts mid t d e i f = let Q : Tokens → Type 0 = λ z. Decides z d in subst Q (sym e) (f t (here (tok.Word word.This) ts mid t e i))
 
-pub from_none : (ts : Tokens) → IsPlain ts → ts ≡ [] → IsValue ts
+pub from_none : (ts : Tokens) → IsPlain ts → ts ≡ [] → IsValue ts (length ts)
 from_none ts plain e = value_other ts plain (no_name_here ts e) (nothing_here (tok.Word word.This) ts e)
-
-pub from_other : (ts : Tokens) → IsPlain ts → (IsName (head ts) → ⊥) → (Is (tok.Word word.This) (head ts) → ⊥) → IsValue ts
-from_other ts plain n i = value_other ts plain n i

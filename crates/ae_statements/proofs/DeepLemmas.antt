@@ -17,66 +17,66 @@ use Rattle.ae_code.specs.declared.tree.Op.TheVariants as op
 use Rattle.ae_code.specs.Plain.{Expression, Number, Truth, Nothing, Read, Item, Length, Grouped, Negated, Minus, Binary, End}
 use Rattle.ae_code.specs.Plain.{Action, Chooses, ChoosesElse, Repeats, Splits, Locks, Groups}
 use Rattle.ae_code.specs.Grammar.{Tokens, Then, ◌⨾◌, one, one_at, name, root, step, path, each, further, separated, whole, expression, sign_of, statement}
-use Rattle.ae_code.specs.Limits.{Keeps, KeepsIn, early}
-use Rattle.ae_code.specs.Refused.{AreKnown, OpensBlock, NoOpen, IsHead}
+use Rattle.ae_code.specs.Limits.{Keeps, KeepsIn, early, rank}
+use Rattle.ae_code.specs.Refused.{AreKnown, OpensBlock, NoOpen, IsHead, IsTypeWord}
 use Rattle.ae_reading.specs.declared.fail.Fail.{Fail}
 use Rattle.ae_reading.specs.declared.fail.Why.{Why}
 use Rattle.ae_reading.specs.declared.fail.Why.TheVariants.{Unexpected, Over}
-use Rattle.ae_reading.specs.Reads.{head, Always, Free, Is, Isnt, Took, Lead, Stopped, Failed, Counts, Beyond, Token}
-use Rattle.ae_reading.proofs.ReadsLemmas.{Lang, Bound, Follow, Both, Pair, Along, AreKnown-append, same_head, stands_here, none_back, counts_by, failed_by, nowhere, io_name, took_as, failed_as, both, first, second, free, has_name}
+use Rattle.ae_reading.specs.Reads.{head, Always, Free, Is, Isnt, Took, Lead, Stopped, Failed, Counts, Beyond, Token, IsWithin}
+use Rattle.ae_reading.proofs.ReadsLemmas.{Lang, Bound, Follow, Both, Pair, Along, AreKnown-append, same_head, counts_by, failed_by, nowhere, io_name, took_as, failed_as, both, first, second, free, has_name}
 use Rattle.ae_expressions.specs.Ends.{Ends}
 use Rattle.ae_statements.specs.Productions.{stmt, KeepsStmt, NoElse, Opening, braced}
 use Rattle.ae_statements.specs.Blocks.{KeepsCondition, condition, split_groups, locked_group}
 use Rattle.ae_statements.proofs.ShapeLemmas.{Lets, sign_ends, has_whole}
 use Rattle.ae_statements.proofs.FormLemmas.{Formed, formed}
-use Rattle.ae_statements.proofs.BlockLemmas.{opening, closing, has_names}
+use Rattle.ae_statements.proofs.BlockLemmas.{brace_no_comma, opening, closing, has_names}
 
 -- ---- tokens without an opening brace
 
 no_open_append : (a b : Tokens) → NoOpen a → NoOpen b → NoOpen (a ++ b)
 no_open_append [] b m n = n
-no_open_append (t ∷ a) b m n = (m.0, no_open_append a b m.1 n)
+no_open_append (t ∷ a) b m n = (m.0, m.1, no_open_append a b m.2 n)
 
 no_open_front : (a b : Tokens) → NoOpen (a ++ b) → NoOpen a
 no_open_front [] b n = tt
-no_open_front (t ∷ a) b n = (n.0, no_open_front a b n.1)
+no_open_front (t ∷ a) b n = (n.0, n.1, no_open_front a b n.2)
 
 no_open_then : {p q : Tokens → Type 0} (us : Tokens) (d : Then p q us) → NoOpen d.front → NoOpen d.back → NoOpen us
 no_open_then us d m n = let P : Tokens → Type 0 = NoOpen in subst P (sym d.parts) (no_open_append d.front d.back m n)
 
-no_open_at : {k : Lexical} {at : Spot} (us : Tokens) → one_at k at us → (k ≡ opening → ⊥) → NoOpen us
-no_open_at us d other = let P : Tokens → Type 0 = NoOpen in subst P (sym d) (other, tt)
+no_open_at : {k : Lexical} {at : Spot} (us : Tokens) → one_at k at us → (k ≡ opening → ⊥) → (IsTypeWord k → ⊥) → NoOpen us
+no_open_at us d other word = let P : Tokens → Type 0 = NoOpen in subst P (sym d) (other, word, tt)
 
 no_open_none : (us : Tokens) → us ≡ [] → NoOpen us
 no_open_none us d = let P : Tokens → Type 0 = NoOpen in subst P (sym d) tt
 
 no_open_name : (x : NameAt) (us : Tokens) → name x us → NoOpen us
-no_open_name x us d = no_open_at us d (λ e. cc)
+no_open_name x us d = no_open_at us d (λ e. cc) (λ e. e)
 
 no_open_root : (x : NameAt) (us : Tokens) → root x us → NoOpen us
 no_open_root x us (inl d) = no_open_name x us d
-no_open_root x us (inr d) = no_open_at us d.1 (λ e. cc)
+no_open_root x us (inr d) = no_open_at us d.1 (λ e. cc) (λ e. e)
 
 no_open_each : {A : Type 0} (D : Lang A) → ((x : A) (us : Tokens) → D x us → NoOpen us) → (xs : List A) (us : Tokens) → each D xs us → NoOpen us
 no_open_each D f [] us d = no_open_none us d
 no_open_each D f (x ∷ xs) us d = no_open_then us d (f x d.front d.first) (no_open_each D f xs d.back d.second)
 
 no_open_step : (x : NameAt) (us : Tokens) → step x us → NoOpen us
-no_open_step x us d = no_open_then us d (no_open_at d.front d.first.1 (λ e. cc)) (no_open_name x d.back d.second)
+no_open_step x us d = no_open_then us d (no_open_at d.front d.first.1 (λ e. cc) (λ e. e)) (no_open_name x d.back d.second)
 
 no_open_path : (p : Path) (us : Tokens) → path p us → NoOpen us
 no_open_path p us d = no_open_then us d (no_open_root p.root d.front d.first) (no_open_each step no_open_step p.steps d.back d.second)
 
 no_open_further : (x : NameAt) (us : Tokens) → further name x us → NoOpen us
-no_open_further x us d = no_open_then us d (no_open_at d.front d.first.1 (λ e. cc)) (no_open_name x d.back d.second)
+no_open_further x us d = no_open_then us d (no_open_at d.front d.first.1 (λ e. cc) (λ e. e)) (no_open_name x d.back d.second)
 
 no_open_names : (xs : List NameAt) (us : Tokens) → separated name xs us → NoOpen us
 no_open_names [] us d = absurd d
 no_open_names (x ∷ xs) us d = no_open_then us d (no_open_name x d.front d.first) (no_open_each (further name) no_open_further xs d.back d.second)
 
 no_open_truth : (b : Bool) (at : Spot) (l : ℕ) (us : Tokens) → expression (Truth b at) l us → NoOpen us
-no_open_truth true at l us d = no_open_at us d (λ e. cc)
-no_open_truth false at l us d = no_open_at us d (λ e. cc)
+no_open_truth true at l us d = no_open_at us d (λ e. cc) (λ e. e)
+no_open_truth false at l us d = no_open_at us d (λ e. cc) (λ e. e)
 
 no_open_operator : (o : Op) → tok.Sign (sign_of o) ≡ opening → ⊥
 no_open_operator op.Or e = cc
@@ -93,27 +93,27 @@ no_open_operator op.Mul e = cc
 no_open_operator op.Div e = cc
 no_open_operator op.Rem e = cc
 
-no_open_mark : {k : Lexical} (us : Tokens) → one k us → (k ≡ opening → ⊥) → NoOpen us
-no_open_mark us d other = no_open_at us d.1 other
+no_open_mark : {k : Lexical} (us : Tokens) → one k us → (k ≡ opening → ⊥) → (IsTypeWord k → ⊥) → NoOpen us
+no_open_mark us d other word = no_open_at us d.1 other word
 
 no_open_expression : (e : Expression) (l : ℕ) (us : Tokens) → expression e l us → NoOpen us
-no_open_expression (Number n at) l us d = no_open_at us d (λ e. cc)
+no_open_expression (Number n at) l us d = no_open_at us d (λ e. cc) (λ e. e)
 no_open_expression (Truth b at) l us d = no_open_truth b at l us d
-no_open_expression (Nothing at) l us d = no_open_at us d (λ e. cc)
+no_open_expression (Nothing at) l us d = no_open_at us d (λ e. cc) (λ e. e)
 no_open_expression (Read p) l us d = no_open_path p us d
 no_open_expression (Item p e) l us d =
     no_open_then us d (no_open_path p d.front d.first)
-    (no_open_then d.back d.second (no_open_mark d.second.front d.second.first (λ e. cc))
-    (no_open_then d.second.back d.second.second (no_open_expression e 0 d.second.second.front d.second.second.first) (no_open_mark d.second.second.back d.second.second.second (λ e. cc))))
-no_open_expression (Length p at) l us d = no_open_then us d (no_open_at d.front d.first (λ e. cc)) (no_open_path p d.back d.second)
+    (no_open_then d.back d.second (no_open_mark d.second.front d.second.first (λ e. cc) (λ e. e))
+    (no_open_then d.second.back d.second.second (no_open_expression e 0 d.second.second.front d.second.second.first) (no_open_mark d.second.second.back d.second.second.second (λ e. cc) (λ e. e))))
+no_open_expression (Length p at) l us d = no_open_then us d (no_open_at d.front d.first (λ e. cc) (λ e. e)) (no_open_path p d.back d.second)
 no_open_expression (Grouped e at) l us d =
-    no_open_then us d (no_open_at d.front d.first (λ e. cc))
-    (no_open_then d.back d.second (no_open_expression e 0 d.second.front d.second.first) (no_open_mark d.second.back d.second.second (λ e. cc)))
-no_open_expression (Negated e at) l us d = no_open_then us d (no_open_at d.front d.first (λ e. cc)) (no_open_expression e 5 d.back d.second)
-no_open_expression (Minus e at) l us d = no_open_then us d (no_open_at d.front d.first (λ e. cc)) (no_open_expression e 5 d.back d.second)
+    no_open_then us d (no_open_at d.front d.first (λ e. cc) (λ e. e))
+    (no_open_then d.back d.second (no_open_expression e 0 d.second.front d.second.first) (no_open_mark d.second.back d.second.second (λ e. cc) (λ e. e)))
+no_open_expression (Negated e at) l us d = no_open_then us d (no_open_at d.front d.first (λ e. cc) (λ e. e)) (no_open_expression e 5 d.back d.second)
+no_open_expression (Minus e at) l us d = no_open_then us d (no_open_at d.front d.first (λ e. cc) (λ e. e)) (no_open_expression e 5 d.back d.second)
 no_open_expression (Binary o a b) l us d =
     no_open_then us d.1 (no_open_expression a _ d.1.front d.1.first)
-    (no_open_then d.1.back d.1.second (no_open_mark d.1.second.front d.1.second.first (no_open_operator o)) (no_open_expression b _ d.1.second.back d.1.second.second))
+    (no_open_then d.1.back d.1.second (no_open_mark d.1.second.front d.1.second.first (no_open_operator o) (λ e. e)) (no_open_expression b _ d.1.second.back d.1.second.second))
 
 -- ---- heads: what stands before the block
 
@@ -150,9 +150,25 @@ pub record Headed {B : Type 0} (E : Lang B) (V : Bound B) (y : Spot × Action) (
 pub record Heads {B : Type 0} (E : Lang B) (V : Bound B) (F : Follow) (ts : Tokens) (n : ℕ) (build : B → Spot × Action) : Type 0 where
   pub lets : Lets opening F
   pub intro : (t : Lexeme) → t.kind ≡ opening → (q : B) (us : Tokens) → E q us → stmt n (build q) (us ++ (t ∷ record { kind = closing; at = nowhere } ∷ []))
-  pub to : (l : Limit) (q : B) → V (early l) q → KeepsIn (early l) 0 ((build q).1)
+  pub to : (l : Limit) → rank l < 3 → (q : B) → V l q → KeepsIn l 0 ((build q).1)
   pub cases : (y : Spot × Action) (us r : Tokens) → stmt n y us → head (us ++ r) ≡ head ts → Headed E V y us
   pub leads : (q : B) (us : Tokens) → E q us → Leads us
+
+-- the limits but that of blocks in one another
+rank_most : (l : Limit) → rank l ≤ 3
+rank_most limit.Statements = omega arith
+rank_most limit.Levels = omega arith
+rank_most limit.Depth = omega arith
+rank_most limit.Params = omega arith
+
+named_first : (m l : Limit) → rank m < rank l → rank m < 3
+named_first m l k = let h = rank_most l in omega (arith, h, k)
+
+early_first : (l : Limit) → rank (early l) < 3
+early_first limit.Statements = omega arith
+early_first limit.Levels = omega arith
+early_first limit.Depth = omega arith
+early_first limit.Params = omega arith
 
 abbrev brace_at : Lexeme
 brace_at = record { kind = opening; at = nowhere }
@@ -195,7 +211,7 @@ leads_up n before l = record {
   within = λ l. tt;
 }
 
-deep_beyond : {B : Type 0} {E : Lang B} {V : Bound B} {F : Follow} {ts : Tokens} {n : ℕ} {build : B → Spot × Action} (why : Why) (before rest : Tokens) → Heads E V F ts n build → Beyond E before rest why → Beyond (stmt n) before rest why
+deep_beyond : {B : Type 0} {E : Lang B} {V : Bound B} {F : Follow} {ts : Tokens} {n : ℕ} {build : B → Spot × Action} (why : Why) (before rest : Tokens) → Heads E V F ts n build → Beyond E V before rest why → Beyond (stmt n) (KeepsStmt 0) before rest why
 deep_beyond Unexpected before rest h b = tt
 deep_beyond {n = n} {build} (Over l) before rest h b = record {
   next = b.next;
@@ -205,6 +221,7 @@ deep_beyond {n = n} {build} (Over l) before rest h b = record {
   after = b.after ++ empty;
   known = AreKnown-append b.after empty b.known known_empty;
   passes = b.passes;
+  others = λ m k. h.to m (named_first m l k) b.tree (b.others m k);
   goes_on = (let P : Tokens → Type 0 = λ l. stmt n (build b.tree) l in subst P (append_assoc before (b.next ∷ b.after) empty) (h.intro brace_at refl b.tree (before ++ (b.next ∷ b.after)) b.goes_on));
 }
 
@@ -218,14 +235,12 @@ head_stopped {E = E} {V} {F} {ts} {n} {build} {why} h u = record {
   before = u.before;
   rest = u.rest;
   whole = u.whole;
-  back = u.back;
   left_is = u.left_is;
-  placed = u.placed;
   tree = build u.tree;
   more = u.more ++ empty;
   goes = (let P : Tokens → Type 0 = λ l. stmt n (build u.tree) l in subst P (append_assoc u.before u.more empty) (h.intro brace_at refl u.tree (u.before ++ u.more) u.goes));
   known = AreKnown-append u.more empty u.known known_empty;
-  within = λ l. h.to l u.tree (u.within l);
+  within = λ l. h.to (early l) (early_first l) u.tree (u.within l);
   lead = leads_up n u.before (leads_front u.before u.more (h.leads u.tree (u.before ++ u.more) u.goes));
   no_end = u.no_end;
   stuck = λ y us r other d e o f w.
@@ -239,9 +254,10 @@ pub head_failed : {B : Type 0} {E : Lang B} {V : Bound B} {F : Follow} {ts : Tok
     Heads E V F ts n build → Failed E V F ts e → Failed (stmt n) (KeepsStmt 0) NoElse ts e
 head_failed h f = failed_by (λ why left s. head_stopped h s) f
 
-opened_beyond : {B : Type 0} {E : Lang B} {V : Bound B} {F : Follow} {ts : Tokens} {n : ℕ} {build : B → Spot × Action} (q : B) (taken rest : Tokens) → Heads E V F ts n build → E q taken → Is opening (head rest) → Beyond (stmt n) taken rest (Over limit.Levels)
-opened_beyond q taken [] h d is = absurd is
-opened_beyond {build = build} q taken (t ∷ rest) h d is = record {
+opened_beyond : {B : Type 0} {E : Lang B} {V : Bound B} {F : Follow} {ts : Tokens} {n : ℕ} {build : B → Spot × Action} (q : B) (taken rest : Tokens) → Heads E V F ts n build → E q taken → IsWithin V q → Is opening (head rest) → Beyond (stmt n) (KeepsStmt 0) taken rest (Over limit.Levels)
+opened_beyond q taken [] h d w is = absurd is
+opened_beyond {build = build} q taken (t ∷ rest) h d w is = record {
+  others = λ m k. h.to m k q (w m);
   next = t;
   later = rest;
   rest_is = refl;
@@ -259,19 +275,17 @@ brace_next o t e is = let P : Option Lexeme → Type 0 = Is opening in subst P (
 read_here : {B : Type 0} {E : Lang B} {V : Bound B} {F : Follow} {ts rest : Tokens} {n : ℕ} {build : B → Spot × Action} {q : B} (why : Why) →
     Heads E V F ts n build → (t : Took E V F ts q rest) →
     ((y : Spot × Action) (us r other : Tokens) → stmt n y us → us ++ r ≡ t.taken ++ other → head other ≡ head rest → NoElse (head r) → Counts why (λ l. KeepsStmt 0 l y) → ⊥) →
-    Beyond (stmt n) t.taken rest why → Stopped (stmt n) (KeepsStmt 0) NoElse ts why (length rest)
+    Beyond (stmt n) (KeepsStmt 0) t.taken rest why → Stopped (stmt n) (KeepsStmt 0) NoElse ts why (length rest)
 read_here {rest = rest} {n} {build} {q} why h t stuck beyond = record {
   before = t.taken;
   rest = rest;
   whole = t.whole;
-  back = 0;
-  left_is = none_back (length rest);
-  placed = stands_here why t.taken;
+  left_is = refl;
   tree = build q;
   more = empty;
   goes = h.intro brace_at refl q t.taken t.derives;
   known = known_empty;
-  within = λ l. h.to l q (t.within (early l));
+  within = λ l. h.to (early l) (early_first l) q (t.within (early l));
   lead = leads_up n t.taken (h.leads q t.taken t.derives);
   no_end = t.no_end;
   stuck = stuck;
@@ -288,7 +302,7 @@ head_read {F = F} {ts} {rest} {q = q} Unexpected h t none = read_here Unexpected
 head_read {ts = ts} {rest} {n} {build} {q} (Over l) h t over =
     let P : Limit → Type 0 = λ m. Stopped (stmt n) (KeepsStmt 0) NoElse ts (Over m) (length rest) in
     subst P (sym over.0) (read_here (Over limit.Levels) h t (λ y us r other d e o f w.
-    (h.cases y us r d (same_head us r t.taken other rest ts e o t.whole)).deep w) (opened_beyond q t.taken rest h t.derives over.1))
+    (h.cases y us r d (same_head us r t.taken other rest ts e o t.whole)).deep w) (opened_beyond q t.taken rest h t.derives t.within over.1))
 
 -- ---- the four forms
 
@@ -360,17 +374,17 @@ none_below h = omega (arith, h)
 zero_few : 0 ≤ 1024
 zero_few = omega arith
 
-zero_early : (l : Limit) (e : Expression) (n : ℕ) → Keeps (early l) e → KeepsIn (early l) 0 (Chooses e n End)
-zero_early limit.Statements e n k = (k, tt, zero_few, tt)
-zero_early limit.Levels e n k = (k, tt, tt, tt)
-zero_early limit.Depth e n k = (k, tt, tt, tt)
-zero_early limit.Params e n k = (k, tt, tt, tt)
+zero_kept : (l : Limit) (e : Expression) (n : ℕ) → rank l < 3 → Keeps l e → KeepsIn l 0 (Chooses e n End)
+zero_kept limit.Statements e n h k = (k, tt, zero_few, tt)
+zero_kept limit.Levels e n h k = absurd (omega (arith, h))
+zero_kept limit.Depth e n h k = (k, tt, tt, tt)
+zero_kept limit.Params e n h k = (k, tt, tt, tt)
 
-names_early : (l : Limit) (gs : List NameAt) (n : ℕ) → KeepsIn (early l) 0 (Splits gs n End)
-names_early limit.Statements gs n = (tt, zero_few, tt)
-names_early limit.Levels gs n = (tt, tt, tt)
-names_early limit.Depth gs n = (tt, tt, tt)
-names_early limit.Params gs n = (tt, tt, tt)
+names_kept : (l : Limit) (gs : List NameAt) (n : ℕ) → rank l < 3 → KeepsIn l 0 (Splits gs n End)
+names_kept limit.Statements gs n h = (tt, zero_few, tt)
+names_kept limit.Levels gs n h = absurd (omega (arith, h))
+names_kept limit.Depth gs n h = (tt, tt, tt)
+names_kept limit.Params gs n h = (tt, tt, tt)
 
 condition_leads : (w : Keyword) → OpensBlock (tok.Word w) → (q : Spot × Expression) (us : Tokens) → condition w q us → Leads us
 condition_leads w opens q us d = leads_word us d opens (no_open_expression q.1 0 d.back d.second)
@@ -396,7 +410,7 @@ pub choice_heads : (ts : Tokens) (n : ℕ) → Is (tok.Word word.If) (head ts) �
 choice_heads ts n is = record {
   lets = sign_ends sign.OpenBrace refl;
   intro = λ t i q us d. (refl, with_block us (t ∷ close_at ∷ []) d (empty_block n t i));
-  to = λ l q v. zero_early l q.1 n v;
+  to = λ l h q v. zero_kept l q.1 n h v;
   cases = λ y us r d h. choice_headed n y us d (formed (tok.Word word.If) n y us r ts d h is);
   leads = condition_leads word.If tt;
 }
@@ -417,7 +431,7 @@ pub loop_heads : (ts : Tokens) (n : ℕ) → Is (tok.Word word.While) (head ts) 
 loop_heads ts n is = record {
   lets = sign_ends sign.OpenBrace refl;
   intro = λ t i q us d. (refl, with_block us (t ∷ close_at ∷ []) d (empty_block n t i));
-  to = λ l q v. zero_early l q.1 n v;
+  to = λ l h q v. zero_kept l q.1 n h v;
   cases = λ y us r d h. loop_headed n y us d (formed (tok.Word word.While) n y us r ts d h is);
   leads = condition_leads word.While tt;
 }
@@ -434,14 +448,11 @@ split_headed n y us d f =
     let c : statement n y.0 (Splits f.0 f.1 f.2) us = subst P f.3 d in
     headed_by split_groups Free y us (y.0, f.0) c.1 (block_head us c.1) (λ l k. tt) (λ k. none_below ((subst (K limit.Levels) f.3 k).0))
 
-split_no_comma : (t : Lexeme) → t.kind ≡ opening → t.kind ≡ tok.Sign sign.Comma → ⊥
-split_no_comma t e i = let same : opening ≡ tok.Sign sign.Comma = sym e ∙ i in cc
-
 pub split_heads : (ts : Tokens) (n : ℕ) → Is (tok.Word word.Split) (head ts) → Heads split_groups Free (Isnt (tok.Sign sign.Comma)) ts n (divided n)
 split_heads ts n is = record {
-  lets = split_no_comma;
+  lets = brace_no_comma;
   intro = λ t i q us d. (refl, with_block us (t ∷ close_at ∷ []) d (empty_block n t i));
-  to = λ l q v. names_early l q.1 n;
+  to = λ l h q v. names_kept l q.1 n h;
   cases = λ y us r d h. split_headed n y us d (formed (tok.Word word.Split) n y us r ts d h is);
   leads = λ q us d. leads_word us d tt (no_open_names q.1 d.back d.second);
 }
@@ -458,17 +469,17 @@ lock_headed n y us d f =
     let c : statement n y.0 (Locks f.0 f.1 f.2) us = subst P f.3 d in
     headed_by locked_group Free y us (y.0, f.0) c.1 (block_head us c.1) (λ l k. tt) (λ k. none_below ((subst (K limit.Levels) f.3 k).0))
 
-lock_early : (l : Limit) (x : NameAt) (n : ℕ) → KeepsIn (early l) 0 (Locks x n End)
-lock_early limit.Statements x n = (tt, zero_few, tt)
-lock_early limit.Levels x n = (tt, tt, tt)
-lock_early limit.Depth x n = (tt, tt, tt)
-lock_early limit.Params x n = (tt, tt, tt)
+lock_kept : (l : Limit) (x : NameAt) (n : ℕ) → rank l < 3 → KeepsIn l 0 (Locks x n End)
+lock_kept limit.Statements x n h = (tt, zero_few, tt)
+lock_kept limit.Levels x n h = absurd (omega (arith, h))
+lock_kept limit.Depth x n h = (tt, tt, tt)
+lock_kept limit.Params x n h = (tt, tt, tt)
 
 pub lock_heads : (ts : Tokens) (n : ℕ) → Is (tok.Word word.Atomic) (head ts) → Heads locked_group Free Always ts n (locked n)
 lock_heads ts n is = record {
   lets = λ t i. tt;
   intro = λ t i q us d. (refl, with_block us (t ∷ close_at ∷ []) d (empty_block n t i));
-  to = λ l q v. lock_early l q.1 n;
+  to = λ l h q v. lock_kept l q.1 n h;
   cases = λ y us r d h. lock_headed n y us d (formed (tok.Word word.Atomic) n y us r ts d h is);
   leads = λ q us d. leads_word us d tt (no_open_name q.1 d.back d.second);
 }

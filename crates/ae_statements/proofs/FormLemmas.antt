@@ -12,16 +12,13 @@ use Rattle.ae_code.specs.Plain.{Expression, RightSide, Lines}
 use Rattle.ae_code.specs.Plain.{Action, Declares, Assigns, Stores, StoresAt, Calls, Chooses, ChoosesElse, Repeats, Groups, Splits, Locks, Freezes, Shares, Prints, PrintsText, Asserts, Returns}
 use Rattle.ae_code.specs.Grammar.{Tokens, Then, ◌⨾◌, one_at, name, root, step, path, receiver, statement}
 use Rattle.ae_reading.specs.Reads.{head, Is}
-use Rattle.ae_reading.proofs.ReadsLemmas.{NoneAt, each-append, each-one}
+use Rattle.ae_reading.proofs.ReadsLemmas.{NoneAt}
+use Rattle.ae_reading.proofs.Runs.{each-append, each-one}
 use Rattle.ae_statements.specs.Productions as productions
 use Rattle.ae_statements.specs.Productions.{stmt}
+use Rattle.ae_statements.proofs.UniqueRightSides.{joined}
 
 -- ---- calls as paths
-
--- the path of a call: its receiver, and the method behind it
-abbrev pub joined : Option Path → NameAt → Path
-joined None m = record { root = m; steps = [] }
-joined (Some p) m = record { root = p.root; steps = p.steps ++ m ∷ [] }
 
 regroup : (a b c d : Tokens) → (a ++ b) ++ (c ++ d) ≡ (a ++ (b ++ c)) ++ d
 regroup a b c d = append_assoc a b (c ++ d) ∙ ap (λ l. a ++ l) (sym (append_assoc b c d)) ∙ sym (append_assoc a (b ++ c) d)

@@ -17,10 +17,12 @@ use Rattle.ae_code.specs.Grammar.{Tokens, path, level, left_level, sign_of, whol
 use Rattle.ae_code.specs.Refused.{AreKnown}
 use Rattle.ae_reading.specs.Reads.{head, Is, Isnt, IsName}
 use Rattle.ae_reading.proofs.ReadsLemmas.{nowhere, io_name, AreKnown-append}
-use Rattle.ae_reading.proofs.UniqueLemmas.{of_other, not_both}
 use Rattle.ae_reading.proofs.UniquePaths.{IsRoot, begins_path}
-use Rattle.ae_expressions.proofs.UniqueExpressions.{at_level, one_operator, Form, kind_form, word_form, sign_form}
+use Rattle.ae_reading.proofs.Begins.{of_other, not_both}
+use Rattle.ae_expressions.proofs.UniqueExpressions.{Form, kind_form, word_form, sign_form}
 use Rattle.ae_expressions.proofs.LeadingOperands.{operator_at, Outer, Operated, IsStart, leads_path, begins_expression, led_by_path}
+use Rattle.ae_expressions.specs.Productions.{at_level}
+use Rattle.ae_expressions.proofs.OperatorLemmas.{same_operator}
 use Rattle.ae_statements.specs.Productions.{ended}
 use Rattle.ae_statements.specs.Deciding.{Comparing, starts, follows_path, follows_compared}
 use Rattle.ae_statements.proofs.SideLemmas.{Dot, one_of, name_of, path_goes}
@@ -381,7 +383,7 @@ right_of e us r p ps other less d f same q k = elim (leads_path 0 e us r p ps (l
         let P : Tokens → Type 0 = λ z. Is (tok.Sign (sign_of w.op)) (head z) in
         let here : operator_at w.op w.at ∷ ((w.text ++ w.rest) ++ r) ≡ less ∷ other = sym (ap (λ z. z ++ r) w.parts) ∙ s in
         let kinds : less.kind ≡ tok.Sign (sign_of w.op) = subst P here refl in
-        let is_less : op.Lt ≡ w.op = one_operator op.Lt w.op (sym k ∙ kinds) in
+        let is_less : op.Lt ≡ w.op = same_operator op.Lt w.op (sym k ∙ kinds) in
         let tails : (w.text ++ w.rest) ++ r ≡ other = cc in
         let A : Op → Type 0 = λ o. at_level (level o + 1) w.right w.text in
         let B : Op → Type 0 = λ o. Outer (level o) w.rest in

@@ -15,22 +15,23 @@ use Rattle.ae_code.specs.Grammar.{Tokens, ◌⨾◌, a_sign, name, step, path, e
 use Rattle.ae_code.specs.Limits.{Keeps, KeepsRight, KeepsIn}
 use Rattle.ae_reading.specs.declared.fail.Fail.{Fail}
 use Rattle.ae_reading.specs.Reads.{head, Always, Free, Is, Isnt, IsName, Took, Failed}
-use Rattle.ae_reading.proofs.ReadsLemmas.{Lang, Bound, Follow, Links, Both, Limits, Pair, Has, Along, failed_by, has_both}
-use Rattle.ae_types.proofs.FirstLemmas.{Begins, begins_mark, begins_first, begins_is, begins_other, begins_isnt}
+use Rattle.ae_reading.proofs.ReadsLemmas.{Lang, Bound, Follow, Links, Both, Limits, Pair, Has, Along, failed_by, has_both, After, AfterLinks, HasEach, took_after, after_first, after_second}
+use Rattle.ae_reading.proofs.Begins.{Opens, is_isnt, opens_mark, opens_first, opens_is, opens_other, opens_isnt}
 use Rattle.ae_expressions.specs.Ends.{Ends}
 use Rattle.ae_statements.specs.declared.led.Front.{Front}
 use Rattle.ae_statements.specs.declared.led.Front.TheVariants as front
 use Rattle.ae_statements.specs.Productions.{ended, value, called, KeepsCalled, stored, indexed, KeepsIndexed, Tailed, Assigned, Stored, StoredAt, Called, tail, KeepsTail, Only, front_at, front_of, action_of, invoked, last, but_last, receiver_of, stmt, KeepsStmt, IsRoot}
-use Rattle.ae_statements.proofs.ShapeLemmas.{Pre, Dep, DepLinks, HasEach, Lets, begins_lets, has_pre, has_whole, sign_ends, took_dep, dep_first, dep_second}
+use Rattle.ae_statements.proofs.ShapeLemmas.{Pre, Lets, begins_lets, has_pre, has_whole, sign_ends}
 use Rattle.ae_statements.proofs.CallLemmas.{invoked_some}
-use Rattle.ae_statements.proofs.FormLemmas.{formed, is_led, joined, call_path}
+use Rattle.ae_statements.proofs.FormLemmas.{formed, is_led, call_path}
 use Rattle.ae_statements.proofs.SimpleLemmas.{has_ended}
 use Rattle.ae_statements.proofs.PathLemmas.{Named, spelled, spelled_path, path_by, took_spelled, failed_spelled}
+use Rattle.ae_statements.proofs.UniqueRightSides.{joined}
 
 -- ---- parts
 
 pub pre_link : {A : Type 0} (k : Lexical) (D : Lang A) (F G : Follow) → Lets k F → Links (Pre k D) G F
-pre_link k D F G lets y us r d g = begins_lets F us r lets (begins_mark us r d)
+pre_link k D F G lets y us r d g = begins_lets F us r lets (opens_mark us r d)
 
 pub has_stored : Has stored Keeps
 has_stored = has_pre (tok.Sign sign.Assign) (ended whole) tt (has_ended whole has_whole)
@@ -55,16 +56,16 @@ has_indexed = has_pre (tok.Sign sign.OpenBracket) inside tt has_inside
 
 -- ---- what a tail begins with
 
-called_begins : (gs : List NameAt) (es : List Expression) (us r : Tokens) → called (gs, es) us → Begins us r (tok.Sign sign.OpenParen) ⊎ Begins us r (tok.Sign sign.Less)
+called_begins : (gs : List NameAt) (es : List Expression) (us r : Tokens) → called (gs, es) us → Opens us r (tok.Sign sign.OpenParen) ⊎ Opens us r (tok.Sign sign.Less)
 called_begins [] es us r d =
-    let P : Tokens → Type 0 = λ l. Begins l r (tok.Sign sign.OpenParen) in
+    let P : Tokens → Type 0 = λ l. Opens l r (tok.Sign sign.OpenParen) in
     let same : d.back ≡ us = sym (d.parts ∙ ap (λ l. l ++ d.back) d.first) in
-    inl (subst P same (begins_first d.back r d.second (begins_mark d.second.front (d.second.back ++ r) d.second.first)))
-called_begins (g ∷ gs) es us r d = inr (begins_first us r d (begins_mark d.front (d.back ++ r) d.first))
+    inl (subst P same (opens_first d.back r d.second (opens_mark d.second.front (d.second.back ++ r) d.second.first)))
+called_begins (g ∷ gs) es us r d = inr (opens_first us r d (opens_mark d.front (d.back ++ r) d.first))
 
-either_isnt : (j : Lexical) (us r : Tokens) → (tok.Sign sign.OpenParen ≡ j → ⊥) → (tok.Sign sign.Less ≡ j → ⊥) → Begins us r (tok.Sign sign.OpenParen) ⊎ Begins us r (tok.Sign sign.Less) → Isnt j (head (us ++ r))
-either_isnt j us r n m (inl b) = begins_isnt us r b n
-either_isnt j us r n m (inr b) = begins_isnt us r b m
+either_isnt : (j : Lexical) (us r : Tokens) → (tok.Sign sign.OpenParen ≡ j → ⊥) → (tok.Sign sign.Less ≡ j → ⊥) → Opens us r (tok.Sign sign.OpenParen) ⊎ Opens us r (tok.Sign sign.Less) → Isnt j (head (us ++ r))
+either_isnt j us r n m (inl b) = opens_isnt us r b n
+either_isnt j us r n m (inr b) = opens_isnt us r b m
 
 abbrev Dot : Lexical
 Dot = tok.Sign sign.Dot
@@ -86,17 +87,17 @@ called_no_dot q us r d = either_isnt Dot us r paren_dot less_dot (called_begins 
 
 -- no field is named behind the path
 pub no_dot : (f : Front) (t : Tailed) (us r : Tokens) → tail f t us → Isnt Dot (head (us ++ r))
-no_dot front.Local (Assigned e) us r d = begins_isnt us r (begins_mark us r d) assign_dot
+no_dot front.Local (Assigned e) us r d = opens_isnt us r (opens_mark us r d) assign_dot
 no_dot front.Local (Stored e) us r d = absurd d
-no_dot front.Local (StoredAt i e) us r d = begins_isnt us r (begins_mark us r d) bracket_dot
+no_dot front.Local (StoredAt i e) us r d = opens_isnt us r (opens_mark us r d) bracket_dot
 no_dot front.Local (Called gs es) us r d = called_no_dot (gs, es) us r d
 no_dot front.Member (Assigned e) us r d = absurd d
-no_dot front.Member (Stored e) us r d = begins_isnt us r (begins_mark us r d) assign_dot
-no_dot front.Member (StoredAt i e) us r d = begins_isnt us r (begins_mark us r d) bracket_dot
+no_dot front.Member (Stored e) us r d = opens_isnt us r (opens_mark us r d) assign_dot
+no_dot front.Member (StoredAt i e) us r d = opens_isnt us r (opens_mark us r d) bracket_dot
 no_dot front.Member (Called gs es) us r d = called_no_dot (gs, es) us r d
 no_dot front.This (Assigned e) us r d = absurd d
 no_dot front.This (Stored e) us r d = absurd d
-no_dot front.This (StoredAt i e) us r d = begins_isnt us r (begins_mark us r d) bracket_dot
+no_dot front.This (StoredAt i e) us r d = opens_isnt us r (opens_mark us r d) bracket_dot
 no_dot front.This (Called gs es) us r d = absurd d
 
 -- ---- tails by what comes next
@@ -115,12 +116,8 @@ paren_bracket e = cc
 less_bracket : tok.Sign sign.Less ≡ tok.Sign sign.OpenBracket → ⊥
 less_bracket e = cc
 
-isnt_is : (k : Lexical) (o : Option Lexeme) → Isnt k o → Is k o → ⊥
-isnt_is k None n i = i
-isnt_is k (Some t) n i = n i
-
 not_bracket : (us r ts : Tokens) → Isnt (tok.Sign sign.OpenBracket) (head (us ++ r)) → head (us ++ r) ≡ head ts → Is (tok.Sign sign.OpenBracket) (head ts) → ⊥
-not_bracket us r ts n h i = let P : Option Lexeme → Type 0 = Isnt (tok.Sign sign.OpenBracket) in isnt_is (tok.Sign sign.OpenBracket) (head ts) (subst P h n) i
+not_bracket us r ts n h i = let P : Option Lexeme → Type 0 = Isnt (tok.Sign sign.OpenBracket) in is_isnt (tok.Sign sign.OpenBracket) (head ts) i (subst P h n)
 
 local_this : front.Local ≡ front.This → ⊥
 local_this e = cc
@@ -133,12 +130,12 @@ only_bracket f us r ts (inl i) no_this n h = not_bracket us r ts n h i
 only_bracket f us r ts (inr e) no_this n h = no_this e
 
 index_cases : (f : Front) (ts : Tokens) → Only f ts → (t : Tailed) (us r : Tokens) → tail f t us → head (us ++ r) ≡ head ts → (q : Expression × Expression) × (t ≡ StoredAt q.0 q.1) × indexed q us
-index_cases front.Local ts o (Assigned e) us r d h = absurd (only_bracket front.Local us r ts o local_this (begins_isnt us r (begins_mark us r d) assign_bracket) h)
+index_cases front.Local ts o (Assigned e) us r d h = absurd (only_bracket front.Local us r ts o local_this (opens_isnt us r (opens_mark us r d) assign_bracket) h)
 index_cases front.Local ts o (Stored e) us r d h = absurd d
 index_cases front.Local ts o (StoredAt i e) us r d h = ((i, e), refl, d)
 index_cases front.Local ts o (Called gs es) us r d h = absurd (only_bracket front.Local us r ts o local_this (either_isnt _ us r paren_bracket less_bracket (called_begins gs es us r d)) h)
 index_cases front.Member ts o (Assigned e) us r d h = absurd d
-index_cases front.Member ts o (Stored e) us r d h = absurd (only_bracket front.Member us r ts o member_this (begins_isnt us r (begins_mark us r d) assign_bracket) h)
+index_cases front.Member ts o (Stored e) us r d h = absurd (only_bracket front.Member us r ts o member_this (opens_isnt us r (opens_mark us r d) assign_bracket) h)
 index_cases front.Member ts o (StoredAt i e) us r d h = ((i, e), refl, d)
 index_cases front.Member ts o (Called gs es) us r d h = absurd (only_bracket front.Member us r ts o member_this (either_isnt _ us r paren_bracket less_bracket (called_begins gs es us r d)) h)
 index_cases front.This ts o (Assigned e) us r d h = absurd d
@@ -157,8 +154,8 @@ index_along f ts o = record {
   from = λ q us d l v. v;
 }
 
-assign_case : (us r ts : Tokens) (k : Lexical) → Begins us r k → head (us ++ r) ≡ head ts → Is (tok.Sign sign.Assign) (head ts) → k ≡ tok.Sign sign.Assign
-assign_case us r ts k b h is = begins_is us r ts b h is
+assign_case : (us r ts : Tokens) (k : Lexical) → Opens us r k → head (us ++ r) ≡ head ts → Is (tok.Sign sign.Assign) (head ts) → k ≡ tok.Sign sign.Assign
+assign_case us r ts k b h is = opens_is us r ts b h is
 
 bracket_assign : tok.Sign sign.OpenBracket ≡ tok.Sign sign.Assign → ⊥
 bracket_assign e = cc
@@ -172,14 +169,14 @@ less_assign e = cc
 not_called : (gs : List NameAt) (es : List Expression) (us r ts : Tokens) → called (gs, es) us → head (us ++ r) ≡ head ts → Is (tok.Sign sign.Assign) (head ts) → ⊥
 not_called gs es us r ts d h is = by_first (called_begins gs es us r d)
   where
-    by_first : Begins us r (tok.Sign sign.OpenParen) ⊎ Begins us r (tok.Sign sign.Less) → ⊥
-    by_first (inl b) = paren_assign (begins_is us r ts b h is)
-    by_first (inr b) = less_assign (begins_is us r ts b h is)
+    by_first : Opens us r (tok.Sign sign.OpenParen) ⊎ Opens us r (tok.Sign sign.Less) → ⊥
+    by_first (inl b) = paren_assign (opens_is us r ts b h is)
+    by_first (inr b) = less_assign (opens_is us r ts b h is)
 
 local_cases : (ts : Tokens) → Is (tok.Sign sign.Assign) (head ts) → (t : Tailed) (us r : Tokens) → tail front.Local t us → head (us ++ r) ≡ head ts → (e : RightSide) × (t ≡ Assigned e) × value e us
 local_cases ts is (Assigned e) us r d h = (e, refl, d)
 local_cases ts is (Stored e) us r d h = absurd d
-local_cases ts is (StoredAt i e) us r d h = absurd (bracket_assign (begins_is us r ts (begins_mark us r d) h is))
+local_cases ts is (StoredAt i e) us r d h = absurd (bracket_assign (opens_is us r ts (opens_mark us r d) h is))
 local_cases ts is (Called gs es) us r d h = absurd (not_called gs es us r ts d h is)
 
 pub local_along : (ts : Tokens) → Is (tok.Sign sign.Assign) (head ts) → Along (tail front.Local) value KeepsTail KeepsRight ts Assigned
@@ -188,7 +185,7 @@ local_along ts is = record { intro = λ q us d. d; cases = λ y us r d h. local_
 member_cases : (ts : Tokens) → Is (tok.Sign sign.Assign) (head ts) → (t : Tailed) (us r : Tokens) → tail front.Member t us → head (us ++ r) ≡ head ts → (e : Expression) × (t ≡ Stored e) × stored e us
 member_cases ts is (Assigned e) us r d h = absurd d
 member_cases ts is (Stored e) us r d h = (e, refl, d)
-member_cases ts is (StoredAt i e) us r d h = absurd (bracket_assign (begins_is us r ts (begins_mark us r d) h is))
+member_cases ts is (StoredAt i e) us r d h = absurd (bracket_assign (opens_is us r ts (opens_mark us r d) h is))
 member_cases ts is (Called gs es) us r d h = absurd (not_called gs es us r ts d h is)
 
 pub member_along : (ts : Tokens) → Is (tok.Sign sign.Assign) (head ts) → Along (tail front.Member) stored KeepsTail Keeps ts Stored
@@ -204,17 +201,17 @@ call_intro front.This no_this gs es us d = absurd (no_this refl)
 
 call_cases : (f : Front) (ts : Tokens) → (Is (tok.Sign sign.Assign) (head ts) → ⊥) → (Is (tok.Sign sign.OpenBracket) (head ts) → ⊥) →
     (t : Tailed) (us r : Tokens) → tail f t us → head (us ++ r) ≡ head ts → (q : List NameAt × List Expression) × (t ≡ calling q) × called q us
-call_cases front.Local ts no_assign no_index (Assigned e) us r d h = absurd (begins_other us r ts (begins_mark us r d) h no_assign)
+call_cases front.Local ts no_assign no_index (Assigned e) us r d h = absurd (opens_other us r ts (opens_mark us r d) h no_assign)
 call_cases front.Local ts no_assign no_index (Stored e) us r d h = absurd d
-call_cases front.Local ts no_assign no_index (StoredAt i e) us r d h = absurd (begins_other us r ts (begins_mark us r d) h no_index)
+call_cases front.Local ts no_assign no_index (StoredAt i e) us r d h = absurd (opens_other us r ts (opens_mark us r d) h no_index)
 call_cases front.Local ts no_assign no_index (Called gs es) us r d h = ((gs, es), refl, d)
 call_cases front.Member ts no_assign no_index (Assigned e) us r d h = absurd d
-call_cases front.Member ts no_assign no_index (Stored e) us r d h = absurd (begins_other us r ts (begins_mark us r d) h no_assign)
-call_cases front.Member ts no_assign no_index (StoredAt i e) us r d h = absurd (begins_other us r ts (begins_mark us r d) h no_index)
+call_cases front.Member ts no_assign no_index (Stored e) us r d h = absurd (opens_other us r ts (opens_mark us r d) h no_assign)
+call_cases front.Member ts no_assign no_index (StoredAt i e) us r d h = absurd (opens_other us r ts (opens_mark us r d) h no_index)
 call_cases front.Member ts no_assign no_index (Called gs es) us r d h = ((gs, es), refl, d)
 call_cases front.This ts no_assign no_index (Assigned e) us r d h = absurd d
 call_cases front.This ts no_assign no_index (Stored e) us r d h = absurd d
-call_cases front.This ts no_assign no_index (StoredAt i e) us r d h = absurd (begins_other us r ts (begins_mark us r d) h no_index)
+call_cases front.This ts no_assign no_index (StoredAt i e) us r d h = absurd (opens_other us r ts (opens_mark us r d) h no_index)
 call_cases front.This ts no_assign no_index (Called gs es) us r d h = absurd d
 
 pub call_along : (f : Front) (ts : Tokens) → (f ≡ front.This → ⊥) → (Is (tok.Sign sign.Assign) (head ts) → ⊥) → (Is (tok.Sign sign.OpenBracket) (head ts) → ⊥) → Along (tail f) called KeepsTail KeepsCalled ts calling
@@ -231,7 +228,7 @@ abbrev pub tailed : Bool × Path → Lang Tailed
 tailed q = tail (front_of q.0 q.1)
 
 abbrev pub led : Lang ((Bool × Path) × Tailed)
-led = Dep spelled tailed
+led = After spelled tailed
 
 abbrev pub tail_limit : Limit → Bool × Path → Tailed → Type 0
 tail_limit l q t = KeepsTail l t
@@ -242,7 +239,7 @@ led_limit = Limits Free tail_limit
 abbrev pub led_tree : (Bool × Path) × Tailed → Spot × Action
 led_tree q = (q.0.1.root.at, action_of q.0.1 q.1)
 
-pub led_links : DepLinks tailed Always (Isnt (tok.Sign sign.Dot))
+pub led_links : AfterLinks tailed Always (Isnt (tok.Sign sign.Dot))
 led_links q t us r d g = no_dot (front_of q.0 q.1) t us r d
 
 pub has_tails : HasEach tailed Free tail_limit
@@ -477,14 +474,14 @@ led_along n levels ts i = record {
 }
 
 pub led_first : (b : Bool) {ts : Tokens} {e : Fail} → Named b (head ts) → Failed path Free (Isnt (tok.Sign sign.Dot)) ts e → Failed led led_limit Always ts e
-led_first b n f = failed_by (λ why left s. dep_first {D = spelled} {E = tailed} tail_limit led_links has_tails s) (failed_spelled b n f)
+led_first b n f = failed_by (λ why left s. after_first {D = spelled} {E = tailed} tail_limit led_links has_tails s) (failed_spelled b n f)
 
 pub led_second : (b : Bool) {f : Front} {p : Path} {ts rest : Tokens} {e : Fail} → Named b (head ts) → Took path Free (Isnt (tok.Sign sign.Dot)) ts p rest → f ≡ front_of b p → Failed (tail f) KeepsTail Always rest e → Failed led led_limit Always ts e
 led_second b {f} {p} {ts} {rest} {e} n t is s =
     let P : Front → Type 0 = λ g. Failed (tail g) KeepsTail Always rest e in
-    failed_by (λ why left u. dep_second {D = spelled} {E = tailed} tail_limit led_links (took_spelled b n t) u) (subst P is s)
+    failed_by (λ why left u. after_second {D = spelled} {E = tailed} tail_limit led_links (took_spelled b n t) u) (subst P is s)
 
 pub led_took : (b : Bool) {f : Front} {p : Path} {ts rest rest' : Tokens} {x : Tailed} → Named b (head ts) → Took path Free (Isnt (tok.Sign sign.Dot)) ts p rest → f ≡ front_of b p → Took (tail f) KeepsTail Always rest x rest' → Took led led_limit Always ts ((b, p), x) rest'
 led_took b {f} {p} {ts} {rest} {rest'} {x} n t is s =
     let P : Front → Type 0 = λ g. Took (tail g) KeepsTail Always rest x rest' in
-    took_dep {D = spelled} {E = tailed} tail_limit led_links (took_spelled b n t) (subst P is s)
+    took_after {D = spelled} {E = tailed} tail_limit led_links (took_spelled b n t) (subst P is s)

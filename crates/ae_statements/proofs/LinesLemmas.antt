@@ -23,64 +23,57 @@ use Rattle.ae_reading.specs.declared.fail.Fail.{Fail}
 use Rattle.ae_reading.specs.declared.fail.Why.{Why}
 use Rattle.ae_reading.specs.declared.fail.Why.TheVariants.{Unexpected, Over}
 use Rattle.ae_reading.specs.Reads.{head, Is, IsWithin, Took, Stopped, Failed, Beyond, chain, after}
-use Rattle.ae_reading.proofs.ReadsLemmas.{Lang, Bound, Follow, Along, Has, took_as, failed_as, stopped_as, stopped_here, failed_by, nowhere, io_name}
+use Rattle.ae_reading.proofs.ReadsLemmas.{Bound, Follow, Along, Has, took_as, failed_as, stopped_as, stopped_here, failed_by, nowhere, io_name}
 use Rattle.ae_reading.proofs.Chains.{Chain, ChainTurns, chain_start, chain_more, chain_full, chain_stopped, chain_end}
-use Rattle.ae_types.proofs.FirstLemmas.{begins_at}
+use Rattle.ae_reading.proofs.Begins.{opens_at}
 use Rattle.ae_statements.specs.Productions as productions
 use Rattle.ae_statements.specs.Productions.{stmt, KeepsStmt, NoElse, shown_stmt, Closes, Further, IsOpener, IsSimple, IsRoot}
 use Rattle.ae_statements.proofs.FormLemmas.{form_of, no_stmt}
 use Rattle.ae_statements.proofs.BlockLemmas.{KeepsLines, none_keep}
+use Rattle.ae_statements.proofs.UniqueStatements.{behind, lines_of}
 
 -- ---- statements as lines
 
 abbrev pub Items : Type 0
 Items = List (Spot × Action)
 
--- the number of the block behind a statement
-abbrev pub behind : ℕ → Spot × Action → ℕ
-behind n q = n + opened q.1
-
-abbrev pub listed : Items → Lines
-listed [] = End
-listed (q ∷ qs) = Next q.0 q.1 (listed qs)
-
 abbrev pub KeepsItems : ℕ → Bound Items
-KeepsItems levels l qs = KeepsBlock l levels (listed qs)
+KeepsItems levels l qs = KeepsBlock l levels (lines_of qs)
 
-listed_is : (n : ℕ) (qs : Items) (us : Tokens) → chain stmt behind n qs us → statements n (listed qs) us
+listed_is : (n : ℕ) (qs : Items) (us : Tokens) → chain stmt behind n qs us → statements n (lines_of qs) us
 listed_is n [] us m = m
 listed_is n (q ∷ qs) us m = record { front = m.front; back = m.back; parts = m.parts; first = m.first; second = listed_is (behind n q) qs m.back m.second }
 
-is_listed : (n : ℕ) (b : Lines) (us : Tokens) → statements n b us → (qs : Items) × (b ≡ listed qs) × chain stmt behind n qs us
+is_listed : (n : ℕ) (b : Lines) (us : Tokens) → statements n b us → (qs : Items) × (b ≡ lines_of qs) × chain stmt behind n qs us
 is_listed n End us m = ([], refl, m)
 is_listed n (Next at a rest) us m =
     let p = is_listed (n + opened a) rest m.back m.second in
     ((at, a) ∷ p.0, ap (λ l. Next at a l) p.1, record { front = m.front; back = m.back; parts = m.parts; first = m.first; second = p.2 })
 
-lines_along : (n levels : ℕ) (ts : Tokens) → Along (statements n) (chain stmt behind n) (KeepsLines levels) (KeepsItems levels) ts listed
+lines_along : (n levels : ℕ) (ts : Tokens) → Along (statements n) (chain stmt behind n) (KeepsLines levels) (KeepsItems levels) ts lines_of
 lines_along n levels ts = record { intro = λ q us d. listed_is n q us d; cases = λ y us r d h. is_listed n y us d; to = λ q us d l v. v; from = λ q us d l v. v }
 
-pub lines_listed : (xs : List Stmt) → shown.lines_from xs ≡ listed (map shown_stmt xs)
+pub lines_listed : (xs : List Stmt) → shown.lines_from xs ≡ lines_of (map shown_stmt xs)
 lines_listed [] = refl
 lines_listed (x ∷ xs) = ap (λ l. Next x.at (shown.action x.kind) l) (lines_listed xs)
 
-count-listed : (qs : Items) → count (listed qs) ≡ length qs
+count-listed : (qs : Items) → count (lines_of qs) ≡ length qs
 count-listed [] = refl
-count-listed (q ∷ qs) = let h : count (listed qs) ≡ length qs = count-listed qs in omega (arith, h)
+count-listed (q ∷ qs) = let h : count (lines_of qs) ≡ length qs = count-listed qs in omega (arith, h)
 
-opened_after : (n : ℕ) (qs : Items) → after behind n qs ≡ n + opened_in (listed qs)
+opened_after : (n : ℕ) (qs : Items) → after behind n qs ≡ n + opened_in (lines_of qs)
 opened_after n [] = omega arith
-opened_after n (q ∷ qs) = let h : after behind (behind n q) qs ≡ behind n q + opened_in (listed qs) = opened_after (behind n q) qs in omega (arith, h)
+opened_after n (q ∷ qs) = let h : after behind (behind n q) qs ≡ behind n q + opened_in (lines_of qs) = opened_after (behind n q) qs in omega (arith, h)
 
-each-push : (l : Limit) (levels : ℕ) (qs : Items) (q : Spot × Action) → EachKeeps l levels (listed qs) → KeepsIn l levels q.1 → EachKeeps l levels (listed (qs ++ q ∷ []))
+each-push : (l : Limit) (levels : ℕ) (qs : Items) (q : Spot × Action) → EachKeeps l levels (lines_of qs) → KeepsIn l levels q.1 → EachKeeps l levels (lines_of (qs ++ q ∷ []))
 each-push l levels [] q all k = (k, tt)
 each-push l levels (p ∷ qs) q all k = (all.0, each-push l levels qs q all.1 k)
 
-each-at : (l : Limit) (levels : ℕ) (qs zs : Items) (q : Spot × Action) → EachKeeps l levels (listed (qs ++ q ∷ zs)) → KeepsIn l levels q.1
+each-at : (l : Limit) (levels : ℕ) (qs zs : Items) (q : Spot × Action) → EachKeeps l levels (lines_of (qs ++ q ∷ zs)) → KeepsIn l levels q.1
 each-at l levels [] zs q all = all.0
 each-at l levels (p ∷ qs) zs q all = each-at l levels qs zs q all.1
 
-few-push : (l : Limit) (qs : Items) (q : Spot × Action) → length qs < 1024 → IsFew l (listed (qs ++ q ∷ []))
+few-push : (l : Limit) (qs : Items) (q : Spot × Action) → length qs < 1024 → IsFew l (lines_of (qs ++ q ∷ []))
 few-push limit.Statements qs q few = omega (arith, count-listed (qs ++ q ∷ []), length-append qs (q ∷ []), few)
 few-push limit.Levels qs q few = tt
 few-push limit.Depth qs q few = tt
@@ -154,17 +147,17 @@ turns n (z ∷ zs) vs r m f =
 -- the statements so far, and the number of the next block
 pub record Body (n levels : ℕ) (ts : Tokens) (qs : Items) (rest : Tokens) (m : ℕ) : Type 0 where
   pub items : Chain stmt behind (KeepsItems levels) Closes n ts qs rest
-  pub number : m ≡ n + opened_in (listed qs)
+  pub number : m ≡ n + opened_in (lines_of qs)
 
 pub body_start : (n levels : ℕ) (ts : Tokens) → Body n levels ts [] ts n
 body_start n levels ts = record { items = chain_start stmt behind (KeepsItems levels) Closes n ts (none_keep levels); number = omega arith }
 
-number_at : (n m : ℕ) (qs : Items) → m ≡ n + opened_in (listed qs) → after behind n qs ≡ m
+number_at : (n m : ℕ) (qs : Items) → m ≡ n + opened_in (lines_of qs) → after behind n qs ≡ m
 number_at n m qs e = opened_after n qs ∙ sym e
 
-opened-push : (qs : Items) (q : Spot × Action) → opened_in (listed (qs ++ q ∷ [])) ≡ opened_in (listed qs) + opened q.1
+opened-push : (qs : Items) (q : Spot × Action) → opened_in (lines_of (qs ++ q ∷ [])) ≡ opened_in (lines_of qs) + opened q.1
 opened-push [] q = omega arith
-opened-push (p ∷ qs) q = let h : opened_in (listed (qs ++ q ∷ [])) ≡ opened_in (listed qs) + opened q.1 = opened-push qs q in omega (arith, h)
+opened-push (p ∷ qs) q = let h : opened_in (lines_of (qs ++ q ∷ [])) ≡ opened_in (lines_of qs) + opened q.1 = opened-push qs q in omega (arith, h)
 
 pub body_more : (n levels : ℕ) (ts rest rest' : Tokens) (qs : Items) (q : Spot × Action) (m next : ℕ) → (Closes (head rest) → ⊥) → length qs < 1024 →
     Body n levels ts qs rest m → Took (stmt m) (KeepsStmt levels) NoElse rest q rest' → next ≡ m + opened q.1 → Body n levels ts (qs ++ q ∷ []) rest' next
@@ -181,11 +174,11 @@ pub body_failed : (n levels : ℕ) (ts rest : Tokens) (qs : Items) (m : ℕ) (e 
 body_failed n levels ts rest qs m e go few b f =
     let P : ℕ → Type 0 = λ m. Failed (stmt m) (KeepsStmt levels) NoElse rest e in
     let g : Failed (stmt (after behind n qs)) (KeepsStmt levels) NoElse rest e = subst P (sym (number_at n m qs b.number)) f in
-    failed_as (statements n) (chain stmt behind n) listed (lines_along n levels ts)
+    failed_as (statements n) (chain stmt behind n) lines_of (lines_along n levels ts)
     (failed_by (λ why left s. chain_stopped turns go (λ l z w. one_fits levels qs few b.items.within l z w) (λ l z zs v. each-at l levels qs zs z v.1) b.items s) g)
 
-pub body_end : (n levels : ℕ) (ts rest : Tokens) (qs : Items) (m : ℕ) → Closes (head rest) → Body n levels ts qs rest m → Took (statements n) (KeepsLines levels) Closes ts (listed qs) rest
-body_end n levels ts rest qs m c b = took_as (statements n) (chain stmt behind n) listed (lines_along n levels ts)
+pub body_end : (n levels : ℕ) (ts rest : Tokens) (qs : Items) (m : ℕ) → Closes (head rest) → Body n levels ts qs rest m → Took (statements n) (KeepsLines levels) Closes ts (lines_of qs) rest
+body_end n levels ts rest qs m c b = took_as (statements n) (chain stmt behind n) lines_of (lines_along n levels ts)
     (chain_end (no_stmt (after behind n qs) rest (begins_open (head rest) c)) b.items)
 
 -- ---- a statement that begins here
@@ -337,25 +330,25 @@ nothing_begins (inr (inl (inr (inr (inr (inr (inr e))))))) = e
 nothing_begins (inr (inr (inl e))) = e
 nothing_begins (inr (inr (inr e))) = e
 
-one_more : (n : ℕ) (rest : Tokens) → productions.Begins (head rest) → Beyond (stmt n) [] rest (Over limit.Statements)
-one_more n [] b = absurd (nothing_begins b)
-one_more n (t ∷ rest) b = let s = starts n t b in record { next = t; later = rest; rest_is = refl; tree = s.tree; after = s.after; goes_on = s.is; known = s.known; passes = tt }
+one_more : (W : Limit → Spot × Action → Type 0) (n : ℕ) (rest : Tokens) → productions.Begins (head rest) → Beyond (stmt n) W [] rest (Over limit.Statements)
+one_more W n [] b = absurd (nothing_begins b)
+one_more W n (t ∷ rest) b = let s = starts n t b in record { next = t; later = rest; rest_is = refl; tree = s.tree; after = s.after; goes_on = s.is; known = s.known; passes = tt; others = λ m k. absurd (omega (arith, k)) }
 
 -- ---- the statement behind the 1,024th
 
 too_many : (levels : ℕ) (qs zs : Items) (z : Spot × Action) → 1024 ≤ length qs → KeepsItems levels limit.Statements (qs ++ z ∷ zs) → ⊥
-too_many levels qs zs z full k = let f : count (listed (qs ++ z ∷ zs)) ≤ 1024 = k.0 in absurd (omega (arith, f, full, count-listed (qs ++ z ∷ zs), length-append qs (z ∷ zs)))
+too_many levels qs zs z full k = let f : count (lines_of (qs ++ z ∷ zs)) ≤ 1024 = k.0 in absurd (omega (arith, f, full, count-listed (qs ++ z ∷ zs), length-append qs (z ∷ zs)))
 
 pub body_full : (n levels : ℕ) (ts rest : Tokens) (qs : Items) (m : ℕ) (why : Why) → (Closes (head rest) → ⊥) → 1024 ≤ length qs → Further rest why →
     Body n levels ts qs rest m → Stopped (statements n) (KeepsLines levels) Closes ts why (length rest)
 body_full n levels ts rest qs m Unexpected go full f b = stopped_lines (chain_full Unexpected go (λ z zs us r d h w. no_stmt (after behind n qs) rest f z us r d h) tt b.items)
   where
     stopped_lines : Stopped (chain stmt behind n) (KeepsItems levels) Closes ts Unexpected (length rest) → Stopped (statements n) (KeepsLines levels) Closes ts Unexpected (length rest)
-    stopped_lines s = stopped_as (statements n) (chain stmt behind n) listed (lines_along n levels ts) s
+    stopped_lines s = stopped_as (statements n) (chain stmt behind n) lines_of (lines_along n levels ts) s
 body_full n levels ts rest qs m (Over l) go full f b =
     let P : Limit → Type 0 = λ k. Stopped (statements n) (KeepsLines levels) Closes ts (Over k) (length rest) in
-    subst P (sym f.0) (stopped_as (statements n) (chain stmt behind n) listed (lines_along n levels ts)
-    (chain_full (Over limit.Statements) go (λ z zs us r d h w. too_many levels qs zs z full w) (one_more (after behind n qs) rest f.1) b.items))
+    subst P (sym f.0) (stopped_as (statements n) (chain stmt behind n) lines_of (lines_along n levels ts)
+    (chain_full (Over limit.Statements) go (λ z zs us r d h w. too_many levels qs zs z full w) (one_more (λ l z. KeepsItems levels l (qs ++ z ∷ [])) (after behind n qs) rest f.1) b.items))
 
 -- ---- numbers
 
@@ -407,8 +400,8 @@ braced_room n most ts rest b t room =
     let s = t.derives.second in
     omega (arith, room, braced_long n b t.taken t.derives (opened_in_fits (n + 1) b s.front s.first), ap length t.whole, length-append t.taken rest)
 
-chain_fits : (n : ℕ) (qs : Items) (us : Tokens) → chain stmt behind n qs us → opened_in (listed qs) ≤ length us
-chain_fits n qs us d = opened_in_fits n (listed qs) us (listed_is n qs us d)
+chain_fits : (n : ℕ) (qs : Items) (us : Tokens) → chain stmt behind n qs us → opened_in (lines_of qs) ≤ length us
+chain_fits n qs us d = opened_in_fits n (lines_of qs) us (listed_is n qs us d)
 
 pub body_room : (n levels most : ℕ) (ts rest : Tokens) (qs : Items) (m : ℕ) → Body n levels ts qs rest m → n + length ts ≤ most → m + length rest ≤ most
 body_room n levels most ts rest qs m b room =
@@ -418,9 +411,6 @@ body_room n levels most ts rest qs m b room =
 
 pub body_length : (n levels : ℕ) (ts rest : Tokens) (qs : Items) (m : ℕ) → Body n levels ts qs rest m → length rest ≤ length ts
 body_length n levels ts rest qs m b = omega (arith, ap length b.items.whole, length-append b.items.taken rest)
-
-pub took_length : {A : Type 0} {D : Lang A} {W : Bound A} {F : Follow} (ts rest : Tokens) (x : A) → Took D W F ts x rest → length rest ≤ length ts
-took_length ts rest x t = omega (arith, ap length t.whole, length-append t.taken rest)
 
 -- a statement has a token
 stmt_long : (n : ℕ) (y : Spot × Action) (us : Tokens) → stmt n y us → 1 ≤ length us
@@ -444,12 +434,12 @@ opens_none n at (Assigns x e) us r ts d h none = refl
 opens_none n at (Stores p e) us r ts d h none = refl
 opens_none n at (StoresAt p i e) us r ts d h none = refl
 opens_none n at (Calls c) us r ts d h none = refl
-opens_none n at (Chooses e k b) us r ts d h none = let f = begins_at us r d.1 in absurd (none (is_opener f.token _ ts (sym f.front ∙ h) f.kind (λ u i. inl i)))
-opens_none n at (ChoosesElse e k b m c) us r ts d h none = let f = begins_at us r d.2 in absurd (none (is_opener f.token _ ts (sym f.front ∙ h) f.kind (λ u i. inl i)))
-opens_none n at (Repeats e k b) us r ts d h none = let f = begins_at us r d.1 in absurd (none (is_opener f.token _ ts (sym f.front ∙ h) f.kind (λ u i. inr (inl i))))
+opens_none n at (Chooses e k b) us r ts d h none = let f = opens_at us r d.1 in absurd (none (is_opener f.token _ ts (sym f.front ∙ h) f.kind (λ u i. inl i)))
+opens_none n at (ChoosesElse e k b m c) us r ts d h none = let f = opens_at us r d.2 in absurd (none (is_opener f.token _ ts (sym f.front ∙ h) f.kind (λ u i. inl i)))
+opens_none n at (Repeats e k b) us r ts d h none = let f = opens_at us r d.1 in absurd (none (is_opener f.token _ ts (sym f.front ∙ h) f.kind (λ u i. inr (inl i))))
 opens_none n at (Groups g) us r ts d h none = refl
-opens_none n at (Splits gs k b) us r ts d h none = let f = begins_at us r d.1 in absurd (none (is_opener f.token _ ts (sym f.front ∙ h) f.kind (λ u i. inr (inr (inl i)))))
-opens_none n at (Locks g k b) us r ts d h none = let f = begins_at us r d.1 in absurd (none (is_opener f.token _ ts (sym f.front ∙ h) f.kind (λ u i. inr (inr (inr i)))))
+opens_none n at (Splits gs k b) us r ts d h none = let f = opens_at us r d.1 in absurd (none (is_opener f.token _ ts (sym f.front ∙ h) f.kind (λ u i. inr (inr (inl i)))))
+opens_none n at (Locks g k b) us r ts d h none = let f = opens_at us r d.1 in absurd (none (is_opener f.token _ ts (sym f.front ∙ h) f.kind (λ u i. inr (inr (inr i)))))
 opens_none n at (Freezes x) us r ts d h none = refl
 opens_none n at (Shares x g) us r ts d h none = refl
 opens_none n at (Prints e) us r ts d h none = refl

@@ -1,5 +1,5 @@
 -- Right sides that begin with a word of their own: `take` and `new`.
-use Rattle.std.proofs.Common.{◌≡◌, ℕ, ◌++◌, List, [], ◌∷◌, length, inl, Option, Some, None, refl, sym, ap, ◌∙◌, append_assoc, append-nil, subst, Result, Err, Bor}
+use Rattle.std.proofs.Common.{◌≡◌, ℕ, ◌++◌, List, [], ◌∷◌, length, inl, Option, refl, sym, ap, ◌∙◌, append_assoc, append-nil, subst, Result, Err, Bor}
 use Rattle.ae_text.specs.declared.refusal.Spot.{Spot}
 use Rattle.ae_text.specs.declared.token.Keyword.TheVariants as word
 use Rattle.ae_text.specs.declared.token.Sign.TheVariants as sign
@@ -18,13 +18,14 @@ use Rattle.ae_reading.specs.declared.fail.Fail.TheVariants.{Refused}
 use Rattle.ae_reading.specs.declared.fail.Why.{Why}
 use Rattle.ae_reading.specs.declared.fail.Why.TheVariants.{Unexpected, Over}
 use Rattle.ae_reading.specs.Reads.{head, Always, Free, Is, Isnt, IsName, Took, Stopped, Failed, Beyond, Token, Reads, itself}
-use Rattle.ae_reading.proofs.ReadsLemmas.{Lang, Both, Pair, Limits, Has, Along, AreKnown-append, lead_here, none_back, failed_by, took_as, stopped_as, nowhere, io_name, each-append, each-one}
-use Rattle.ae_reading.proofs.UniqueLemmas.{not_both}
+use Rattle.ae_reading.proofs.ReadsLemmas.{Lang, Both, Pair, Limits, Has, Along, AreKnown-append, lead_here, failed_by, took_as, stopped_as, nowhere, io_name, After, AfterLinks, HasEach, took_after, after_first, after_second}
+use Rattle.ae_reading.proofs.Runs.{each-append, each-one}
+use Rattle.ae_reading.proofs.Begins.{not_both}
 use Rattle.ae_statements.specs.Productions.{ended, member, sized, filled, made, called, KeepsCalled}
 use Rattle.ae_statements.specs.Deciding.{IsPlain}
-use Rattle.ae_statements.proofs.ShapeLemmas.{Dep, DepLinks, HasEach, took_dep, dep_first, dep_second, Lets, Pre, Suf, has_pre, has_suf, has_whole}
+use Rattle.ae_statements.proofs.ShapeLemmas.{Lets, Pre, Suf, has_pre, has_suf, has_whole}
 use Rattle.ae_statements.proofs.CallLemmas.{none_within}
-use Rattle.ae_statements.proofs.UniqueRightSides.{joined}
+use Rattle.ae_statements.proofs.UniqueRightSides.{joined, ints_are_no_name}
 use Rattle.ae_statements.proofs.SideLemmas.{Dot, call_elim, path_plain}
 use Rattle.ae_statements.proofs.SplitLemmas.{sign_at, io_at, closing, closing_known, called_none, pushed}
 use Rattle.ae_statements.proofs.ReturnedLemmas.{counts_all}
@@ -101,9 +102,7 @@ member_short ts rest p none t =
       before = t.taken;
       rest = rest;
       whole = t.whole;
-      back = 0;
-      left_is = none_back (length rest);
-      placed = refl;
+      left_is = refl;
       tree = pushed p io_name;
       more = io_text;
       goes = goes;
@@ -122,7 +121,7 @@ member_refused ts rest p r e none t =
     let P : Result (Path × Bor Tokens) Fail → Type 0 = Reads itself member Free (Isnt (tok.Sign sign.Dot)) ts in
     subst P (sym e) (record { why = member_short ts rest p none t })
 
-member_beyond : (before rest : Tokens) (why : Why) → Beyond path before rest why → Beyond member before rest why
+member_beyond : (before rest : Tokens) (why : Why) → Beyond path Free before rest why → Beyond member Free before rest why
 member_beyond before rest Unexpected b = tt
 member_beyond before rest (Over l) b = record {
   next = b.next;
@@ -133,6 +132,7 @@ member_beyond before rest (Over l) b = record {
   goes_on = longer b.tree before (b.next ∷ b.after) b.goes_on;
   known = AreKnown-append b.after io_text b.known io_known;
   passes = b.passes;
+  others = λ m k. tt;
 }
 
 member_stopped : (ts : Tokens) (why : Why) (left : ℕ) → Stopped path Free (Isnt (tok.Sign sign.Dot)) ts why left → Stopped member Free (Isnt (tok.Sign sign.Dot)) ts why left
@@ -140,9 +140,7 @@ member_stopped ts why left u = record {
   before = u.before;
   rest = u.rest;
   whole = u.whole;
-  back = u.back;
   left_is = u.left_is;
-  placed = u.placed;
   tree = pushed u.tree io_name;
   more = u.more ++ io_text;
   goes = longer u.tree u.before u.more u.goes;
@@ -247,7 +245,7 @@ take_along ts i = record { intro = take_intro; cases = λ y us r d h. take_cases
 -- ---- `new`
 
 abbrev pub making : Lang (Spot × RightSide)
-making = Dep (Token (tok.Word word.New)) made
+making = After (Token (tok.Word word.New)) made
 
 made_right : (at : Spot) (y : RightSide) (us vs ws : Tokens) → one_at (tok.Word word.New) at us → made at y vs → ws ≡ us ++ vs → ended right_side y ws
 made_right at (Zeros e k) us vs ws d m s =
@@ -291,12 +289,8 @@ has_made = record {
   within = λ l at w. none_within l;
 }
 
-pub new_links : DepLinks made Always Always
+pub new_links : AfterLinks made Always Always
 new_links at y us r d f = tt
-
-ints_name : (o : Option Lexeme) → Is (tok.Word word.Ints) o → IsName o → ⊥
-ints_name None i n = i
-ints_name (Some t) i n = let h : tok.Word word.Ints ≡ tok.Name n.0 = sym i ∙ n.1 in cc
 
 filled_name : (q : NameAt × (List NameAt × List Expression)) (us r ts : Tokens) → filled q us → head (us ++ r) ≡ head ts → IsName (head ts)
 filled_name q us r ts d h =
@@ -311,7 +305,7 @@ sized_ints e us r ts d h =
 
 zeros_cases : (at : Spot) (ts : Tokens) → Is (tok.Word word.Ints) (head ts) → (y : RightSide) (us r : Tokens) → made at y us → head (us ++ r) ≡ head ts → (e : Expression) × (y ≡ Zeros e at) × ended sized e us
 zeros_cases at ts i (Zeros e k) us r d h = (e, ap (λ a. Zeros e a) d.0, d.1)
-zeros_cases at ts i (Made c gs es k) us r d h = absurd (ints_name (head ts) i (filled_name (c, (gs, es)) us r ts d.1 h))
+zeros_cases at ts i (Made c gs es k) us r d h = absurd (ints_are_no_name (head ts) i (filled_name (c, (gs, es)) us r ts d.1 h))
 zeros_cases at ts i (Value e) us r d h = absurd d
 zeros_cases at ts i (Taken p k) us r d h = absurd d
 zeros_cases at ts i (Returned c) us r d h = absurd d
@@ -352,10 +346,10 @@ abbrev new_limit : Limit → Spot → RightSide → Type 0
 new_limit l at = KeepsRight l
 
 pub new_first : (ts : Tokens) (e : Fail) → Is (tok.Word word.New) (head ts) → Failed (Token (tok.Word word.New)) Free Always ts e → Failed (ended right_side) KeepsRight Always ts e
-new_first ts e i f = failed_by (λ why left s. stopped_as (ended right_side) making (λ q. q.1) (new_along ts i) (dep_first {F = Always} {G = Always} new_limit new_links has_made s)) f
+new_first ts e i f = failed_by (λ why left s. stopped_as (ended right_side) making (λ q. q.1) (new_along ts i) (after_first {F = Always} {G = Always} new_limit new_links has_made s)) f
 
 pub new_second : (ts mid : Tokens) (at : Spot) (e : Fail) → Is (tok.Word word.New) (head ts) → Took (Token (tok.Word word.New)) Free Always ts at mid → Failed (made at) KeepsRight Always mid e → Failed (ended right_side) KeepsRight Always ts e
-new_second ts mid at e i t f = failed_by (λ why left s. stopped_as (ended right_side) making (λ q. q.1) (new_along ts i) (dep_second new_limit new_links t s)) f
+new_second ts mid at e i t f = failed_by (λ why left s. stopped_as (ended right_side) making (λ q. q.1) (new_along ts i) (after_second new_limit new_links t s)) f
 
 pub new_took : (ts mid rest : Tokens) (at : Spot) (y : RightSide) → Is (tok.Word word.New) (head ts) → Took (Token (tok.Word word.New)) Free Always ts at mid → Took (made at) KeepsRight Always mid y rest → Took (ended right_side) KeepsRight Always ts y rest
-new_took ts mid rest at y i t u = took_as (ended right_side) making (λ q. q.1) (new_along ts i) (took_dep new_limit new_links t u)
+new_took ts mid rest at y i t u = took_as (ended right_side) making (λ q. q.1) (new_along ts i) (took_after new_limit new_links t u)

@@ -14,7 +14,7 @@ use Rattle.ae_reading.specs.declared.fail.Fail.{Fail}
 use Rattle.ae_reading.specs.declared.fail.Why.{Why}
 use Rattle.ae_reading.specs.declared.fail.Why.TheVariants.{Unexpected, Over}
 use Rattle.ae_reading.specs.Reads.{head, Free, Is, Isnt, IsName, Took, Lead, Stopped, Failed, Counts, Beyond}
-use Rattle.ae_reading.proofs.ReadsLemmas.{failed_by}
+use Rattle.ae_reading.proofs.ReadsLemmas.{head-append, failed_by}
 use Rattle.ae_statements.specs.Productions.{IsRoot}
 
 -- a root that is a name, or `this`
@@ -104,15 +104,11 @@ took_spelled {F} b {ts} {rest} {p} n t = record {
   no_end = t.no_end;
   only = λ y us r other d e h f.
       let o = t.only y.1 us r other (spelled_path y us d) e h f in
-      let as_ts : head (us ++ r) ≡ head ts = ap head e ∙ same_start t.taken other rest h ∙ ap head (sym t.whole) in
+      let as_ts : head (us ++ r) ≡ head ts = ap head e ∙ head-append t.taken other rest h ∙ ap head (sym t.whole) in
       let P : Option Lexeme → Type 0 = Named y.0 in
       let b_is : y.0 ≡ b = one_spelling y.0 b (head ts) (subst P as_ts (spelled_named y us r d)) n in
       (ap (λ q. (y.0, q)) o.0 ∙ ap (λ c. (c, p)) b_is, o.1);
 }
-  where
-    same_start : (a b c : Tokens) → head b ≡ head c → head (a ++ b) ≡ head (a ++ c)
-    same_start [] b c e = e
-    same_start (x ∷ a) b c e = refl
 
 free_counts : (why : Why) → Counts why (λ l. Unit {0})
 free_counts Unexpected = tt
@@ -179,7 +175,7 @@ spelled_lead b before rest ts n w some u = record {
         let there : head (before ++ []) ≡ head ts = begun before rest ts [] w some in
         no_head b before (subst Q (sym there ∙ ap head (append-nil before)) n) (subst P (sym same) u.leads) some
 
-spelled_beyond : (b : Bool) (why : Why) (before rest ts : Tokens) → Named b (head ts) → ts ≡ before ++ rest → (before ≡ [] → ⊥) → Beyond path before rest why → Beyond spelled before rest why
+spelled_beyond : (b : Bool) (why : Why) (before rest ts : Tokens) → Named b (head ts) → ts ≡ before ++ rest → (before ≡ [] → ⊥) → Beyond path Free before rest why → Beyond spelled Free before rest why
 spelled_beyond b Unexpected before rest ts n w some u = tt
 spelled_beyond b (Over l) before rest ts n w some u = record {
   next = u.next;
@@ -190,6 +186,7 @@ spelled_beyond b (Over l) before rest ts n w some u = record {
   goes_on = path_spelled b u.tree (before ++ (u.next ∷ u.after)) [] (head ts) u.goes_on (ap head (append-nil (before ++ (u.next ∷ u.after))) ∙ begun before rest ts (u.next ∷ u.after) w some) n;
   known = u.known;
   passes = u.passes;
+  others = λ m k. tt;
 }
 
 pub stopped_spelled : (b : Bool) {ts : Tokens} {why : Why} {left : ℕ} → Named b (head ts) → Stopped path Free (Isnt (tok.Sign sign.Dot)) ts why left → Stopped spelled Free (Isnt (tok.Sign sign.Dot)) ts why left
@@ -197,9 +194,7 @@ stopped_spelled b {ts} {why} {left} n u = record {
   before = u.before;
   rest = u.rest;
   whole = u.whole;
-  back = u.back;
   left_is = u.left_is;
-  placed = u.placed;
   tree = (b, u.tree);
   more = u.more;
   goes = path_spelled b u.tree (u.before ++ u.more) [] (head ts) u.goes (ap head (append-nil (u.before ++ u.more)) ∙ begun u.before u.rest ts u.more u.whole (not_at_once b ts why left n u)) n;

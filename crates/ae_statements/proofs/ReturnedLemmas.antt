@@ -14,8 +14,8 @@ use Rattle.ae_reading.specs.declared.fail.Fail.TheVariants.{Refused, Memory}
 use Rattle.ae_reading.specs.declared.fail.Why.{Why}
 use Rattle.ae_reading.specs.declared.fail.Why.TheVariants.{Unexpected, Over}
 use Rattle.ae_reading.specs.Reads.{head, Always, Free, Is, Isnt, Took, Lead, Stopped, Failed, Counts, Beyond}
-use Rattle.ae_reading.proofs.ReadsLemmas.{Both, NoEnd-append, stands_after, failed_by}
-use Rattle.ae_reading.proofs.UniqueLemmas.{of_other}
+use Rattle.ae_reading.proofs.ReadsLemmas.{Both, NoEnd-append, failed_by}
+use Rattle.ae_reading.proofs.Begins.{of_other}
 use Rattle.ae_statements.specs.Productions.{ended, called, KeepsCalled, invoked}
 use Rattle.ae_statements.specs.Deciding.{IsCall, IsCallTail}
 use Rattle.ae_statements.proofs.CallLemmas.{none_within}
@@ -143,7 +143,7 @@ call_lead ts before k u = record {
   within = λ l. u.within l;
 }
 
-call_beyond : (ts before rest : Tokens) (why : Why) → (k : IsCall ts) → Beyond called before rest why → Beyond (ended right_side) (k.taken ++ before) rest why
+call_beyond : (ts before rest : Tokens) (why : Why) → (k : IsCall ts) → Beyond called KeepsCalled before rest why → Beyond (ended right_side) KeepsRight (k.taken ++ before) rest why
 call_beyond ts before rest Unexpected k b = tt
 call_beyond ts before rest (Over l) k b = record {
   next = b.next;
@@ -156,6 +156,7 @@ call_beyond ts before rest (Over l) k b = record {
       subst P (sym (append_assoc k.taken before (b.next ∷ b.after))) (call_intro k.callee b.tree k.taken (before ++ (b.next ∷ b.after)) k.callable b.goes_on);
   known = b.known;
   passes = b.passes;
+  others = λ m n. b.others m n;
 }
 
 call_stopped : (ts : Tokens) (why : Why) (left : ℕ) → (k : IsCall ts) → Stopped called KeepsCalled Always k.rest why left → Stopped (ended right_side) KeepsRight Always ts why left
@@ -163,9 +164,7 @@ call_stopped ts why left k u = record {
   before = k.taken ++ u.before;
   rest = u.rest;
   whole = k.whole ∙ ap (λ l. k.taken ++ l) u.whole ∙ sym (append_assoc k.taken u.before u.rest);
-  back = u.back;
   left_is = u.left_is;
-  placed = stands_after why k.taken u.before u.back u.placed;
   tree = Returned (invoked k.callee u.tree);
   more = u.more;
   goes =

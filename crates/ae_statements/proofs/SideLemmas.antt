@@ -11,12 +11,12 @@ use Rattle.ae_code.specs.declared.tree.Path.{Path}
 use Rattle.ae_code.specs.Plain.{Expression, Invocation, RightSide, Value, Taken, Zeros, Made, Returned}
 use Rattle.ae_code.specs.Grammar.{Tokens, ◌⨾◌, one, one_at, each, name, root, step, path, groups, arguments, call, whole, right_side}
 use Rattle.ae_reading.specs.Reads.{head, Always, Is, Isnt, IsName}
-use Rattle.ae_reading.proofs.ReadsLemmas.{Both, each-append, each-one}
+use Rattle.ae_reading.proofs.ReadsLemmas.{Both}
 use Rattle.ae_reading.proofs.UniquePaths.{IsRoot, begins_path, unique_root, unique_path}
+use Rattle.ae_reading.proofs.Runs.{each-append, each-one}
 use Rattle.ae_statements.specs.Productions.{ended, called, invoked, receiver_of, last, but_last}
 use Rattle.ae_statements.specs.Deciding.{IsCallable, IsCallTail, IsPlain, Steps, AllSteps}
-use Rattle.ae_statements.proofs.CallLemmas.{last_snoc, receiver_snoc}
-use Rattle.ae_statements.proofs.UniqueRightSides.{joined, call_parts, call_tail, call_isnt}
+use Rattle.ae_statements.proofs.UniqueRightSides.{joined, call_parts, call_tail, call_isnt, joined_on, joined_method}
 
 abbrev pub Dot : Lexical
 Dot = tok.Sign sign.Dot
@@ -137,19 +137,11 @@ call_elim c us d =
       };
     }
 
-joined_receiver : (on : Option Path) (m : NameAt) → receiver_of (joined on m).root (joined on m).steps ≡ on
-joined_receiver None m = refl
-joined_receiver (Some p) m = receiver_snoc p.root m p.steps
-
-joined_last : (on : Option Path) (m : NameAt) → last (joined on m).root (joined on m).steps ≡ m
-joined_last None m = refl
-joined_last (Some p) m = last_snoc p.root m p.steps
-
 -- a call is that of its path
 pub call_is : (c : Invocation) → c ≡ invoked (joined c.on c.method) (c.groups, c.args)
 call_is c =
-    ap (λ (o : Option Path). record { on = o; method = c.method; groups = c.groups; args = c.args }) (sym (joined_receiver c.on c.method))
-    ∙ ap (λ (m : NameAt). record { on = receiver_of (joined c.on c.method).root (joined c.on c.method).steps; method = m; groups = c.groups; args = c.args }) (sym (joined_last c.on c.method))
+    ap (λ (o : Option Path). record { on = o; method = c.method; groups = c.groups; args = c.args }) (sym (joined_on c.on c.method))
+    ∙ ap (λ (m : NameAt). record { on = receiver_of (joined c.on c.method).root (joined c.on c.method).steps; method = m; groups = c.groups; args = c.args }) (sym (joined_method c.on c.method))
 
 -- a call that begins with a path, where no `.` stands behind it
 pub record Behind (c : Invocation) (p : Path) (r other : Tokens) : Type 0 where

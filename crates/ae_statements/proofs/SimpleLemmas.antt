@@ -10,7 +10,6 @@ use Rattle.ae_code.specs.declared.lexeme.Lexical.TheVariants as tok
 use Rattle.ae_code.specs.declared.limits.Limit.{Limit}
 use Rattle.ae_code.specs.declared.tree.NameAt.{NameAt}
 use Rattle.ae_code.specs.declared.tree.Ty.{Ty}
-use Rattle.ae_code.specs.declared.tree.Ty.TheVariants as ty
 use Rattle.ae_code.specs.Plain.{Expression, RightSide, Value}
 use Rattle.ae_code.specs.Plain.{Action, Declares, Assigns, Stores, StoresAt, Calls, Chooses, ChoosesElse, Repeats, Groups, Splits, Locks, Freezes, Shares, Prints, PrintsText, Asserts, Returns}
 use Rattle.ae_code.specs.Grammar.{Tokens, name, type_, whole, right_side, statement}
@@ -18,13 +17,13 @@ use Rattle.ae_code.specs.Limits.{Keeps, KeepsRight, KeepsIn}
 use Rattle.ae_reading.specs.declared.fail.Fail.{Fail}
 use Rattle.ae_reading.specs.declared.fail.Why.TheVariants.{Unexpected}
 use Rattle.ae_reading.specs.Reads.{head, Always, Free, Is, Isnt, Took, Stopped, Failed, Token}
-use Rattle.ae_reading.proofs.ReadsLemmas.{Lang, Bound, Links, Both, Pair, Has, Along, NoneAt, took_as, failed_as, has_both, has_name, stopped_here, nowhere, at_once}
-use Rattle.ae_reading.proofs.Parts.{took_before, failed_before}
-use Rattle.ae_types.proofs.FirstLemmas.{begins_at, begins_isnt}
+use Rattle.ae_reading.proofs.ReadsLemmas.{Lang, Bound, Links, Both, Pair, Has, Along, NoneAt, took_as, failed_as, has_both, has_name, stopped_here, nowhere, at_once, took_before, failed_before}
+use Rattle.ae_reading.proofs.Begins.{opens_at, opens_isnt}
 use Rattle.ae_statements.specs.Productions.{ended, value, text, printed, IsText, KeepsPrinted, stmt, KeepsStmt, NoElse}
 use Rattle.ae_statements.proofs.ShapeLemmas.{Pre, has_pre, has_suf, has_whole}
 use Rattle.ae_statements.proofs.CallLemmas.{no_whole}
 use Rattle.ae_statements.proofs.FormLemmas.{Formed, formed}
+use Rattle.ae_types.proofs.TypeLemmas.{has_type}
 
 -- a form of a statement that ends by itself
 pub simple_took : {B : Type 0} {E : Lang B} {V : Bound B} {n levels : ℕ} {ts rest : Tokens} {q : B} (build : B → Spot × Action) →
@@ -48,9 +47,6 @@ has_right_side = record { tree = Value has_whole.tree; tokens = has_whole.tokens
 
 pub has_value : Has value KeepsRight
 has_value = has_pre (tok.Sign sign.Assign) (ended right_side) tt (has_ended right_side has_right_side)
-
-pub has_type : Has type_ Free
-has_type = record { tree = ty.Int nowhere; tokens = at_once (tok.Word word.Int); is = refl; known = (tt, tt); within = λ l. tt }
 
 -- ---- a new local
 
@@ -88,7 +84,7 @@ name_no_less n e = cc
 
 -- a name may follow a type
 pub name_follows : Links (Both name value) Always (Isnt (tok.Sign sign.Less))
-name_follows y us r d f = begins_isnt us r (begins_at us r d) (name_no_less y.0.name)
+name_follows y us r d f = opens_isnt us r (opens_at us r d) (name_no_less y.0.name)
 
 -- ---- a word, and one part that ends by itself
 

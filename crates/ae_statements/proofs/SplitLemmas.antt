@@ -11,10 +11,10 @@ use Rattle.ae_code.specs.declared.tree.Op.TheVariants as op
 use Rattle.ae_code.specs.Plain.{Expression, Number, Read, Binary}
 use Rattle.ae_code.specs.Grammar.{Tokens, ◌⨾◌, each, name, root, step, path, receiver, arguments, call, whole, expression}
 use Rattle.ae_code.specs.Names.{io}
-use Rattle.ae_code.specs.Refused.{AreKnown, IsUndecided, marks_in}
+use Rattle.ae_code.specs.Refused.{AreKnown, marks_in}
 use Rattle.ae_reading.proofs.ReadsLemmas.{nowhere, io_name, name_token}
 use Rattle.ae_statements.specs.Productions.{ended, called, invoked, receiver_of}
-use Rattle.ae_statements.specs.Deciding.{IsCallable, Calling}
+use Rattle.ae_statements.specs.Deciding.{IsCallable, Calling, IsUndecided}
 use Rattle.ae_statements.proofs.CallLemmas.{last_snoc, receiver_snoc}
 use Rattle.ae_statements.proofs.SideLemmas.{Dot, one_of, name_of, call_intro}
 

@@ -15,13 +15,19 @@ use Rattle.ae_code.specs.declared.tree.Op.TheVariants as op
 use Rattle.ae_code.specs.Plain.{Expression, Read, Invocation, RightSide, Value, Taken, Zeros, Made, Returned}
 use Rattle.ae_code.specs.Grammar.{Tokens, each, further, listed, name, step, path, groups, level, left_level, sign_of, whole, arguments, receiver, call, right_side}
 use Rattle.ae_reading.specs.Reads.{head, Always, Is, Isnt, IsName, Token, Mark}
-use Rattle.ae_reading.proofs.ReadsLemmas.{Lang, Follow, Both, Links, each-append, each-one}
-use Rattle.ae_reading.proofs.UniqueLemmas.{Unique, Begins, begins_token, begins_mark, begins_name, begins_both, of_kind, of_other, links_by, apart_by, not_both, unique_at, unique_mark, unique_name, unique_then, unique_both, unique_as, unique_under, unique_always, unique_choice, by_first, unique_listed, unique_closing}
+use Rattle.ae_reading.proofs.ReadsLemmas.{Lang, Follow, Both, Links}
+use Rattle.ae_reading.proofs.UniqueLemmas.{Unique, apart_by, unique_at, unique_mark, unique_name, unique_then, unique_both, unique_as, unique_under, unique_always, unique_choice, by_first, unique_listed, unique_closing}
 use Rattle.ae_reading.proofs.UniquePaths.{IsRoot, begins_path, unique_path}
+use Rattle.ae_reading.proofs.Runs.{each-append, each-one}
+use Rattle.ae_reading.proofs.Begins.{Begins, begins_token, begins_mark, begins_name, begins_both, of_kind, of_other, links_by, not_both}
 use Rattle.ae_types.proofs.UniqueTypes.{unique_groups}
 use Rattle.ae_expressions.specs.Ends.{Ends}
-use Rattle.ae_expressions.proofs.UniqueExpressions.{at_level, left_cases, one_operator, not_operator, operator_ends, sign_ends, Form, OfPath, form_of, kind_form, word_form, form_at_root, unique_expression}
+use Rattle.ae_expressions.proofs.UniqueExpressions.{left_cases, sign_ends, Form, OfPath, form_of, kind_form, word_form, form_at_root, unique_expression}
 use Rattle.ae_expressions.proofs.LeadingOperands.{operator_at, Outer, Behind, leads_path, IsStart, begins_expression}
+use Rattle.ae_expressions.specs.Productions.{at_level}
+use Rattle.ae_expressions.proofs.OperatorLemmas.{same_operator, no_operator, operator_ends}
+use Rattle.ae_statements.specs.Productions.{last, receiver_of}
+use Rattle.ae_statements.proofs.CallLemmas.{last_snoc, receiver_snoc}
 
 abbrev pub semicolon : Lexical
 semicolon = tok.Sign sign.Semicolon
@@ -38,7 +44,7 @@ behind_open l r other t k f b = elim b.behind [
       let P : Tokens → Type 0 = λ z. Is (tok.Sign (sign_of w.op)) (head z) in
       let here : operator_at w.op w.at ∷ ((w.text ++ w.rest) ++ r) ≡ t ∷ other = sym (ap (λ z. z ++ r) w.parts) ∙ b.same in
       let kinds : t.kind ≡ tok.Sign (sign_of w.op) = subst P here refl in
-      not_operator sign.OpenParen refl w.op (sym k ∙ kinds)
+      no_operator sign.OpenParen refl w.op (sym k ∙ kinds)
 ]
 
 -- no `(` stands behind a path where an expression begins
@@ -61,9 +67,9 @@ not_semicolon t (inl k) i = not_both semicolon (tok.Sign sign.Comma) (λ e. cc) 
 not_semicolon t (inr k) i = not_both semicolon (tok.Sign sign.Greater) (λ e. cc) (Some t) i k
 
 not_outer : (t : Lexeme) → EndsGroup t → (o : Op) → left_level o ≤ 2 → t.kind ≡ tok.Sign (sign_of o) → ⊥
-not_outer t (inl k) o low e = not_operator sign.Comma refl o (sym k ∙ e)
+not_outer t (inl k) o low e = no_operator sign.Comma refl o (sym k ∙ e)
 not_outer t (inr k) o low e =
-    let same : op.Gt ≡ o = one_operator op.Gt o (sym k ∙ e) in
+    let same : op.Gt ≡ o = same_operator op.Gt o (sym k ∙ e) in
     let h : 3 ≡ left_level o = ap left_level same in omega (arith, h, low)
 
 level_of_outer : (o : Op) → left_level o ≤ 2 → level o < 3
@@ -106,7 +112,7 @@ behind_group r other less n t m k kn g f b = elim b.behind [
       let P : Tokens → Type 0 = λ z. Is (tok.Sign (sign_of w.op)) (head z) in
       let here : operator_at w.op w.at ∷ ((w.text ++ w.rest) ++ r) ≡ less ∷ n ∷ t ∷ other = sym (ap (λ z. z ++ r) w.parts) ∙ b.same in
       let kinds : less.kind ≡ tok.Sign (sign_of w.op) = subst P here refl in
-      let is_less : op.Lt ≡ w.op = one_operator op.Lt w.op (sym k ∙ kinds) in
+      let is_less : op.Lt ≡ w.op = same_operator op.Lt w.op (sym k ∙ kinds) in
       let tails : (w.text ++ w.rest) ++ r ≡ n ∷ t ∷ other = cc in
       let A : Op → Type 0 = λ o. at_level (level o + 1) w.right w.text in
       let B : Op → Type 0 = λ o. Outer (level o) w.rest in
@@ -127,37 +133,13 @@ abbrev pub joined : Option Path → NameAt → Path
 joined None m = record { root = m; steps = [] }
 joined (Some p) m = record { root = p.root; steps = p.steps ++ m ∷ [] }
 
-abbrev pub last_of : NameAt → List NameAt → NameAt
-last_of x [] = x
-last_of x (y ∷ ys) = last_of y ys
-
-abbrev pub front_of : NameAt → List NameAt → List NameAt
-front_of x [] = []
-front_of x (y ∷ ys) = x ∷ front_of y ys
-
-abbrev pub on_of : NameAt → List NameAt → Option Path
-on_of r [] = None
-on_of r (s ∷ ss) = Some (record { root = r; steps = front_of s ss })
-
-last-push : (x m : NameAt) (ss : List NameAt) → last_of x (ss ++ m ∷ []) ≡ m
-last-push x m [] = refl
-last-push x m (s ∷ ss) = last-push s m ss
-
-front-push : (x m : NameAt) (ss : List NameAt) → front_of x (ss ++ m ∷ []) ≡ x ∷ ss
-front-push x m [] = refl
-front-push x m (s ∷ ss) = ap (λ k. x ∷ k) (front-push s m ss)
-
-on-push : (r m : NameAt) (ss : List NameAt) → on_of r (ss ++ m ∷ []) ≡ Some (record { root = r; steps = ss })
-on-push r m [] = refl
-on-push r m (s ∷ ss) = ap (λ k. Some (record { root = r; steps = k })) (front-push s m ss)
-
-pub joined_on : (on : Option Path) (m : NameAt) → on_of (joined on m).root (joined on m).steps ≡ on
+pub joined_on : (on : Option Path) (m : NameAt) → receiver_of (joined on m).root (joined on m).steps ≡ on
 joined_on None m = refl
-joined_on (Some p) m = on-push p.root m p.steps
+joined_on (Some p) m = receiver_snoc p.root m p.steps
 
-pub joined_method : (on : Option Path) (m : NameAt) → last_of (joined on m).root (joined on m).steps ≡ m
+pub joined_method : (on : Option Path) (m : NameAt) → last (joined on m).root (joined on m).steps ≡ m
 joined_method None m = refl
-joined_method (Some p) m = last-push p.root m p.steps
+joined_method (Some p) m = last_snoc p.root m p.steps
 
 step_at : (m : NameAt) (us vs : Tokens) → Mark (tok.Sign sign.Dot) tt us → name m vs → step m (us ++ vs)
 step_at m us vs d e = record { front = us; back = vs; parts = refl; first = d; second = e }
@@ -181,7 +163,7 @@ abbrev pub called : Lang Called
 called = Both path (Both groups arguments)
 
 abbrev pub call_of : Called → Invocation
-call_of q = record { on = on_of q.0.root q.0.steps; method = last_of q.0.root q.0.steps; groups = q.1.0; args = q.1.1 }
+call_of q = record { on = receiver_of q.0.root q.0.steps; method = last q.0.root q.0.steps; groups = q.1.0; args = q.1.1 }
 
 abbrev pub parts_of : Invocation → Called
 parts_of c = (joined c.on c.method, (c.groups, c.args))
@@ -201,7 +183,7 @@ call_cases : (c : Invocation) (us : Tokens) → call c us → (q : Called) × (c
 call_cases c us d = (
   parts_of c,
   ap (λ (o : Option Path). record { on = o; method = c.method; groups = c.groups; args = c.args }) (sym (joined_on c.on c.method))
-      ∙ ap (λ (m : NameAt). record { on = on_of (joined c.on c.method).root (joined c.on c.method).steps; method = m; groups = c.groups; args = c.args }) (sym (joined_method c.on c.method)),
+      ∙ ap (λ (m : NameAt). record { on = receiver_of (joined c.on c.method).root (joined c.on c.method).steps; method = m; groups = c.groups; args = c.args }) (sym (joined_method c.on c.method)),
   call_parts c us d,
 )
 
@@ -359,7 +341,7 @@ unique_counted = unique_then (Mark (tok.Word word.Ints)) (Both (Mark (tok.Sign s
 unique_filled : Unique filled Always
 unique_filled = unique_then name (Both groups arguments) Always unique_name unique_grouped
 
-ints_are_no_name : (o : Option Lexeme) → Is (tok.Word word.Ints) o → IsName o → ⊥
+pub ints_are_no_name : (o : Option Lexeme) → Is (tok.Word word.Ints) o → IsName o → ⊥
 ints_are_no_name None i n = i
 ints_are_no_name (Some t) i n = let h : tok.Word word.Ints ≡ tok.Name n.0 = sym i ∙ n.1 in cc
 

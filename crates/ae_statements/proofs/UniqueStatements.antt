@@ -1,5 +1,5 @@
 -- Tokens stand for one statement, one list of statements and one body at most.
-use Rattle.std.proofs.Common.{◌≡◌, ℕ, suc, zero, ◌+◌, ◌<◌, ◌++◌, List, [], ◌∷◌, length, Option, Some, None, refl, sym, ap, ◌∙◌, append_assoc, append-nil, length-append, subst, arith, inl, inr}
+use Rattle.std.proofs.Common.{◌≡◌, ℕ, suc, zero, ◌+◌, ◌<◌, ◌++◌, List, [], ◌∷◌, length, Option, Some, None, refl, sym, ap, ◌∙◌, append_assoc, append-nil, subst, arith, inl, inr}
 use Rattle.std.specs.Prelude.{◌⊎◌, ◌≢◌}
 use Rattle.ae_text.specs.declared.refusal.Spot.{Spot}
 use Rattle.ae_text.specs.declared.token.Keyword.{Keyword}
@@ -15,10 +15,12 @@ use Rattle.ae_code.specs.declared.tree.Ty.{Ty}
 use Rattle.ae_code.specs.Plain.{Expression, Invocation, RightSide, Value, Lines, End, Next}
 use Rattle.ae_code.specs.Plain.{Action, Declares, Assigns, Stores, StoresAt, Calls, Chooses, ChoosesElse, Repeats, Groups, Splits, Locks, Freezes, Shares, Prints, PrintsText, Asserts, Returns}
 use Rattle.ae_code.specs.Grammar.{Tokens, ◌⨾◌, a_sign, one, name, path, type_, groups, arguments, call, separated, whole, right_side, opened, opened_in, first_spot, braced, statement, statements, returning, with_return, body}
-use Rattle.ae_reading.specs.Reads.{head, Always, Is, Isnt, Token, Mark}
-use Rattle.ae_reading.proofs.ReadsLemmas.{Lang, Follow, Both, Links}
-use Rattle.ae_reading.proofs.UniqueLemmas.{Unique, Begins, After, begins_token, begins_mark, begins_both, of_kind, of_other, links_by, apart_by, is_and_isnt, not_both, none_at, isnt_at, unique_at, unique_mark, unique_name, unique_then, unique_both, unique_after, unique_as, unique_always, unique_choice, by_first, optional, unique_optional, unique_separated, unique_closing, run, unique_run}
+use Rattle.ae_reading.specs.Reads.{head, Always, Is, Isnt, Token, Mark, chain}
+use Rattle.ae_reading.proofs.ReadsLemmas.{lengths, Lang, Follow, Both, Links, After}
+use Rattle.ae_reading.proofs.UniqueLemmas.{Unique, apart_by, none_at, isnt_at, unique_at, unique_mark, unique_name, unique_then, unique_both, unique_after, unique_as, unique_always, unique_choice, by_first, unique_optional, unique_separated, unique_closing, unique_chain}
 use Rattle.ae_reading.proofs.UniquePaths.{IsRoot, begins_path, unique_path}
+use Rattle.ae_reading.proofs.Begins.{Begins, begins_token, begins_mark, begins_both, of_kind, of_other, links_by, is_isnt, not_both}
+use Rattle.ae_reading.proofs.Parts.{optional}
 use Rattle.ae_types.proofs.UniqueTypes.{unique_type}
 use Rattle.ae_expressions.specs.Ends.{Ends}
 use Rattle.ae_expressions.proofs.UniqueExpressions.{sign_ends, form_of, unique_expression}
@@ -180,9 +182,6 @@ Fewer k n b us = (length us < k) × statements n b us
 
 abbrev pub block : ℕ → ℕ → Lang Lines
 block k n b = braced (Fewer k n b)
-
-lengths : (us a b : Tokens) → us ≡ a ++ b → length us ≡ length a + length b
-lengths us a b e = ap length e ∙ length-append a b
 
 fewer : (k n : ℕ) (b : Lines) (us : Tokens) → length us < suc k → braced (statements n b) us → block k n b us
 fewer k n b us less d =
@@ -465,7 +464,7 @@ begins_else k n b = begins_both (Mark (tok.Word word.Else)) (λ c. block k (n + 
 
 unique_branches : (k n : ℕ) → ((j : ℕ) → Unique (Fewer k j) Closes) → Unique (branches k n) (Isnt (tok.Word word.Else))
 unique_branches k n ih = unique_after (block k (n + 1)) (λ b. optional (else_block k n b)) Always (Isnt (tok.Word word.Else)) (λ b x us r d f. tt) (unique_block k (n + 1) (ih (n + 1)))
-    (λ b. unique_optional (else_block k n b) (Isnt (tok.Word word.Else)) (apart_by (else_block k n b) (Is (tok.Word word.Else)) (Isnt (tok.Word word.Else)) (is_and_isnt (tok.Word word.Else)) (begins_else k n b))
+    (λ b. unique_optional (else_block k n b) (Isnt (tok.Word word.Else)) (apart_by (else_block k n b) (Is (tok.Word word.Else)) (Isnt (tok.Word word.Else)) (is_isnt (tok.Word word.Else)) (begins_else k n b))
     (unique_always (else_block k n b) (Isnt (tok.Word word.Else)) (unique_then (Mark (tok.Word word.Else)) (block k (n + 1 + opened_in b + 1)) Always (unique_mark (tok.Word word.Else)) (unique_block k (n + 1 + opened_in b + 1) (ih (n + 1 + opened_in b + 1))))))
 
 -- behind a word
@@ -516,10 +515,11 @@ back_of : (b : Lines) → b ≡ lines_of (pairs_of b)
 back_of End = refl
 back_of (Next at a rest) = ap (λ b. Next at a b) (back_of rest)
 
+-- the number of the block behind a statement
 abbrev pub behind : ℕ → Spot × Action → ℕ
 behind n p = n + opened p.1
 
-lines_run : (k n : ℕ) (b : Lines) (us : Tokens) → length us < suc k → statements n b us → run (Stmt k) behind n (pairs_of b) us
+lines_run : (k n : ℕ) (b : Lines) (us : Tokens) → length us < suc k → statements n b us → chain (Stmt k) behind n (pairs_of b) us
 lines_run k n End us less d = d
 lines_run k n (Next at a rest) us less d =
     let n1 : length us ≡ length d.front + length d.back = lengths us d.front d.back d.parts in
@@ -537,8 +537,8 @@ statement_no_else : (o : Option Lexeme) → IsStatement o → Isnt (tok.Word wor
 statement_no_else o s = isnt_at statement_at (tok.Word word.Else) (λ at. refl) o s
 
 more_fewer : (k n : ℕ) → ((j : ℕ) → Unique (Fewer k j) Closes) → Unique (Fewer (suc k) n) Closes
-more_fewer k n ih = unique_as (Fewer (suc k) n) (run (Stmt k) behind n) Closes lines_of (λ y us d. (pairs_of y, back_of y, lines_run k n y us d.0 d.1))
-    (unique_run (Stmt k) behind Closes (Isnt (tok.Word word.Else)) (λ j p us r d. statement_no_else (head (us ++ r)) (begins_statement k j p us r d)) no_else
+more_fewer k n ih = unique_as (Fewer (suc k) n) (chain (Stmt k) behind n) Closes lines_of (λ y us d. (pairs_of y, back_of y, lines_run k n y us d.0 d.1))
+    (unique_chain (Stmt k) behind Closes (Isnt (tok.Word word.Else)) (λ j p us r d. statement_no_else (head (us ++ r)) (begins_statement k j p us r d)) no_else
     (λ j. apart_by (Stmt k j) IsStatement Closes no_statement (begins_statement k j)) (λ j. unique_stmt k j ih) n)
 
 unique_fewer : (k n : ℕ) → Unique (Fewer k n) Closes

@@ -1,6 +1,8 @@
 -- Right sides that are expressions.
-use Rattle.std.proofs.Common.{◌≡◌, ℕ, ◌+◌, ◌≤◌, ◌<◌, ◌++◌, [], ◌∷◌, length, ◌⊎◌, inl, inr, Bool, true, false, if◌then◌else◌, Option, refl, sym, ap, ◌∙◌, append_assoc, append-nil, length-append, subst, arith}
+use Rattle.std.proofs.Common.{◌≡◌, ℕ, nat_lt, ◌+◌, ◌≤◌, ◌<◌, ◌++◌, [], ◌∷◌, length, ◌⊎◌, inl, inr, Bool, true, false, if◌then◌else◌, Option, refl, sym, ap, ◌∙◌, append_assoc, append-nil, length-append, subst, arith}
 use Rattle.std.proofs.lemmas.Bool.{cases_lt}
+use Rattle.std.proofs.lemmas.Bool.Decides.{nat_tests}
+use Rattle.ae_code.specs.declared.limits.Limit.{Limit}
 use Rattle.ae_text.specs.declared.token.Keyword.TheVariants as word
 use Rattle.ae_text.specs.declared.token.Sign.TheVariants as sign
 use Rattle.ae_code.specs.declared.lexeme.Lexeme.{Lexeme}
@@ -8,19 +10,19 @@ use Rattle.ae_code.specs.declared.lexeme.Lexical.TheVariants as tok
 use Rattle.ae_code.specs.declared.limits.Limit.TheVariants as limit
 use Rattle.ae_code.specs.Plain.{Expression, RightSide, Value, Returned}
 use Rattle.ae_code.specs.Grammar.{Tokens, one, whole, right_side}
-use Rattle.ae_code.specs.Limits.{Keeps, KeepsRight, marks, early}
-use Rattle.ae_code.specs.Refused.{IsUndecided, IsEarlier, is_mark, marks_in}
+use Rattle.ae_code.specs.Limits.{Keeps, KeepsRight, marks, early, rank}
+use Rattle.ae_code.specs.Refused.{is_mark, marks_in}
 use Rattle.ae_reading.specs.declared.fail.Fail.{Fail}
+use Rattle.ae_reading.specs.declared.fail.Fail.TheVariants.{Refused, Memory}
 use Rattle.ae_reading.specs.declared.fail.Why.{Why}
 use Rattle.ae_reading.specs.declared.fail.Why.TheVariants.{Unexpected, Over}
 use Rattle.ae_reading.specs.Reads.{head, Always, Is, NoEnd, Took, Stopped, Failed, Counts}
-use Rattle.ae_reading.proofs.ReadsLemmas.{head-append, NoEnd-append, lead_here, failed_by}
+use Rattle.ae_reading.proofs.ReadsLemmas.{head-append, NoEnd-append, lead_here, stopped_on}
 use Rattle.ae_reading.proofs.UniqueLemmas.{none_at}
-use Rattle.ae_reading.proofs.Begins.{stopped_on}
 use Rattle.ae_expressions.proofs.UniqueExpressions.{form_of}
 use Rattle.ae_expressions.proofs.LeadingOperands.{IsStart, begins_expression}
 use Rattle.ae_statements.specs.Productions.{ended}
-use Rattle.ae_statements.specs.Deciding.{Calling, Comparing, IsValue, IsPlain}
+use Rattle.ae_statements.specs.Deciding.{Calling, Comparing, IsValue, IsPlain, IsUndecided, no_earlier}
 use Rattle.ae_statements.proofs.UniqueRightSides.{no_call}
 use Rattle.ae_statements.proofs.MarkLemmas.{weight, marks_in-append, expression_marks}
 use Rattle.ae_statements.proofs.SideLemmas.{PlainSide, plain_side}
@@ -75,11 +77,11 @@ is_value : (y : RightSide) (us : Tokens) (e : Expression) → y ≡ Value e → 
 is_value y us e same d = let P : RightSide → Type 0 = λ z. ended right_side z us in subst P same d
 
 -- the refused token is not before the deciding one
-stopped_later : (ts : Tokens) (why : Why) (left : ℕ) → (k : IsValue ts) → (u : Stopped (ended whole) Keeps Always ts why left) → (c : Tokens) → u.before ≡ k.before ++ c → k.rest ≡ c ++ u.rest → Stopped (ended right_side) KeepsRight Always ts why left
-stopped_later ts why left k u c b rest = stopped_on (ended right_side) (ended whole) Value (λ q us d. d) (λ l q us d v. v) (λ l q us d v. v) u
+stopped_later : (ts : Tokens) (why : Why) (left at : ℕ) → (k : IsValue ts at) → (u : Stopped (ended whole) Keeps Always ts why left) → (c : Tokens) → u.before ≡ k.before ++ c → k.rest ≡ c ++ u.rest → Stopped (ended right_side) KeepsRight Always ts why left
+stopped_later ts why left at k u c b rest = stopped_on (ended right_side) (ended whole) {F = Always} Value (λ q us d. d) (λ q us d l v. v) (λ q us d l v. v) u
     (λ y us r other d e h f.
     let o = k.only y us r (c ++ other) d (e ∙ ap (λ l. l ++ other) b ∙ append_assoc k.before c other) (head-append c other u.rest h ∙ ap head (sym rest)) in
-    (o.0, o.1, is_value y us o.0 o.1 d))
+    (o.0, o.1, is_value y us o.0 o.1 d, f))
 
 -- ---- a token before the deciding one
 
@@ -121,14 +123,6 @@ marks_next e before more t d none many =
     by_cases (inl h) m a = omega (arith, h, m, a, none)
     by_cases (inr h) m a = absurd (many h)
 
--- no refused token stands farther before
-no_earlier : (before : Tokens) (back : ℕ) → marks_in before ≤ 256 → IsEarlier before back → ⊥
-no_earlier before back few e =
-    let a : marks_in before ≡ marks_in e.front + (marks_in e.early + (weight e.mark.kind + marks_in e.late)) =
-    ap marks_in e.whole ∙ marks_in-append e.front (e.early ++ e.mark ∷ e.late) ∙ ap (λ n. marks_in e.front + n) (marks_in-append e.early (e.mark ∷ e.late)) in
-    let w : weight e.mark.kind ≡ 1 = ap count e.counts in
-    omega (arith, a, w, e.is_257th, few)
-
 record Overrun (before : Tokens) (t : Lexeme) : Type 0 where
   counts : is_mark t.kind ≡ true
   many : marks_in before ≡ 256
@@ -140,26 +134,21 @@ overrun before t few many = by_cases (by_weight (is_mark t.kind))
     by_cases (inl c) = record { counts = c.0; many = omega (arith, few, many, c.1) }
     by_cases (inr z) = absurd (omega (arith, few, many, z))
 
+-- an expression keeps to the limit that is named before its own
+statements_kept : (e : Expression) (m : Limit) → rank m < 1 → KeepsRight m (Value e)
+statements_kept e limit.Statements k = tt
+statements_kept e limit.Levels k = absurd (omega (arith, k))
+statements_kept e limit.Depth k = absurd (omega (arith, k))
+statements_kept e limit.Params k = absurd (omega (arith, k))
+
 -- the 257th token that counts stands before the deciding one
-stopped_early : (ts : Tokens) (left : ℕ) → (k : IsValue ts) → (u : Stopped (ended whole) Keeps Always ts (Over limit.Depth) left) → (t : Lexeme) (c : Tokens) → k.before ≡ u.before ++ t ∷ c → u.rest ≡ t ∷ (c ++ k.rest) →
-    IsUndecided k.before → Overrun u.before t → u.back ≡ 0 → Calling k.before → Comparing k.before k.rest → Stopped (ended right_side) KeepsRight Always ts (Over limit.Depth) left
-stopped_early ts left k u t c b rest undecided o here calling comparing = record {
+stopped_early : (ts : Tokens) (left at : ℕ) → (k : IsValue ts at) → (u : Stopped (ended whole) Keeps Always ts (Over limit.Depth) left) → (t : Lexeme) (c : Tokens) → k.before ≡ u.before ++ t ∷ c → u.rest ≡ t ∷ (c ++ k.rest) →
+    IsUndecided k.before → Calling k.before → Comparing k.before k.rest → Stopped (ended right_side) KeepsRight Always ts (Over limit.Depth) at
+stopped_early ts left at k u t c b rest undecided calling comparing = record {
   before = k.before;
   rest = k.rest;
   whole = k.whole;
-  back = 1 + length c;
-  left_is = omega (arith, u.left_is, here, ap length rest, length-append c k.rest);
-  placed = inr (record {
-    front = [];
-    early = u.before;
-    mark = t;
-    late = c;
-    whole = b;
-    undecided = let P : Tokens → Type 0 = IsUndecided in subst P b undecided;
-    counts = o.counts;
-    is_257th = o.many;
-    back_is = refl;
-  });
+  left_is = k.left_is;
   tree = Returned calling.tree;
   more = calling.more;
   goes = calling.goes;
@@ -180,6 +169,7 @@ stopped_early ts left k u t c b rest undecided o here calling comparing = record
     goes_on = comparing.goes_on;
     known = comparing.known;
     passes = tt;
+    others = statements_kept comparing.tree;
   };
 }
 
@@ -188,22 +178,18 @@ goes_on : (ts : Tokens) (why : Why) (left : ℕ) → (u : Stopped (ended whole) 
 goes_on ts why left u t later rest f w =
     u.stuck f.tree (u.before ++ (t ∷ (f.more ++ end))) [] (t ∷ (f.more ++ end)) (closed f.tree u.before (t ∷ f.more) f.goes) (append-nil (u.before ++ (t ∷ (f.more ++ end)))) (ap head (sym rest)) tt w
 
-none_at_back : (before : Tokens) (back : ℕ) → marks_in before ≤ 256 → (back ≡ 0) ⊎ IsEarlier before back → back ≡ 0
-none_at_back before back few (inl e) = e
-none_at_back before back few (inr e) = absurd (no_earlier before back few e)
-
-some_marks : (ts : Tokens) (k : IsValue ts) (before c : Tokens) (t : Lexeme) → k.before ≡ before ++ t ∷ c → marks_in before ≡ 256 → marks_in k.before ≡ 0 → ⊥
-some_marks ts k before c t b many none =
+some_marks : (ts : Tokens) (at : ℕ) (k : IsValue ts at) (before c : Tokens) (t : Lexeme) → k.before ≡ before ++ t ∷ c → marks_in before ≡ 256 → marks_in k.before ≡ 0 → ⊥
+some_marks ts at k before c t b many none =
     let a : marks_in k.before ≡ marks_in before + marks_in (t ∷ c) = ap marks_in b ∙ marks_in-append before (t ∷ c) in
     omega (arith, a, many, none)
 
-stopped_before : (ts : Tokens) (why : Why) (left : ℕ) → (k : IsValue ts) → (u : Stopped (ended whole) Keeps Always ts why left) → (t : Lexeme) (c : Tokens) → k.before ≡ u.before ++ t ∷ c → u.rest ≡ t ∷ (c ++ k.rest) →
-    IsUndecided k.before → Filled Expression whole u.before t → Stopped (ended right_side) KeepsRight Always ts why left
-stopped_before ts Unexpected left k u t c b rest undecided f = absurd (goes_on ts Unexpected left u t (c ++ k.rest) rest f tt)
-stopped_before ts (Over limit.Statements) left k u t c b rest undecided f = absurd (goes_on ts (Over limit.Statements) left u t (c ++ k.rest) rest f tt)
-stopped_before ts (Over limit.Levels) left k u t c b rest undecided f = absurd (goes_on ts (Over limit.Levels) left u t (c ++ k.rest) rest f tt)
-stopped_before ts (Over limit.Params) left k u t c b rest undecided f = absurd (goes_on ts (Over limit.Params) left u t (c ++ k.rest) rest f tt)
-stopped_before ts (Over limit.Depth) left k u t c b rest undecided f = by_both k.both
+stopped_before : (ts : Tokens) (why : Why) (left at : ℕ) → (k : IsValue ts at) → (u : Stopped (ended whole) Keeps Always ts why left) → (t : Lexeme) (c : Tokens) → k.before ≡ u.before ++ t ∷ c → u.rest ≡ t ∷ (c ++ k.rest) →
+    IsUndecided k.before → Filled Expression whole u.before t → Stopped (ended right_side) KeepsRight Always ts why at
+stopped_before ts Unexpected left at k u t c b rest undecided f = absurd (goes_on ts Unexpected left u t (c ++ k.rest) rest f tt)
+stopped_before ts (Over limit.Statements) left at k u t c b rest undecided f = absurd (goes_on ts (Over limit.Statements) left u t (c ++ k.rest) rest f tt)
+stopped_before ts (Over limit.Levels) left at k u t c b rest undecided f = absurd (goes_on ts (Over limit.Levels) left u t (c ++ k.rest) rest f tt)
+stopped_before ts (Over limit.Params) left at k u t c b rest undecided f = absurd (goes_on ts (Over limit.Params) left u t (c ++ k.rest) rest f tt)
+stopped_before ts (Over limit.Depth) left at k u t c b rest undecided f = by_both k.both
   where
     few : marks_in u.before ≤ 256
     few = marks_before u.tree u.before u.more u.goes (u.within limit.Depth)
@@ -211,24 +197,39 @@ stopped_before ts (Over limit.Depth) left k u t c b rest undecided f = by_both k
     found : Overrun u.before t
     found = overrun u.before t few (marks_next f.tree u.before f.more t f.goes f.none (goes_on ts (Over limit.Depth) left u t (c ++ k.rest) rest f))
 
-    by_both : (marks_in k.before ≡ 0) ⊎ (Calling k.before × Comparing k.before k.rest) → Stopped (ended right_side) KeepsRight Always ts (Over limit.Depth) left
-    by_both (inl none) = absurd (some_marks ts k u.before c t b found.many none)
-    by_both (inr (calling, comparing)) = stopped_early ts left k u t c b rest undecided found (none_at_back u.before u.back few u.placed) calling comparing
+    by_both : (marks_in k.before ≡ 0) ⊎ (Calling k.before × Comparing k.before k.rest) → Stopped (ended right_side) KeepsRight Always ts (Over limit.Depth) at
+    by_both (inl none) = absurd (some_marks ts at k u.before c t b found.many none)
+    by_both (inr (calling, comparing)) = stopped_early ts left at k u t c b rest undecided calling comparing
 
 no_cut : (before c : Tokens) (t : Lexeme) → [] ≡ before ++ t ∷ c → ⊥
 no_cut [] c t e = cc
 no_cut (x ∷ before) c t e = cc
 
-pub value_stopped : (ts : Tokens) (why : Why) (left : ℕ) → IsValue ts → Stopped (ended whole) Keeps Always ts why left → Stopped (ended right_side) KeepsRight Always ts why left
-value_stopped ts why left k u = by_meet (meet k.before k.rest u.before u.rest (sym k.whole ∙ u.whole))
+-- a right side stops where its expression does, or where it is known to be one, if that is later
+abbrev StopsAt : Tokens → Why → ℕ → ℕ → Type 0
+StopsAt ts why left at = ((left ≤ at) × Stopped (ended right_side) KeepsRight Always ts why left) ⊎ ((at < left) × Stopped (ended right_side) KeepsRight Always ts why at)
+
+value_stopped : (ts : Tokens) (why : Why) (left at : ℕ) → IsValue ts at → Stopped (ended whole) Keeps Always ts why left → StopsAt ts why left at
+value_stopped ts why left at k u = by_meet (meet k.before k.rest u.before u.rest (sym k.whole ∙ u.whole))
   where
-    by_undecided : (t : Lexeme) (c : Tokens) → k.before ≡ u.before ++ t ∷ c → u.rest ≡ t ∷ (c ++ k.rest) → (k.before ≡ []) ⊎ IsUndecided k.before → Stopped (ended right_side) KeepsRight Always ts why left
+    by_undecided : (t : Lexeme) (c : Tokens) → k.before ≡ u.before ++ t ∷ c → u.rest ≡ t ∷ (c ++ k.rest) → (k.before ≡ []) ⊎ IsUndecided k.before → Stopped (ended right_side) KeepsRight Always ts why at
     by_undecided t c b rest (inl none) = absurd (no_cut u.before c t (sym none ∙ b))
-    by_undecided t c b rest (inr w) = stopped_before ts why left k u t c b rest w (undecided_filled k.before u.before c t w b)
+    by_undecided t c b rest (inr w) = stopped_before ts why left at k u t c b rest w (undecided_filled k.before u.before c t w b)
 
-    by_meet : ((e : Tokens) × (u.before ≡ k.before ++ e) × (k.rest ≡ e ++ u.rest)) ⊎ ((t : Lexeme) × (e : Tokens) × (k.before ≡ u.before ++ t ∷ e) × (u.rest ≡ t ∷ (e ++ k.rest))) → Stopped (ended right_side) KeepsRight Always ts why left
-    by_meet (inl q) = stopped_later ts why left k u q.0 q.1 q.2
-    by_meet (inr q) = by_undecided q.0 q.1 q.2 q.3 k.undecided
+    by_meet : ((e : Tokens) × (u.before ≡ k.before ++ e) × (k.rest ≡ e ++ u.rest)) ⊎ ((t : Lexeme) × (e : Tokens) × (k.before ≡ u.before ++ t ∷ e) × (u.rest ≡ t ∷ (e ++ k.rest))) → StopsAt ts why left at
+    by_meet (inl q) = inl (omega (arith, u.left_is, k.left_is, ap length q.2, length-append q.0 u.rest), stopped_later ts why left at k u q.0 q.1 q.2)
+    by_meet (inr q) = inr (omega (arith, u.left_is, k.left_is, ap length q.3, length-append q.1 k.rest), by_undecided q.0 q.1 q.2 q.3 k.undecided)
 
-pub value_failed : (ts : Tokens) (e : Fail) → IsValue ts → Failed (ended whole) Keeps Always ts e → Failed (ended right_side) KeepsRight Always ts e
-value_failed ts e k f = failed_by (λ why left s. value_stopped ts why left k s) f
+-- the fewer of two numbers of tokens
+fewer : (P : ℕ → Type 0) (left at : ℕ) → ((left ≤ at) × P left) ⊎ ((at < left) × P at) → P (if nat_lt left at then left else at)
+fewer P left at s = by_test (nat_lt left at) refl s
+  where
+    by_test : (t : Bool) → nat_lt left at ≡ t → ((left ≤ at) × P left) ⊎ ((at < left) × P at) → P (if t then left else at)
+    by_test true e (inl q) = q.1
+    by_test true e (inr q) = absurd (let l : left < at = grind (arith, nat_tests) in let m = q.0 in omega (arith, l, m))
+    by_test false e (inl q) = let l : at ≤ left = grind (arith, nat_tests) in let m = q.0 in let same : left ≡ at = omega (arith, l, m) in subst P same q.1
+    by_test false e (inr q) = q.1
+
+pub value_failed : (ts : Tokens) (at : ℕ) (e : Fail) → IsValue ts at → Failed (ended whole) Keeps Always ts e → Failed (ended right_side) KeepsRight Always ts (no_earlier e at)
+value_failed ts at (Refused why left) k f = record { why = fewer (Stopped (ended right_side) KeepsRight Always ts why) left at (value_stopped ts why left at k f.why) }
+value_failed ts at Memory k f = record { why = tt }

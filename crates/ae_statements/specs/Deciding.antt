@@ -1,5 +1,5 @@
 -- What is known of a right side before it is read: an expression, a call, or neither.
-use Rattle.std.specs.Prelude.{◌≡◌, ◌⊎◌, ℕ, ◌++◌, List, [], ◌∷◌, Bool, true, false}
+use Rattle.std.specs.Prelude.{◌≡◌, ◌⊎◌, ℕ, nat_lt, ◌++◌, List, [], ◌∷◌, length, Bool, true, false, if◌then◌else◌}
 use Rattle.ae_text.specs.declared.token.Keyword.TheVariants as word
 use Rattle.ae_text.specs.declared.token.Sign.TheVariants as sign
 use Rattle.ae_code.specs.declared.lexeme.Lexeme.{Lexeme}
@@ -8,9 +8,11 @@ use Rattle.ae_code.specs.declared.lexeme.Lexical.TheVariants as tok
 use Rattle.ae_code.specs.declared.tree.NameAt.{NameAt}
 use Rattle.ae_code.specs.declared.tree.Path.{Path}
 use Rattle.ae_code.specs.Plain.{Expression, Invocation, RightSide, Value}
-use Rattle.ae_code.specs.Grammar.{Tokens, ◌⨾◌, each, name, step, path, receiver, whole, call, right_side}
+use Rattle.ae_code.specs.Grammar.{Tokens, ◌⨾◌, a_sign, each, name, step, path, receiver, whole, call, right_side}
 use Rattle.ae_code.specs.Limits.{KeepsRight}
-use Rattle.ae_code.specs.Refused.{AreKnown, IsUndecided, marks_in}
+use Rattle.ae_code.specs.Refused.{AreKnown, marks_in}
+use Rattle.ae_reading.specs.declared.fail.Fail.{Fail}
+use Rattle.ae_reading.specs.declared.fail.Fail.TheVariants.{Refused, Memory}
 use Rattle.ae_reading.specs.declared.fail.Why.TheVariants.{Unexpected}
 use Rattle.ae_reading.specs.Reads.{head, Always, Is, Stopped}
 use Rattle.ae_statements.specs.declared.decide.Decided.{Decided}
@@ -104,6 +106,10 @@ pub record Calling (before : Tokens) : Type 0 where
 
 -- ---- expressions
 
+-- a path, or one with `<` behind it, or with `<` and a name: each may still become an expression or a call
+abbrev pub IsUndecided : Tokens → Type 0
+IsUndecided us = (p : Path) × (path p us ⊎ (path p ⨾ a_sign sign.Less) us ⊎ ((g : NameAt) × (path p ⨾ a_sign sign.Less ⨾ name g) us))
+
 -- an expression goes on with these tokens and the next one
 pub record Comparing (before rest : Tokens) : Type 0 where
   pub next : Lexeme
@@ -114,11 +120,12 @@ pub record Comparing (before rest : Tokens) : Type 0 where
   pub goes_on : ended whole tree (before ++ (next ∷ after))
   pub known : AreKnown after
 
--- The tokens before `rest` may begin an expression or a call, and with the next one only expressions go on.
-pub record IsValue (ts : Tokens) : Type 0 where
+-- The tokens before `rest` may begin an expression or a call, and with the next one only expressions go on. From it on, `left` tokens are left.
+pub record IsValue (ts : Tokens) (left : ℕ) : Type 0 where
   pub before : Tokens
   pub rest : Tokens
   pub whole : ts ≡ before ++ rest
+  pub left_is : left ≡ length rest
   pub only : (y : RightSide) (us r other : Tokens) → ended right_side y us → us ++ r ≡ before ++ other → head other ≡ head rest → (e : Expression) × (y ≡ Value e)
   pub undecided : (before ≡ []) ⊎ IsUndecided before
   pub both : (marks_in before ≡ 0) ⊎ (Calling before × Comparing before rest)
@@ -127,9 +134,14 @@ pub record IsValue (ts : Tokens) : Type 0 where
 
 -- what follows from a decision
 abbrev pub Decides : Tokens → Decided → Type 0
-Decides ts decided.Value = IsValue ts
+Decides ts (decided.Value left) = IsValue ts left
 Decides ts decided.Call = IsCall ts
 Decides ts (decided.Neither left) = Stopped (ended right_side) KeepsRight Always ts Unexpected left
+
+-- the failure, or a later one where it stands before the token from which on so many are left
+abbrev pub no_earlier : Fail → ℕ → Fail
+no_earlier (Refused why stop) left = Refused why (if nat_lt stop left then stop else left)
+no_earlier Memory left = Memory
 
 -- a right side that begins with neither `take` nor `new`
 abbrev pub IsPlain : Tokens → Type 0

@@ -10,8 +10,8 @@ use ae_text::{Keyword, Sign};
 /// What a right side that begins with neither `take` nor `new` is known to be.
 #[derive(Clone, Copy, Debug, PartialEq, Eq)]
 pub(crate) enum Decided {
-    /// Only an expression.
-    Value,
+    /// Only an expression, from the token on with so many left.
+    Value(usize),
     /// Only a call.
     Call,
     /// Neither: the token with so many left from it on is refused.
@@ -98,7 +98,7 @@ fn behind_name(ts: &[Lexeme]) -> Decided
     if follows_group(&first.kind) {
         Decided::Call
     } else if follows_compared(&first.kind) {
-        Decided::Value
+        Decided::Value(ts.len())
     } else {
         Decided::Neither(ts.len())
     }
@@ -114,7 +114,7 @@ fn behind_less(ts: &[Lexeme]) -> Decided
     if is_name_next(ts) {
         behind_name(rest)
     } else if starts(&first.kind) {
-        Decided::Value
+        Decided::Value(ts.len())
     } else {
         Decided::Neither(ts.len())
     }
@@ -134,7 +134,7 @@ fn behind_path(ts: &[Lexeme]) -> Decided
     } else if is_sign_next(ts, Sign::Less) {
         behind_less(rest)
     } else if follows_path(&first.kind) {
-        Decided::Value
+        Decided::Value(ts.len())
     } else {
         Decided::Neither(ts.len())
     }
@@ -170,7 +170,7 @@ fn behind_this(ts: &[Lexeme]) -> Decided
     if is_sign_next(ts, Sign::Dot) {
         behind_path(behind_steps(ts))
     } else {
-        Decided::Value
+        Decided::Value(ts.len())
     }
 }
 
@@ -180,13 +180,13 @@ pub(crate) fn decide(ts: &[Lexeme]) -> Decided
     ensures { Decides ts.now result }
 {
     let Some((_, rest)) = next(ts) else {
-        return Decided::Value;
+        return Decided::Value(ts.len());
     };
     if is_name_next(ts) {
         behind_path(behind_steps(rest))
     } else if is_word_next(ts, Keyword::This) {
         behind_this(rest)
     } else {
-        Decided::Value
+        Decided::Value(ts.len())
     }
 }

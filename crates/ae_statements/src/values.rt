@@ -3,6 +3,8 @@ ghost use Rattle.ae_code.specs.Shown as shown;
 ghost use Rattle.ae_code.specs.Grammar as grammar;
 ghost use Rattle.ae_code.specs.Limits.{Keeps, KeepsRight};
 ghost use Rattle.ae_reading.specs.Reads.{Reads, itself, head, Always, Free, Is, Isnt};
+ghost use Rattle.std.specs.Prelude.{◌≡◌};
+ghost use Rattle.ae_statements.specs.Deciding as deciding;
 ghost use Rattle.ae_statements.specs.Deciding.{IsCall, IsValue};
 ghost use Rattle.ae_statements.specs.Productions as productions;
 ghost use Rattle.ae_statements.specs.Productions.{ended};
@@ -17,12 +19,27 @@ use ae_text::{Keyword, Sign, Spot};
 use ae_types::path;
 use std::alloc::Global;
 
-/// A right side that can only be an expression.
-fn value<'a>(alloc: Global, ts: &'a [Lexeme]) -> Result<(Rhs, &'a [Lexeme]), Fail>
-    requires { IsValue ts.now }
+/// The failure, no earlier than at the token from which on this many are left.
+fn no_earlier(fail: Fail, left: usize) -> Fail
+    ensures { result ≡ deciding.no_earlier fail left }
+{
+    match fail {
+        Fail::Refused(why, stop) => Fail::Refused(why, if stop < left { stop } else { left }),
+        Fail::Memory => Fail::Memory,
+    }
+}
+
+/// A right side that can only be an expression, which is decided where this many tokens are left.
+///
+/// An expression that is over its limit before it is known to be one stops where it is.
+fn value<'a>(alloc: Global, ts: &'a [Lexeme], left: usize) -> Result<(Rhs, &'a [Lexeme]), Fail>
+    requires { IsValue ts.now left }
     ensures { Reads shown.right_side (ended grammar.right_side) KeepsRight Always ts.now result }
 {
-    let (e, rest) = ended_expression(alloc, ts)?;
+    let (e, rest) = match ended_expression(alloc, ts) {
+        Ok(read) => read,
+        Err(fail) => return Err(no_earlier(fail, left)),
+    };
     Ok((Rhs::Expr(e), rest))
 }
 
@@ -113,7 +130,7 @@ pub(crate) fn right_side<'a>(alloc: Global, ts: &'a [Lexeme]) -> Result<(Rhs, &'
         return making(alloc, ts);
     }
     match decide(ts) {
-        Decided::Value => value(alloc, ts),
+        Decided::Value(left) => value(alloc, ts, left),
         Decided::Call => call(alloc, ts),
         Decided::Neither(left) => Err(Fail::Refused(Why::Unexpected, left)),
     }

@@ -1,4 +1,3 @@
-pub mod FirstLemmas
 pub mod PartLemmas
 pub mod TypeLemmas
 pub mod UniqueTypes

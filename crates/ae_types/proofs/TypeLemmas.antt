@@ -1,5 +1,5 @@
--- Paths, groups, permissions and types: how each production is read.
-use Rattle.std.proofs.Common.{◌≡◌, ℕ, ◌<◌, ◌++◌, List, [], ◌∷◌, length, Option, refl, sym, ap, subst, arith, length-append, inl, inr}
+-- Groups, permissions and types: how each production is read.
+use Rattle.std.proofs.Common.{◌≡◌, ◌++◌, List, [], ◌∷◌, Option, refl, sym, subst}
 use Rattle.ae_text.specs.declared.refusal.Spot.{Spot}
 use Rattle.ae_text.specs.declared.token.Keyword.{Keyword}
 use Rattle.ae_text.specs.declared.token.Keyword.TheVariants as word
@@ -7,7 +7,6 @@ use Rattle.ae_text.specs.declared.token.Sign.TheVariants as sign
 use Rattle.ae_code.specs.declared.lexeme.Lexeme.{Lexeme}
 use Rattle.ae_code.specs.declared.lexeme.Lexical.TheVariants as tok
 use Rattle.ae_code.specs.declared.tree.NameAt.{NameAt}
-use Rattle.ae_code.specs.declared.tree.Path.{Path}
 use Rattle.ae_code.specs.declared.tree.PermAt.{PermAt}
 use Rattle.ae_code.specs.declared.tree.PermAt.TheVariants as perm_at
 use Rattle.ae_code.specs.declared.tree.KindAt.{KindAt}
@@ -15,98 +14,13 @@ use Rattle.ae_code.specs.declared.tree.KindAt.TheVariants as kind_at
 use Rattle.ae_code.specs.declared.tree.Ty.{Ty}
 use Rattle.ae_code.specs.declared.tree.Ty.TheVariants as ty
 use Rattle.ae_code.specs.declared.limits.Limit.{Limit}
-use Rattle.ae_code.specs.Names.{this}
-use Rattle.ae_code.specs.Grammar.{Tokens, each, further, separated, name, root, step, path, groups, permission, kind, type_}
+use Rattle.ae_code.specs.Grammar.{Tokens, separated, name, groups, permission, kind, type_}
 use Rattle.ae_reading.specs.declared.fail.Fail.{Fail}
 use Rattle.ae_reading.specs.Reads.{head, Always, Is, Isnt, Free, Took, Failed, Token, Mark}
-use Rattle.ae_reading.proofs.ReadsLemmas.{Lang, Follow, Both, Pair, Has, Along, Run, Links, took_as, failed_as, has_mark, has_both, has_name, run_end, nowhere, at_once}
+use Rattle.ae_reading.proofs.ReadsLemmas.{Lang, Follow, Both, Pair, Has, Along, Links, took_as, failed_as, has_mark, has_both, has_name, nowhere, at_once, When, took_nothing}
+use Rattle.ae_reading.proofs.Parts.{has_separated}
+use Rattle.ae_reading.proofs.Begins.{Opens, opens_one, opens_at, opens_mark, opens_first, opens_is, opens_other, opens_isnt, is_isnt}
 use Rattle.ae_types.specs.Parts.{angled, shared, class, object}
-use Rattle.ae_types.proofs.FirstLemmas.{Begins, begins_one, begins_at, begins_mark, begins_first, begins_is, begins_other, begins_isnt, is_isnt}
-use Rattle.ae_types.proofs.PartLemmas.{When, took_none, has_separated}
-
--- ---- paths
-
-abbrev pub this_at : Spot → NameAt
-this_at at = record { name = this; at = at }
-
-this_cases : (ts : Tokens) → Is (tok.Word word.This) (head ts) → (y : NameAt) (us r : Tokens) → root y us → head (us ++ r) ≡ head ts → (at : Spot) × (y ≡ this_at at) × Token (tok.Word word.This) at us
-this_cases ts is y us r (inl d) h = let no : tok.Name y.name ≡ tok.Word word.This = begins_is us r ts (begins_one us r d) h is in absurd cc
-this_cases ts is y us r (inr d) h = (y.at, ap (λ (n : ℕ). record { name = n; at = y.at }) d.0, d.1)
-
-pub this_along : (ts : Tokens) → Is (tok.Word word.This) (head ts) → Along root (Token (tok.Word word.This)) Free Free ts this_at
-this_along ts is = record { intro = λ q us d. inr (refl, d); cases = this_cases ts is; to = λ q us d l v. tt; from = λ q us d l v. tt }
-
-named_cases : (ts : Tokens) → (Is (tok.Word word.This) (head ts) → ⊥) → (y : NameAt) (us r : Tokens) → root y us → head (us ++ r) ≡ head ts → (q : NameAt) × (y ≡ q) × name q us
-named_cases ts other y us r (inl d) h = (y, refl, d)
-named_cases ts other y us r (inr d) h = absurd (begins_other us r ts (begins_one us r d.1) h other)
-
-pub named_along : (ts : Tokens) → (Is (tok.Word word.This) (head ts) → ⊥) → Along root name Free Free ts (λ q. q)
-named_along ts other = record { intro = λ q us d. inl d; cases = named_cases ts other; to = λ q us d l v. tt; from = λ q us d l v. tt }
-
-abbrev pub Dot : Option Lexeme → Type 0
-Dot = Is (tok.Sign sign.Dot)
-
-abbrev pub NoDot : Follow
-NoDot = Isnt (tok.Sign sign.Dot)
-
-pub dot_goes_on : (ts : Tokens) → Dot (head ts) → NoDot (head ts) → ⊥
-dot_goes_on ts is = is_isnt (tok.Sign sign.Dot) (head ts) is
-
-pub steps_end : (ts rest : Tokens) (xs : List NameAt) → (Dot (head rest) → ⊥) → Run step Free NoDot ts xs rest → Took (each step) Free NoDot ts xs rest
-steps_end ts rest xs other t = run_end (λ y us r d h. begins_other us r rest (begins_mark us r d) h other) t
-
-pub step_smaller : (ts rest : Tokens) (x : NameAt) → Took step Free Always ts x rest → length rest < length ts
-step_smaller ts rest x s = omega (arith, ap length s.whole, length-append s.taken rest, ap length s.derives.parts, length-append s.derives.front s.derives.back, ap length s.derives.first.1)
-
-abbrev pub step_body : Lang (Unit {0} × NameAt)
-step_body = Both (Mark (tok.Sign sign.Dot)) name
-
-step_along : (ts : Tokens) → Along step step_body Free (Pair Free Free) ts (λ q. q.1)
-step_along ts = record { intro = λ q us d. d; cases = λ y us r d h. ((tt, y), refl, d); to = λ q us d l v. tt; from = λ q us d l v. (tt, tt) }
-
-pub step_took : (ts rest : Tokens) (x : NameAt) → Took step_body (Pair Free Free) Always ts (tt, x) rest → Took step Free Always ts x rest
-step_took ts rest x t = took_as step step_body (λ q. q.1) (step_along ts) t
-
-pub step_failed : (ts : Tokens) (e : Fail) → Failed step_body (Pair Free Free) Always ts e → Failed step Free Always ts e
-step_failed ts e f = failed_as step step_body (λ q. q.1) (step_along ts) f
-
-abbrev pub path_body : Lang (NameAt × List NameAt)
-path_body = Both root (each step)
-
-abbrev pub path_tree : NameAt × List NameAt → Path
-path_tree q = record { root = q.0; steps = q.1 }
-
-path_along : (ts : Tokens) → Along path path_body Free (Pair Free Free) ts path_tree
-path_along ts = record { intro = λ q us d. d; cases = λ y us r d h. ((y.root, y.steps), refl, d); to = λ q us d l v. tt; from = λ q us d l v. (tt, tt) }
-
-pub path_took : (ts rest : Tokens) (q : NameAt × List NameAt) → Took path_body (Pair Free Free) NoDot ts q rest → Took path Free NoDot ts (path_tree q) rest
-path_took ts rest q t = took_as path path_body path_tree (path_along ts) t
-
-pub path_failed : (ts : Tokens) (e : Fail) → Failed path_body (Pair Free Free) NoDot ts e → Failed path Free NoDot ts e
-path_failed ts e f = failed_as path path_body path_tree (path_along ts) f
-
-pub has_root : Has root Free
-has_root = record { tree = has_name.tree; tokens = has_name.tokens; is = inl has_name.is; known = has_name.known; within = λ l. tt }
-
-pub has_steps : Has (each step) Free
-has_steps = record { tree = []; tokens = []; is = refl; known = tt; within = λ l. tt }
-
-pub has_path : Has path Free
-has_path = let b : Has path_body (Pair Free Free) = has_both has_root has_steps in record { tree = path_tree b.tree; tokens = b.tokens; is = b.is; known = b.known; within = λ l. tt }
-
--- ---- further names
-
-abbrev pub further_body : Lang (Unit {0} × NameAt)
-further_body = Both (Mark (tok.Sign sign.Comma)) name
-
-further_along : (ts : Tokens) → Along (further name) further_body Free (Pair Free Free) ts (λ q. q.1)
-further_along ts = record { intro = λ q us d. d; cases = λ y us r d h. ((tt, y), refl, d); to = λ q us d l v. tt; from = λ q us d l v. (tt, tt) }
-
-pub further_took : (ts rest : Tokens) (x : NameAt) → Took further_body (Pair Free Free) Always ts (tt, x) rest → Took (further name) Free Always ts x rest
-further_took ts rest x t = took_as (further name) further_body (λ q. q.1) (further_along ts) t
-
-pub further_failed : (ts : Tokens) (e : Fail) → Failed further_body (Pair Free Free) Always ts e → Failed (further name) Free Always ts e
-further_failed ts e f = failed_as (further name) further_body (λ q. q.1) (further_along ts) f
 
 -- ---- groups
 
@@ -136,13 +50,13 @@ angled_failed ts e f = failed_as angled angled_body (λ q. q.1.0) (angled_along 
 
 -- `>` is no comma
 pub greater_ends : Links greater Always (Isnt (tok.Sign sign.Comma))
-greater_ends y us r d f = begins_isnt us r (begins_one us r d.1) (λ e. cc)
+greater_ends y us r d f = opens_isnt us r (opens_one us r d.1) (λ e. cc)
 
 pub has_angled_rest : Has (Both (separated name) greater) (Pair Free Free)
 has_angled_rest = has_both (has_separated name has_name) (has_mark (tok.Sign sign.Greater) tt)
 
-begins_groups : (g : NameAt) (gs : List NameAt) (us r : Tokens) → groups (g ∷ gs) us → Begins us r (tok.Sign sign.Less)
-begins_groups g gs us r d = begins_mark us r d
+begins_groups : (g : NameAt) (gs : List NameAt) (us r : Tokens) → groups (g ∷ gs) us → Opens us r (tok.Sign sign.Less)
+begins_groups g gs us r d = opens_mark us r d
 
 groups_intro : (q : List NameAt) (us : Tokens) → angled q us → groups q us
 groups_intro [] us d = absurd d.second.first
@@ -160,12 +74,12 @@ angled_when ts is = record { intro = groups_intro; cases = angled_cases ts is; t
 
 none_cases : (ts : Tokens) → (Is (tok.Sign sign.Less) (head ts) → ⊥) → (y : List NameAt) (us r : Tokens) → groups y us → head (us ++ r) ≡ head ts → NoLess (head r) → (y ≡ []) × (us ≡ [])
 none_cases ts other [] us r d h f = (refl, d)
-none_cases ts other (g ∷ gs) us r d h f = absurd (begins_other us r ts (begins_groups g gs us r d) h other)
+none_cases ts other (g ∷ gs) us r d h f = absurd (opens_other us r ts (begins_groups g gs us r d) h other)
 
 pub groups_none : (ts : Tokens) (xs : List NameAt) → xs ≡ [] → (Is (tok.Sign sign.Less) (head ts) → ⊥) → Took groups Free NoLess ts xs ts
 groups_none ts xs e other =
     let P : List NameAt → Type 0 = λ l. Took groups Free NoLess ts l ts in
-    subst P (sym e) (took_none groups Free NoLess ts [] refl (λ l. tt) (none_cases ts other))
+    subst P (sym e) (took_nothing groups Free NoLess ts [] refl (λ l. tt) (none_cases ts other))
 
 pub has_groups : Has groups Free
 has_groups = record { tree = []; tokens = []; is = refl; known = tt; within = λ l. tt }
@@ -178,14 +92,14 @@ perm_word (perm_at.Immutable at) = word.Immutable
 perm_word (perm_at.Lent at) = word.Lent
 perm_word (perm_at.Shared at g) = word.Shared
 
-pub begins_permission : (p : PermAt) (us r : Tokens) → permission p us → Begins us r (tok.Word (perm_word p))
-begins_permission (perm_at.Unique at) us r d = begins_one us r d
-begins_permission (perm_at.Immutable at) us r d = begins_one us r d
-begins_permission (perm_at.Lent at) us r d = begins_one us r d
-begins_permission (perm_at.Shared at g) us r d = begins_at us r d
+pub begins_permission : (p : PermAt) (us r : Tokens) → permission p us → Opens us r (tok.Word (perm_word p))
+begins_permission (perm_at.Unique at) us r d = opens_one us r d
+begins_permission (perm_at.Immutable at) us r d = opens_one us r d
+begins_permission (perm_at.Lent at) us r d = opens_one us r d
+begins_permission (perm_at.Shared at g) us r d = opens_at us r d
 
 perm_is : (w : Keyword) (ts : Tokens) → Is (tok.Word w) (head ts) → (p : PermAt) (us r : Tokens) → permission p us → head (us ++ r) ≡ head ts → perm_word p ≡ w
-perm_is w ts is p us r d h = let e : tok.Word (perm_word p) ≡ tok.Word w = begins_is us r ts (begins_permission p us r d) h is in cc
+perm_is w ts is p us r d h = let e : tok.Word (perm_word p) ≡ tok.Word w = opens_is us r ts (begins_permission p us r d) h is in cc
 
 unique_cases : (p : PermAt) (us : Tokens) → perm_word p ≡ word.Unique → permission p us → (at : Spot) × (p ≡ perm_at.Unique at) × Token (tok.Word word.Unique) at us
 unique_cases (perm_at.Unique at) us e d = (at, refl, d)
@@ -219,9 +133,9 @@ shared_intro q us d = let P : PermAt → Type 0 = λ p. permission p us in subst
 
 shared_cases : (ts : Tokens) → (Is (tok.Word word.Unique) (head ts) → ⊥) → (Is (tok.Word word.Immutable) (head ts) → ⊥) → (Is (tok.Word word.Lent) (head ts) → ⊥) →
     (p : PermAt) (us r : Tokens) → permission p us → head (us ++ r) ≡ head ts → (q : PermAt) × (p ≡ q) × shared q us
-shared_cases ts u i n (perm_at.Unique at) us r d h = absurd (begins_other us r ts (begins_one us r d) h u)
-shared_cases ts u i n (perm_at.Immutable at) us r d h = absurd (begins_other us r ts (begins_one us r d) h i)
-shared_cases ts u i n (perm_at.Lent at) us r d h = absurd (begins_other us r ts (begins_one us r d) h n)
+shared_cases ts u i n (perm_at.Unique at) us r d h = absurd (opens_other us r ts (opens_one us r d) h u)
+shared_cases ts u i n (perm_at.Immutable at) us r d h = absurd (opens_other us r ts (opens_one us r d) h i)
+shared_cases ts u i n (perm_at.Lent at) us r d h = absurd (opens_other us r ts (opens_one us r d) h n)
 shared_cases ts u i n (perm_at.Shared at g) us r d h = (perm_at.Shared at g, refl, (at, g, refl, d))
 
 pub shared_along : (ts : Tokens) → (Is (tok.Word word.Unique) (head ts) → ⊥) → (Is (tok.Word word.Immutable) (head ts) → ⊥) → (Is (tok.Word word.Lent) (head ts) → ⊥) → Along permission shared Free Free ts (λ q. q)
@@ -261,7 +175,7 @@ has_permission = record { tree = perm_at.Unique nowhere; tokens = at_once (tok.W
 
 ints_cases : (ts : Tokens) → Is (tok.Word word.Ints) (head ts) → (k : KindAt) (us r : Tokens) → kind k us → head (us ++ r) ≡ head ts → NoLess (head r) → (at : Spot) × (k ≡ kind_at.Ints at) × Token (tok.Word word.Ints) at us × Always (head r)
 ints_cases ts is (kind_at.Ints at) us r d h f = (at, refl, d, tt)
-ints_cases ts is (kind_at.Class c gs) us r d h f = let no : tok.Name c.name ≡ tok.Word word.Ints = begins_is us r ts (begins_at us r d) h is in absurd cc
+ints_cases ts is (kind_at.Class c gs) us r d h f = let no : tok.Name c.name ≡ tok.Word word.Ints = opens_is us r ts (opens_at us r d) h is in absurd cc
 
 pub ints_when : (ts : Tokens) → Is (tok.Word word.Ints) (head ts) → When kind (Token (tok.Word word.Ints)) Free Free NoLess Always ts kind_at.Ints
 ints_when ts is = record { intro = λ q us d. d; cases = ints_cases ts is; to = λ q us d l v. tt; from = λ q us d l v. tt }
@@ -270,7 +184,7 @@ class_intro : (q : KindAt) (us : Tokens) → class q us → kind q us
 class_intro q us d = let P : KindAt → Type 0 = λ k. kind k us in subst P (sym d.2) d.3
 
 class_cases : (ts : Tokens) → (Is (tok.Word word.Ints) (head ts) → ⊥) → (k : KindAt) (us r : Tokens) → kind k us → head (us ++ r) ≡ head ts → (q : KindAt) × (k ≡ q) × class q us
-class_cases ts other (kind_at.Ints at) us r d h = absurd (begins_other us r ts (begins_one us r d) h other)
+class_cases ts other (kind_at.Ints at) us r d h = absurd (opens_other us r ts (opens_one us r d) h other)
 class_cases ts other (kind_at.Class c gs) us r d h = (kind_at.Class c gs, refl, (c, gs, refl, d))
 
 pub class_along : (ts : Tokens) → (Is (tok.Word word.Ints) (head ts) → ⊥) → Along kind class Free Free ts (λ q. q)
@@ -295,8 +209,8 @@ has_kind = record { tree = kind_at.Ints nowhere; tokens = at_once (tok.Word word
 
 int_cases : (ts : Tokens) → Is (tok.Word word.Int) (head ts) → (t : Ty) (us r : Tokens) → type_ t us → head (us ++ r) ≡ head ts → NoLess (head r) → (at : Spot) × (t ≡ ty.Int at) × Token (tok.Word word.Int) at us × Always (head r)
 int_cases ts is (ty.Int at) us r d h f = (at, refl, d, tt)
-int_cases ts is (ty.Bool at) us r d h f = let no : tok.Word word.Bool ≡ tok.Word word.Int = begins_is us r ts (begins_one us r d) h is in absurd cc
-int_cases ts is (ty.Object p k) us r d h f = no_object p (begins_is us r ts (begins_first us r d (begins_permission p d.front (d.back ++ r) d.first)) h is)
+int_cases ts is (ty.Bool at) us r d h f = let no : tok.Word word.Bool ≡ tok.Word word.Int = opens_is us r ts (opens_one us r d) h is in absurd cc
+int_cases ts is (ty.Object p k) us r d h f = no_object p (opens_is us r ts (opens_first us r d (begins_permission p d.front (d.back ++ r) d.first)) h is)
   where
     no_object : (p : PermAt) → tok.Word (perm_word p) ≡ tok.Word word.Int → (at : Spot) × (ty.Object p k ≡ ty.Int at) × Token (tok.Word word.Int) at us × Always (head r)
     no_object (perm_at.Unique at) e = absurd cc
@@ -308,9 +222,9 @@ pub int_when : (ts : Tokens) → Is (tok.Word word.Int) (head ts) → When type_
 int_when ts is = record { intro = λ q us d. d; cases = int_cases ts is; to = λ q us d l v. tt; from = λ q us d l v. tt }
 
 bool_cases : (ts : Tokens) → Is (tok.Word word.Bool) (head ts) → (t : Ty) (us r : Tokens) → type_ t us → head (us ++ r) ≡ head ts → NoLess (head r) → (at : Spot) × (t ≡ ty.Bool at) × Token (tok.Word word.Bool) at us × Always (head r)
-bool_cases ts is (ty.Int at) us r d h f = let no : tok.Word word.Int ≡ tok.Word word.Bool = begins_is us r ts (begins_one us r d) h is in absurd cc
+bool_cases ts is (ty.Int at) us r d h f = let no : tok.Word word.Int ≡ tok.Word word.Bool = opens_is us r ts (opens_one us r d) h is in absurd cc
 bool_cases ts is (ty.Bool at) us r d h f = (at, refl, d, tt)
-bool_cases ts is (ty.Object p k) us r d h f = no_object p (begins_is us r ts (begins_first us r d (begins_permission p d.front (d.back ++ r) d.first)) h is)
+bool_cases ts is (ty.Object p k) us r d h f = no_object p (opens_is us r ts (opens_first us r d (begins_permission p d.front (d.back ++ r) d.first)) h is)
   where
     no_object : (p : PermAt) → tok.Word (perm_word p) ≡ tok.Word word.Bool → (at : Spot) × (ty.Object p k ≡ ty.Bool at) × Token (tok.Word word.Bool) at us × Always (head r)
     no_object (perm_at.Unique at) e = absurd cc
@@ -325,8 +239,8 @@ object_intro : (q : Ty) (us : Tokens) → object q us → type_ q us
 object_intro q us d = let P : Ty → Type 0 = λ t. type_ t us in subst P (sym d.2) d.3
 
 object_cases : (ts : Tokens) → (Is (tok.Word word.Int) (head ts) → ⊥) → (Is (tok.Word word.Bool) (head ts) → ⊥) → (t : Ty) (us r : Tokens) → type_ t us → head (us ++ r) ≡ head ts → (q : Ty) × (t ≡ q) × object q us
-object_cases ts i b (ty.Int at) us r d h = absurd (begins_other us r ts (begins_one us r d) h i)
-object_cases ts i b (ty.Bool at) us r d h = absurd (begins_other us r ts (begins_one us r d) h b)
+object_cases ts i b (ty.Int at) us r d h = absurd (opens_other us r ts (opens_one us r d) h i)
+object_cases ts i b (ty.Bool at) us r d h = absurd (opens_other us r ts (opens_one us r d) h b)
 object_cases ts i b (ty.Object p k) us r d h = (ty.Object p k, refl, (p, k, refl, d))
 
 pub object_along : (ts : Tokens) → (Is (tok.Word word.Int) (head ts) → ⊥) → (Is (tok.Word word.Bool) (head ts) → ⊥) → Along type_ object Free Free ts (λ q. q)

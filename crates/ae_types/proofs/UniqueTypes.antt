@@ -17,7 +17,9 @@ use Rattle.ae_code.specs.declared.tree.Ty.TheVariants as ty
 use Rattle.ae_code.specs.Grammar.{Tokens, name, groups, permission, kind, type_}
 use Rattle.ae_reading.specs.Reads.{head, Always, Is, Isnt, IsName, Token, Mark}
 use Rattle.ae_reading.proofs.ReadsLemmas.{Lang, Follow, Both}
-use Rattle.ae_reading.proofs.UniqueLemmas.{Unique, Begins, begins_token, begins_mark, begins_name, begins_both, of_kind, of_other, apart_by, is_and_isnt, unique_at, unique_mark, unique_name, unique_then, unique_both, unique_as, unique_always, unique_choice, by_first, optional, unique_optional, some, unique_some}
+use Rattle.ae_reading.proofs.UniqueLemmas.{Unique, apart_by, unique_at, unique_mark, unique_name, unique_then, unique_both, unique_as, unique_always, unique_choice, by_first, unique_optional, unique_some}
+use Rattle.ae_reading.proofs.Begins.{Begins, begins_token, begins_mark, begins_name, begins_both, of_kind, of_other, is_isnt}
+use Rattle.ae_reading.proofs.Parts.{optional, Whole}
 
 -- ---- groups
 
@@ -25,7 +27,7 @@ abbrev pub Listed : Type 0
 Listed = Unit {0} × ((NameAt × List NameAt) × Unit {0})
 
 abbrev pub angled : Lang Listed
-angled = Both (Mark (tok.Sign sign.Less)) (Both (some name) (Mark (tok.Sign sign.Greater)))
+angled = Both (Mark (tok.Sign sign.Less)) (Both (Whole name) (Mark (tok.Sign sign.Greater)))
 
 abbrev pub groups_of : Option Listed → List NameAt
 groups_of None = []
@@ -36,18 +38,18 @@ groups_cases [] us d = (None, refl, d)
 groups_cases (g ∷ gs) us d = (Some (tt, ((g, gs), tt)), refl, d)
 
 begins_angled : Begins angled (Is (tok.Sign sign.Less))
-begins_angled = begins_both (Mark (tok.Sign sign.Less)) (λ c. Both (some name) (Mark (tok.Sign sign.Greater))) (Is (tok.Sign sign.Less)) (begins_mark (tok.Sign sign.Less))
+begins_angled = begins_both (Mark (tok.Sign sign.Less)) (λ c. Both (Whole name) (Mark (tok.Sign sign.Greater))) (Is (tok.Sign sign.Less)) (begins_mark (tok.Sign sign.Less))
 
-unique_names_closed : Unique (Both (some name) (Mark (tok.Sign sign.Greater))) Always
-unique_names_closed = unique_both (some name) (Mark (tok.Sign sign.Greater)) (Is (tok.Sign sign.Greater)) Always (λ x us r d f. begins_mark (tok.Sign sign.Greater) x us r d)
+unique_names_closed : Unique (Both (Whole name) (Mark (tok.Sign sign.Greater))) Always
+unique_names_closed = unique_both (Whole name) (Mark (tok.Sign sign.Greater)) (Is (tok.Sign sign.Greater)) Always (λ x us r d f. begins_mark (tok.Sign sign.Greater) x us r d)
     (unique_some name (Is (tok.Sign sign.Greater)) Always (λ o i. tt) (λ o i. tt) (of_other (tok.Sign sign.Greater) (tok.Sign sign.Comma) (λ e. cc)) unique_name) (unique_mark (tok.Sign sign.Greater))
 
 unique_angled : Unique angled Always
-unique_angled = unique_then (Mark (tok.Sign sign.Less)) (Both (some name) (Mark (tok.Sign sign.Greater))) Always (unique_mark (tok.Sign sign.Less)) unique_names_closed
+unique_angled = unique_then (Mark (tok.Sign sign.Less)) (Both (Whole name) (Mark (tok.Sign sign.Greater))) Always (unique_mark (tok.Sign sign.Less)) unique_names_closed
 
 pub unique_groups : Unique groups (Isnt (tok.Sign sign.Less))
 unique_groups = unique_as groups (optional angled) (Isnt (tok.Sign sign.Less)) groups_of groups_cases
-    (unique_optional angled (Isnt (tok.Sign sign.Less)) (apart_by angled (Is (tok.Sign sign.Less)) (Isnt (tok.Sign sign.Less)) (is_and_isnt (tok.Sign sign.Less)) begins_angled) (unique_always angled (Isnt (tok.Sign sign.Less)) unique_angled))
+    (unique_optional angled (Isnt (tok.Sign sign.Less)) (apart_by angled (Is (tok.Sign sign.Less)) (Isnt (tok.Sign sign.Less)) (is_isnt (tok.Sign sign.Less)) begins_angled) (unique_always angled (Isnt (tok.Sign sign.Less)) unique_angled))
 
 -- ---- permissions
 

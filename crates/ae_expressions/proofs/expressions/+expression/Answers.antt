@@ -11,7 +11,6 @@ use Rattle.ae_expressions.specs.declared.starts.Mark.{Mark}
 use Rattle.ae_expressions.specs.declared.starts.Mark.TheVariants as mark
 use Rattle.ae_expressions.specs.declared.starts.Start.TheVariants as start
 use Rattle.ae_expressions.specs.Productions.{AtMost, AtMostInside, Next, at_level, counted, enclosed, enclosed_shown, kind_of, literal, operand, start_of}
-use Rattle.ae_expressions.proofs.OptionLemmas.{denies}
 use Rattle.ae_expressions.proofs.ChainLemmas.{chain_start, chain_more, chain_stopped, chain_first_stopped, chain_over, chain_ends, sum_stopped, sum_alone, compared_over, compared_stopped, compared_took}
 use Rattle.ae_expressions.proofs.OperandLemmas.{operand_took, operand_failed, operand_other, operand_end, literal_fits, literal_failed, enclosed_took, enclosed_failed_open, enclosed_failed_inner, enclosed_failed_close, paren_operand, grouped_took, grouped_failed, not_operand, negated_took, negated_failed_sign, negated_failed_operand, minus_operand, minus_took, minus_failed_sign, minus_failed_operand, place_operand, place_failed_path, place_alone, place_over, place_failed_index, place_indexed, mark_over, marked_took, marked_failed}
 use Rattle.ae_expressions.proofs.expressions.+expression.Goals as goal
@@ -24,7 +23,7 @@ pub chain-more-init : goal.chain-more-init
 chain-more-init t c = chain_start _ _ _ _ _ _ c.in_ok-left.ensures.reads c.in_ok-left.ensures.count
 
 pub chain-returns-then-left-budget-clause-reads : goal.chain-returns-then-left-budget-clause-reads
-chain-returns-then-left-budget-clause-reads t c = denies counted (at_level c.args.level) (AtMost c.args.budget) (Ends c.args.level) c.args.ts.now _ _ _ c.over.ensures (chain_over _ _ c.if-level-eq2.false _ _ _ _ _ _ c.more.invariant c.in-Some.ensures c.if-left-budget.true)
+chain-returns-then-left-budget-clause-reads t c = refuses counted (at_level c.args.level) (AtMost c.args.budget) (Ends c.args.level) c.args.ts.now _ c.over.ensures (chain_over _ _ c.if-level-eq2.false _ _ _ _ _ _ c.more.invariant c.in-Some.ensures c.if-left-budget.true)
 
 pub chain-returns-in_err-right-clause-reads : goal.chain-returns-in_err-right-clause-reads
 chain-returns-in_err-right-clause-reads t c =
@@ -52,7 +51,7 @@ comparison-returns-in_default-clause-reads t c = sum_alone _ _ _ _ c.in_ok-left.
 pub comparison-returns-then-left-budget-clause-reads : goal.comparison-returns-then-left-budget-clause-reads
 comparison-returns-then-left-budget-clause-reads t c =
     let many : c.args.budget ≤ marks (counted c.in_ok-left.left) = omega (arith, c.in_ok-left.ensures.count, c.if-left-budget.true) in
-    denies counted (at_level 2) (AtMost c.args.budget) (Ends 2) c.args.ts.now _ _ _ c.over.ensures (compared_over _ _ _ _ _ _ c.in_ok-left.ensures.reads c.in-Some.ensures many)
+    refuses counted (at_level 2) (AtMost c.args.budget) (Ends 2) c.args.ts.now _ c.over.ensures (compared_over _ _ _ _ _ _ c.in_ok-left.ensures.reads c.in-Some.ensures many)
 
 pub comparison-returns-in_err-right-clause-reads : goal.comparison-returns-in_err-right-clause-reads
 comparison-returns-in_err-right-clause-reads t c =
@@ -146,7 +145,7 @@ place-returns-then-not-is_sign_next-clause-count t c = c.len-steps.ensures ∙ s
 pub place-returns-then-steps-budget-clause-reads : goal.place-returns-then-steps-budget-clause-reads
 place-returns-then-steps-budget-clause-reads t c =
     let many : c.args.budget ≤ length c.in_ok-path.path.steps = omega (arith, c.len-steps.ensures, c.if-steps-budget.true) in
-    denies counted place_operand (AtMost c.args.budget) (Ends 5) c.args.ts.now _ _ _ c.over.ensures (place_over _ _ _ _ c.in_ok-path.ensures c.if-not-is_sign_next.ensures many)
+    refuses counted place_operand (AtMost c.args.budget) (Ends 5) c.args.ts.now _ c.over.ensures (place_over _ _ _ _ c.in_ok-path.ensures c.if-not-is_sign_next.ensures many)
 
 pub place-returns-in_err-index-clause-reads : goal.place-returns-in_err-index-clause-reads
 place-returns-in_err-index-clause-reads t c =
@@ -187,7 +186,7 @@ operand-returns-in-Other-clause-reads t c =
     refuses counted (at_level 5) (AtMost c.args.budget) (Ends 5) _ _ c.unexpected-in-Other.ensures (operand_other _ _ _ _ is c.in-Some.ensures)
 
 pub marked-returns-then-budget-eq0-clause-reads : goal.marked-returns-then-budget-eq0-clause-reads
-marked-returns-then-budget-eq0-clause-reads t c = denies counted (at_level 5) (AtMost c.args.budget) (Ends 5) c.args.ts.now _ _ _ c.over.ensures (mark_over c.args.mark _ _ c.if-budget-eq0.true c.requires.next)
+marked-returns-then-budget-eq0-clause-reads t c = refuses counted (at_level 5) (AtMost c.args.budget) (Ends 5) c.args.ts.now _ c.over.ensures (mark_over c.args.mark _ _ c.if-budget-eq0.true c.requires.next)
 
 pub marked-returns-in-Len-clause-reads : goal.marked-returns-in-Len-clause-reads
 marked-returns-in-Len-clause-reads t c =

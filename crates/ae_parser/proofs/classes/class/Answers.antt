@@ -1,4 +1,4 @@
-use Rattle.ae_reading.proofs.ReadsLemmas.{exits, first, second, both, free, took_mark, failed_mark}
+use Rattle.ae_reading.proofs.ReadsLemmas.{exits, first, second, both, free, took_mark, failed_mark, took_shorter}
 use Rattle.std.proofs.Common.{ℕ, List, map, ap, ◌∙◌, sym, subst, arith}
 use Rattle.std.proofs.lemmas.List.{length-map}
 use Rattle.ae_code.specs.declared.lexeme.Lexical.TheVariants as tok
@@ -8,7 +8,6 @@ use Rattle.ae_code.specs.Grammar.{numbers_from}
 use Rattle.ae_reading.specs.Reads.{Always, Took}
 use Rattle.ae_parser.specs.Productions.{KeepsOne, shown_class, class_at}
 use Rattle.ae_parser.proofs.ParamLemmas.{mark_ends}
-use Rattle.ae_parser.proofs.MethodLemmas.{took_shorter}
 use Rattle.ae_parser.proofs.ClassLemmas.{class_with, class_took, class_failed, has_named, has_grouped, has_opened, has_filled, has_finished, has_closed, methods_no_type, closing_no_method, methods_few}
 use Rattle.ae_parser.proofs.classes.class.Goals as goal
 

@@ -1,7 +1,8 @@
 use Rattle.ae_code.specs.Grammar.{further, need, each}
 use Rattle.ae_reading.specs.Reads.{itself, Free, Always}
-use Rattle.ae_reading.proofs.ReadsLemmas.{exits}
-use Rattle.ae_types.proofs.PartLemmas.{loop_start, loop_more, loop_failed, commas_end, further_smaller}
+use Rattle.ae_reading.proofs.ReadsLemmas.{exits, mark_smaller}
+use Rattle.ae_reading.proofs.Parts.{Comma}
+use Rattle.ae_types.proofs.PartLemmas.{loop_start, loop_more, loop_failed, commas_end}
 use Rattle.ae_parser.proofs.MethodLemmas.{Opening, comma_or_brace}
 use Rattle.ae_parser.proofs.needs.further_needs.Goals as goal
 
@@ -12,7 +13,7 @@ pub returns-in_err-need : goal.returns-in_err-need
 returns-in_err-need c = exits itself (each (further need)) Free Opening _ _ _ (loop_failed (further need) Opening _ _ _ _ (comma_or_brace _ c.needs-test.ensures) c.needs.invariant c.in_err-need.ensures) c.from_residual.ensures.1
 
 pub needs-smaller : goal.needs-smaller
-needs-smaller c = further_smaller need Free Always _ _ _ c.in_ok-need.ensures
+needs-smaller c = mark_smaller Comma need Free Always _ _ _ c.in_ok-need.ensures
 
 pub needs-preserved : goal.needs-preserved
 needs-preserved c = loop_more (further need) Opening _ _ _ _ _ _ (comma_or_brace _ c.needs-test.ensures) c.in_ok-push.ensures.ok c.needs.invariant c.in_ok-need.ensures

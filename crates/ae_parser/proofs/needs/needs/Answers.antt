@@ -1,7 +1,6 @@
 use Rattle.ae_code.specs.Grammar.{needs}
 use Rattle.ae_reading.specs.Reads.{itself, Free}
-use Rattle.ae_reading.proofs.ReadsLemmas.{passes}
-use Rattle.ae_types.proofs.PartLemmas.{took_when, failed_when}
+use Rattle.ae_reading.proofs.ReadsLemmas.{passes, took_when, failed_when}
 use Rattle.ae_parser.specs.Productions.{some_needs}
 use Rattle.ae_parser.proofs.MethodLemmas.{Opening, needs_when, needs_none}
 use Rattle.ae_parser.proofs.needs.needs.Goals as goal

@@ -1,8 +1,7 @@
 use Rattle.ae_code.specs.Grammar.{away}
 use Rattle.ae_reading.specs.Reads.{itself, Free, Always}
-use Rattle.ae_reading.proofs.ReadsLemmas.{passes}
+use Rattle.ae_reading.proofs.ReadsLemmas.{passes, took_when, failed_when}
 use Rattle.ae_parser.specs.Productions.{given_away}
-use Rattle.ae_types.proofs.PartLemmas.{took_when, failed_when}
 use Rattle.ae_parser.proofs.ParamLemmas.{NoAway, away_when, away_none}
 use Rattle.ae_parser.proofs.params.away.Goals as goal
 

@@ -7,11 +7,11 @@ use Rattle.ae_code.specs.Shown as shown
 use Rattle.ae_code.specs.Shown.{action-While, action-Split, action-Atomic, action-If, action-If_else, lines-roll, no-roll}
 use Rattle.ae_code.specs.Grammar.{statements, opened, opened_in}
 use Rattle.ae_reading.specs.Reads.{Took, Failed, Always}
-use Rattle.ae_reading.proofs.ReadsLemmas.{exits, passes, token_smaller}
+use Rattle.ae_reading.proofs.ReadsLemmas.{exits, passes, token_smaller, took_shorter}
 use Rattle.ae_statements.specs.Productions.{stmt, KeepsStmt, NoElse, Closes, braced, otherwise, KeepsBraced, shown_block, shown_stmt, shown_numbered, shown_stmts}
 use Rattle.ae_statements.proofs.ShapeLemmas.{pre_first, pre_second, took_pre}
 use Rattle.ae_statements.proofs.BlockLemmas.{KeepsLines, braced_took, braced_first, braced_inner, braced_last, has_braced, looped, loops, divided, splits, locked, locks, one_took, one_first, one_second, one_third, behind, other_absent, two_took, two_first, two_second, choice_took, choice_first, choice_second, choice_third, next_number, both_numbers, other_took_at, other_failed_at}
-use Rattle.ae_statements.proofs.LinesLemmas.{Body, lines_listed, body_start, body_more, body_failed, body_end, body_full, body_length, body_room, braced_room, took_length, stmt_smaller, simple_number}
+use Rattle.ae_statements.proofs.LinesLemmas.{Body, lines_listed, body_start, body_more, body_failed, body_end, body_full, body_length, body_room, braced_room, stmt_smaller, simple_number}
 use Rattle.ae_statements.proofs.blocks.+statements.Goals as goal
 
 -- ---- a block
@@ -128,9 +128,9 @@ choice-returns-then-not-is_word_next-clause-next t c = next_number _ _ _ _ (ap o
 
 pub choice-otherwise-requires : goal.choice-otherwise-requires
 choice-otherwise-requires t c =
-    let room : c.args.no + length c.in_ok-e.rest.now ≤ 4294967295 = omega (arith, c.requires.few, took_length _ _ _ c.in_ok-at.ensures, took_length _ _ _ c.in_ok-e.ensures) in
+    let room : c.args.no + length c.in_ok-e.rest.now ≤ 4294967295 = omega (arith, c.requires.few, took_shorter c.in_ok-at.ensures, took_shorter c.in_ok-e.ensures) in
     let left : c.args.no + 1 + opened_in (shown_block c.in_ok-inner.inner) + length c.in_ok-inner.rest.now ≤ 4294967295 = braced_room _ _ _ _ _ c.in_ok-inner.ensures.reads room in
-    let smaller : 4 * length c.in_ok-inner.rest.now < t = omega (arith, c.decreases, token_smaller _ _ _ _ _ c.in_ok-at.ensures, took_length _ _ _ c.in_ok-e.ensures, took_length _ _ _ c.in_ok-inner.ensures.reads) in
+    let smaller : 4 * length c.in_ok-inner.rest.now < t = omega (arith, c.decreases, token_smaller _ _ _ _ _ c.in_ok-at.ensures, took_shorter c.in_ok-e.ensures, took_shorter c.in_ok-inner.ensures.reads) in
     (smaller, (omega (arith, left, c.in_ok-inner.ensures.next), c.requires.some))
 
 pub choice-returns-in_err-second-clause-reads : goal.choice-returns-in_err-second-clause-reads

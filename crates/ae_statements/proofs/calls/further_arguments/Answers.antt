@@ -1,9 +1,11 @@
 use Rattle.std.proofs.Common.{map}
 use Rattle.ae_code.specs.Shown as shown
 use Rattle.ae_code.specs.Grammar.{whole, further, each}
-use Rattle.ae_code.specs.Limits.{AllKeep}
-use Rattle.ae_reading.proofs.ReadsLemmas.{exits}
-use Rattle.ae_statements.proofs.CallLemmas.{Closed, arguments_start, arguments_more, arguments_failed, arguments_end, argument_smaller}
+use Rattle.ae_code.specs.Limits.{AllKeep, Keeps}
+use Rattle.ae_reading.proofs.ReadsLemmas.{exits, mark_smaller}
+use Rattle.ae_reading.proofs.Parts.{Comma}
+use Rattle.ae_expressions.specs.Ends.{Ends}
+use Rattle.ae_statements.proofs.CallLemmas.{Closed, arguments_start, arguments_more, arguments_failed, arguments_end}
 use Rattle.ae_statements.proofs.calls.further_arguments.Goals as goal
 
 pub more-init : goal.more-init
@@ -13,7 +15,7 @@ pub returns-in_err-arg : goal.returns-in_err-arg
 returns-in_err-arg c = exits (map shown.expression) (each (further whole)) AllKeep Closed _ _ _ (arguments_failed _ _ _ _ c.more-test.ensures c.more.invariant c.in_err-arg.ensures) c.from_residual.ensures.1
 
 pub more-smaller : goal.more-smaller
-more-smaller c = argument_smaller _ _ _ c.in_ok-arg.ensures
+more-smaller c = mark_smaller Comma whole Keeps (Ends 0) _ _ _ c.in_ok-arg.ensures
 
 pub more-preserved : goal.more-preserved
 more-preserved c = arguments_more _ _ _ _ _ _ c.more-test.ensures c.in_ok-push.ensures.ok c.more.invariant c.in_ok-arg.ensures

@@ -1,4 +1,5 @@
-use Rattle.ae_statements.proofs.DecidedLemmas.{from_none, from_name, from_this, from_other}
+use Rattle.ae_statements.proofs.DecideLemmas.{value_other}
+use Rattle.ae_statements.proofs.DecidedLemmas.{from_none, from_name, from_this}
 use Rattle.ae_statements.proofs.decide.decide.Goals as goal
 
 pub returns-in_default : goal.returns-in_default
@@ -11,4 +12,4 @@ pub returns-then-is_word_next : goal.returns-then-is_word_next
 returns-then-is_word_next c = from_this _ _ _ _ c.in-Some.ensures c.if-is_word_next.ensures c.behind_this.ensures
 
 pub returns-else-is_word_next : goal.returns-else-is_word_next
-returns-else-is_word_next c = from_other _ c.requires c.if-is_name_next.ensures c.if-is_word_next.ensures
+returns-else-is_word_next c = value_other _ c.requires c.if-is_name_next.ensures c.if-is_word_next.ensures

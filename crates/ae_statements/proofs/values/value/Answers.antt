@@ -1,14 +1,14 @@
-use Rattle.ae_code.specs.Shown as shown
+use Rattle.std.proofs.Common.{sym, subst}
+use Rattle.ae_reading.specs.declared.fail.Fail.{Fail}
 use Rattle.ae_code.specs.Grammar.{right_side}
 use Rattle.ae_code.specs.Limits.{KeepsRight}
-use Rattle.ae_reading.specs.Reads.{Always}
-use Rattle.ae_reading.proofs.ReadsLemmas.{exits}
+use Rattle.ae_reading.specs.Reads.{Always, Failed}
 use Rattle.ae_statements.specs.Productions.{ended}
 use Rattle.ae_statements.proofs.ValueLemmas.{value_took, value_failed}
 use Rattle.ae_statements.proofs.values.value.Goals as goal
 
-pub returns-in_err-e : goal.returns-in_err-e
-returns-in_err-e c = exits shown.right_side (ended right_side) KeepsRight Always _ _ _ (value_failed _ _ c.requires c.in_err-e.ensures) c.from_residual.ensures.1
+pub returns-in-Err : goal.returns-in-Err
+returns-in-Err c = let P : Fail → Type 0 = Failed (ended right_side) KeepsRight Always c.args.ts.now in subst P (sym c.no_earlier.ensures) (value_failed _ _ _ c.requires c.in-Err.ensures)
 
 pub returns : goal.returns
-returns c = value_took _ _ _ c.in_ok-e.ensures
+returns c = value_took _ _ _ c.in-Ok.ensures

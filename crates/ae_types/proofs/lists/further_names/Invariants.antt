@@ -1,7 +1,7 @@
 use Rattle.std.proofs.Common.{length}
 use Rattle.ae_code.specs.Grammar.{further, name}
 use Rattle.ae_reading.specs.Reads.{Free}
-use Rattle.ae_reading.proofs.ReadsLemmas.{Run}
+use Rattle.ae_reading.proofs.Runs.{Run}
 use Rattle.ae_types.proofs.PartLemmas.{NoComma}
 use Rattle.ae_types.proofs.lists.further_names.Given as goal
 

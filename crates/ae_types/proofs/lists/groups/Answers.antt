@@ -1,8 +1,7 @@
 use Rattle.ae_code.specs.Grammar.{groups}
 use Rattle.ae_reading.specs.Reads.{itself, Free, Always}
-use Rattle.ae_reading.proofs.ReadsLemmas.{passes}
+use Rattle.ae_reading.proofs.ReadsLemmas.{passes, took_when, failed_when}
 use Rattle.ae_types.specs.Parts.{angled}
-use Rattle.ae_types.proofs.PartLemmas.{took_when, failed_when}
 use Rattle.ae_types.proofs.TypeLemmas.{NoLess, angled_when, groups_none}
 use Rattle.ae_types.proofs.lists.groups.Goals as goal
 

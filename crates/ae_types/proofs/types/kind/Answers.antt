@@ -3,8 +3,7 @@ use Rattle.ae_reading.specs.Reads.{itself, Free, Token}
 use Rattle.ae_text.specs.declared.token.Keyword.TheVariants as word
 use Rattle.ae_code.specs.declared.lexeme.Lexical.TheVariants as tok
 use Rattle.ae_code.specs.declared.tree.KindAt.TheVariants as kind_at
-use Rattle.ae_reading.proofs.ReadsLemmas.{exits, passes, took_as, failed_as}
-use Rattle.ae_types.proofs.PartLemmas.{took_when, failed_when}
+use Rattle.ae_reading.proofs.ReadsLemmas.{exits, passes, took_as, failed_as, took_when, failed_when}
 use Rattle.ae_types.specs.Parts.{class}
 use Rattle.ae_types.proofs.TypeLemmas.{NoLess, ints_when, class_along}
 use Rattle.ae_types.proofs.types.kind.Goals as goal
