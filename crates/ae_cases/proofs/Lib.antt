@@ -1,4 +1,4 @@
 mod Values
+mod Judged
 mod Lines
 mod Programs
-mod Declared

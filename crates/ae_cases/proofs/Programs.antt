@@ -1,18 +1,27 @@
 -- A whole program that runs today comes to the same by both meanings.
-use Rattle.std.proofs.Common.{◌≡◌, ℕ, ℤ, List, [], ◌∷◌, Option, None, Some, refl, ap, ◌∙◌, subst}
+use Rattle.std.proofs.Common.{◌≡◌, ℕ, ℤ, nat_eq, Bool, true, false, if◌then◌else◌, List, [], ◌∷◌, Option, None, Some, refl, ap, ◌∙◌, subst}
 use Rattle.ae_code.specs.declared.tree.Decl.TheVariants as decl
-use Rattle.ae_code.specs.Names.{main}
+use Rattle.ae_code.specs.Names.{main, this}
 use Rattle.ae_code.specs.Plain.{Definition, Code}
 use Rattle.ae_code.specs.Built.{AreBuilt}
-use Rattle.ae_code.specs.Judgement.{nobody, Verdict, Holds, Broken, then_judge, judge, judge_methods, IsHeld}
+use Rattle.ae_rules.specs.Verdict.{Holds, fine, each}
+use Rattle.ae_rules.specs.Table.{table_verdict}
+use Rattle.ae_rules.specs.Context.{Local, Context}
+use Rattle.ae_rules.specs.Statements.{judge_lines}
+use Rattle.ae_rules.specs.Judges as rules
+use Rattle.ae_rules.specs.Judges.{me_local, param_local, param_called, judge_method, Accepts}
+use Rattle.ae_code.specs.declared.tree.Param.{Param}
+use Rattle.std.specs.Prelude.{option_map}
+use Rattle.ae_rules.specs.Cases as judged
 use Rattle.ae_meaning.specs.Meaning as today
-use Rattle.ae_semantics.specs.Known.{takers}
+use Rattle.ae_semantics.specs.Calls.{takers}
 use Rattle.ae_semantics.specs.Observations.{Seen}
-use Rattle.ae_semantics.specs.Runs.{Run, Went, Ends, Stops, Below}
-use Rattle.ae_semantics.specs.Meaning.{block, below, whole, many}
+use Rattle.ae_semantics.specs.Runs.{Run, Went, Ends, Stops, whole, Below}
+use Rattle.ae_semantics.specs.Meaning.{block, below, many}
 use Rattle.ae_semantics.specs.Means.{main_here, main_state, start, no_notes, meant, source_machine, mean, seq}
 use Rattle.ae_cases.specs.Laws.{IsAsToday, TodayIsACase}
 use Rattle.ae_cases.proofs.Lines.{AlikeRuns, alike_left, lines_alike}
+use Rattle.ae_cases.proofs.Judged.{Integers, holds_then}
 
 -- runs that are alike come to the same
 alike_meant : (r : today.Run) (q : Run (List Seen)) → AlikeRuns r q → IsAsToday (today.ended r) (meant q)
@@ -38,23 +47,39 @@ start_is p m ints d e n = rw (d, e, n) refl
 no_takers : (p : Code) (m : Definition) → m.me ≡ None → m.params ≡ [] → takers p m ≡ []
 no_takers p m e d = rw (e, d) refl
 
-held_alone : (v : Verdict) → IsHeld (then_judge v (λ _. Holds nobody)) → IsHeld v
-held_alone (Holds scope) h = tt
-held_alone (Broken rule at) h = absurd h
+no_local : (b : Bool) (o q : Option Local) (l : Local) → o ≡ None → q ≡ None → (if b then o else q) ≡ Some l → ⊥
+no_local true o q l e d h = cc (e, h)
+no_local false o q l e d h = cc (d, h)
 
-body_alike : (p : Code) (m : Definition) (ints : List ℤ) (fuel : ℕ) → takers p m ≡ [] → AreBuilt m.body → IsHeld (judge m.body nobody)
+-- no local is visible where the body begins
+no_locals : (p : Code) (m : Definition) → m.me ≡ None → m.params ≡ [] → Integers (rules.start p m)
+no_locals p m e d x l h = absurd (no_local (nat_eq this x) (option_map (me_local p m) m.me) (option_map param_local (param_called m.params x)) l
+    (ap (option_map (me_local p m)) e) (ap (λ (xs : List Param). option_map param_local (param_called xs x)) d) h)
+
+-- the body of an accepted program's one method is judged
+body_judged : (p : Code) (m : Definition) → p.methods ≡ m ∷ [] → Accepts p → (c : Context) × (judge_lines p m m.body (rules.start p m) ≡ Holds c)
+body_judged p m e a =
+    let t = holds_then (table_verdict p) (λ _. each (judge_method p) p.methods) tt a in
+    let h = holds_then (judge_method p m) (λ _. fine) tt (subst (λ (ms : List Definition). each (judge_method p) ms ≡ Holds tt) e t.2) in
+    let r = holds_then (judge_lines p m m.body (rules.start p m)) _ h.0 h.1 in
+    (r.0, r.1)
+
+body_alike : (p : Code) (m : Definition) (ints : List ℤ) (fuel : ℕ) → takers p m ≡ [] → AreBuilt m.body → Integers (rules.start p m)
+    → (c : Context) → judge_lines p m m.body (rules.start p m) ≡ Holds c
     → AlikeRuns (today.many m.body today.begin) (block (source_machine p) (below (source_machine p) fuel) (main_here p 0 m) m.body (main_state p m ints) (no_notes []))
-body_alike p m ints fuel e b h =
+body_alike p m ints fuel e b i c h =
     let under : Option (Below (List Seen)) = below (source_machine p) fuel in
-    alike_left m.body (today.many m.body today.begin) (many (source_machine p) under (main_here p 0 m) (whole m.body (main_here p 0 m)) 0 m.body [] (main_state p m ints) (no_notes []))
-    (lines_alike p under (main_here p 0 m) (whole m.body (main_here p 0 m)) 0 m.body b nobody (λ x f. absurd (cc f)) h
+    alike_left (rules.start p m) (today.many m.body today.begin) (many (source_machine p) under (main_here p 0 m) (whole m.body (main_here p 0 m)) 0 m.body [] (main_state p m ints) (no_notes []))
+    (lines_alike p under (main_here p 0 m) (whole m.body (main_here p 0 m)) 0 m.body b i c h
     today.begin (main_state p m ints) (no_notes []) (λ x. rw e refl) (record { log = refl; unsplit = refl }))
 
-pub today_is_case : TodayIsACase
+-- where the rules of the whole language accept what today's accept
+pub today_is_case : judged.TodayIsACase → TodayIsACase
 unfolding today.seq mean seq
-today_is_case p a d ints fuel =
+today_is_case rules_alike p a d ints fuel =
     let m : Definition = a.0.method in
-    let h : IsHeld (judge m.body nobody) = held_alone (judge m.body nobody) (subst (λ (ms : List Definition). IsHeld (judge_methods ms)) a.0.methods a.1) in
+    let j : (c : Context) × (judge_lines p m m.body (rules.start p m) ≡ Holds c) = body_judged p m a.0.methods ((rules_alike p a.0 d).0 a) in
     let e : today.main_body p.methods ≡ m.body = ap today.main_body a.0.methods ∙ main_is m a.0.is_main.class a.0.is_main.is_named in
     rw (e, start_is p m ints d a.0.methods a.0.is_main.is_named)
-    (alike_meant _ _ (body_alike p m ints fuel (no_takers p m a.0.is_main.me a.0.is_main.params) a.0.body h))
+    (alike_meant _ _ (body_alike p m ints fuel (no_takers p m a.0.is_main.me a.0.is_main.params) a.0.body
+    (no_locals p m a.0.is_main.me a.0.is_main.params) j.0 j.1))

@@ -1,10 +1,7 @@
 -- The meaning of the programs that run today is a case of the meaning of the whole language.
 use Rattle.std.specs.Prelude.{◌≡◌, ℕ, ℤ, List, [], ◌∷◌, None, option_map}
-use Rattle.ae_text.specs.declared.token.Token.{Token}
 use Rattle.ae_code.specs.declared.tree.Decl.TheVariants as decl
 use Rattle.ae_code.specs.Plain.{Code}
-use Rattle.ae_code.specs.Grammar.{Derives}
-use Rattle.ae_code.specs.Built.{Built}
 use Rattle.ae_code.specs.Judgement.{Accepted}
 use Rattle.ae_meaning.specs.declared.report.Ending as today_ending
 use Rattle.ae_meaning.specs.declared.report.Ending.TheVariants as ends_today
@@ -29,7 +26,3 @@ pub record IsAsToday (m : today.Meaning) (w : whole.Meant) : Type 0 where
 abbrev pub TodayIsACase : Type 0
 TodayIsACase = (p : Code) → Accepted p → p.decls ≡ decl.Method 0 ∷ [] → (ints : List ℤ) (fuel : ℕ)
     → IsAsToday (today.seq p ints fuel) (whole.seq p ints fuel)
-
--- a program with only forms that run today, as tokens derive it, has its method as its one declaration
-abbrev pub BuiltHasOneDeclaration : Type 0
-BuiltHasOneDeclaration = (tokens : List Token) (p : Code) → Derives tokens p → Built p → p.decls ≡ decl.Method 0 ∷ []

@@ -3,4 +3,4 @@
 
 mod laws;
 
-pub use laws::{built_has_one_declaration, today_is_a_case};
+pub use laws::today_is_a_case;

@@ -34,14 +34,14 @@ use Rattle.ae_rules.specs.Cases.{DeclaresOne, TodayIsACase, BuiltDeclaresOne}
 -- ---- verdicts of both
 
 -- both hold, and their values are related; or both break one rule at one place
-abbrev Same : {B : Type 0} → (Scope → B → Type 0) → Small → Verdict B → Type 0
+abbrev pub Same : {B : Type 0} → (Scope → B → Type 0) → Small → Verdict B → Type 0
 Same P (Fits s) (Holds x) = P s x
 Same P (Fits s) (Broken rule at) = ⊥
 Same P (Fails rule at) (Holds x) = ⊥
 Same P (Fails r at) (Broken s spot) = (r ≡ s) × (at ≡ spot)
 
-record Agrees {B : Type 0} (P : Scope → B → Type 0) (v : Small) (w : Verdict B) : Type 0 where
-  same : Same P v w
+pub record Agrees {B : Type 0} (P : Scope → B → Type 0) (v : Small) (w : Verdict B) : Type 0 where
+  pub same : Same P v w
 
 holds_both : {B : Type 0} {P : Scope → B → Type 0} (s : Scope) (x : B) → P s x → Agrees P (Fits s) (Holds x)
 holds_both s x h = record { same = h }
@@ -67,19 +67,19 @@ whole_then (Fails rule at) (Broken r spot) g a h = record { same = a.same }
 
 -- ---- scopes and contexts
 
-abbrev number : Local
+abbrev pub number : Local
 number = record { form = f.Int; held = held.None; stays = false }
 
 -- what is known of a name, by whether it is visible
-abbrev seen : Bool → Option Local
+abbrev pub seen : Bool → Option Local
 seen true = Some number
 seen false = None
 
 -- the visible names are integers, and `io` alone is known and exclusive
-record Alike (scope : Scope) (c : Context) : Type 0 where
-  locals : (x : ℕ) → c.local x ≡ seen (scope x)
-  groups : (g : ℕ) → known c g ≡ nat_eq io g
-  prints : c.group io ≡ Some group.Exclusive
+pub record Alike (scope : Scope) (c : Context) : Type 0 where
+  pub locals : (x : ℕ) → c.local x ≡ seen (scope x)
+  pub groups : (g : ℕ) → known c g ≡ nat_eq io g
+  pub prints : c.group io ≡ Some group.Exclusive
 
 is_seen : (b : Bool) → is_some (seen b) ≡ b
 is_seen true = refl
@@ -181,7 +181,7 @@ expression_agrees p c scope k (Binary o a b) h =
 -- ---- statements
 
 -- the scope and the context after
-abbrev After : Small → Verdict Context → Type 0
+abbrev pub After : Small → Verdict Context → Type 0
 After v w = Agrees Alike v w
 
 -- the scope and the context as before
@@ -280,7 +280,7 @@ print_agrees p c scope k at e h = whole_then _ _ (λ _. prints c at) (expression
     (λ s t q. subst (λ b. After (Fits s) (require b rule.NeedsGroup at >> Holds c)) (sym (exclusive_opens (c.group io) k.prints))
     (holds_both s c (subst (λ x. Alike x c) (sym q.0) k)))
 
-action_agrees : (p : Code) (m : Definition) (c : Context) (scope : Scope) → Alike scope c → (at : Spot) (a : Action) → IsBuiltAction a
+pub action_agrees : (p : Code) (m : Definition) (c : Context) (scope : Scope) → Alike scope c → (at : Spot) (a : Action) → IsBuiltAction a
     → After (judge_action a scope) (judge_statement p m at a c)
 action_agrees p m c scope k at (Declares (ty.Int spot) x e) h = let_agrees p c scope k spot x e h.1
 action_agrees p m c scope k at (Declares (ty.Bool spot) x e) h = absurd h.0
@@ -334,7 +334,7 @@ all_stay p c d (Next at a rest) h = one_stays p c d at a rest h.0 ∙ all_stay p
 
 -- ---- the one method, and its program
 
-abbrev main_method : Spot → Spot → Lines → Definition
+abbrev pub main_method : Spot → Spot → Lines → Definition
 main_method at spot b = record {
   class = None;
   result = None;
@@ -347,10 +347,10 @@ main_method at spot b = record {
   body = b;
 }
 
-abbrev with_main : List (List ℕ) → Spot → Spot → Lines → Code
+abbrev pub with_main : List (List ℕ) → Spot → Spot → Lines → Code
 with_main names at spot b = record { names = names; classes = []; methods = main_method at spot b ∷ []; decls = decl.Method 0 ∷ [] }
 
-same_main : (m : Definition) (i : IsMain m)
+pub same_main : (m : Definition) (i : IsMain m)
     → record { class = m.class; result = m.result; name = record { name = m.name.name; at = m.name.at }; groups = m.groups; me = m.me; params = m.params; needs = m.needs; no = m.no; body = m.body }
     ≡ main_method m.name.at i.at m.body
 same_main m i = cc
@@ -359,7 +359,7 @@ same_code : (p : Code) (at spot : Spot) (b : Lines) → p.classes ≡ [] → p.m
     → record { names = p.names; classes = p.classes; methods = p.methods; decls = p.decls } ≡ with_main p.names at spot b
 same_code p at spot b c m d = cc
 
-is_with_main : (p : Code) (b : Built p) → DeclaresOne p → p ≡ with_main p.names b.method.name.at b.is_main.at b.method.body
+pub is_with_main : (p : Code) (b : Built p) → DeclaresOne p → p ≡ with_main p.names b.method.name.at b.is_main.at b.method.body
 is_with_main p b d = same_code p _ _ _ b.classes (b.methods ∙ ap (λ m. m ∷ []) (same_main b.method b.is_main)) d
 
 known_if : (b : Bool) (q : GroupPerm) → is_some (if b || false || false then Some q else None) ≡ b
@@ -370,7 +370,7 @@ nobody_if : (b : Bool) → (if b then seen false else seen false) ≡ seen false
 nobody_if true = refl
 nobody_if false = refl
 
-starts_alike : (names : List (List ℕ)) (at spot : Spot) (b : Lines) → Alike nobody (start (with_main names at spot b) (main_method at spot b))
+pub starts_alike : (names : List (List ℕ)) (at spot : Spot) (b : Lines) → Alike nobody (start (with_main names at spot b) (main_method at spot b))
 starts_alike names at spot b = record { locals = λ x. nobody_if (nat_eq this x); groups = λ g. known_if (nat_eq io g) _; prints = refl }
 
 -- both hold, or both break the same

@@ -4,9 +4,8 @@ use Rattle.std.proofs.lemmas.Bool.{cases_order}
 use Rattle.ae_code.specs.declared.uses.Resource.{Resource}
 use Rattle.ae_code.specs.declared.uses.Mode.{Mode}
 use Rattle.ae_code.specs.declared.uses.Mode.TheVariants.{Read, Write, GroupShared, GroupWhole}
-use Rattle.ae_code.specs.Uses.{are_compatible, is_strong, IsConflict, IsWeak}
-use Rattle.ae_rules.specs.Edges.{BlockUses, Edge, Before, Direct, Through}
-use Rattle.ae_rules.specs.EdgeLaws.{EdgesAreAsToday, EdgesGoForward, ChainsGoForward, ConflictsAreOrdered}
+use Rattle.ae_code.specs.Edges.{are_compatible, is_strong, IsConflict, IsWeak, BlockUses, Edge, Before, Direct, Through}
+use Rattle.ae_rules.specs.EdgeLaws.{EdgesGoForward, ChainsGoForward, ConflictsAreOrdered}
 
 pub edges_go_forward : EdgesGoForward
 edges_go_forward uses i j e = e.before
@@ -119,9 +118,3 @@ chain uses r (suc n) i j b l h =
 
 pub conflicts_are_ordered : ConflictsAreOrdered
 conflicts_are_ordered uses i j r l h = chain uses r (suc j) i j (omega arith) l h
-
-pub edges_are_as_today : EdgesAreAsToday
-edges_are_as_today b i j = (
-  (λ e. record { before = e.before; on = e.on; conflict = e.conflict; clear = e.clear }),
-  (λ e. record { before = e.before; on = e.on; conflict = e.conflict; clear = e.clear }),
-)

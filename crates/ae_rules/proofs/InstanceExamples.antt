@@ -1,13 +1,14 @@
 -- Which instances of some programs are first, and which conflict.
-use Rattle.std.proofs.Common.{◌≡◌, ◌<◌, inr, refl, arith, ℕ, true, [], ◌∷◌, length, Option, None, Some}
+use Rattle.std.proofs.Common.{◌≡◌, ◌<◌, inr, refl, arith, ℕ, true, false, [], ◌∷◌, length, Option, None, Some}
 use Rattle.ae_code.specs.declared.uses.Resource.{Resource}
 use Rattle.ae_code.specs.declared.uses.Resource.TheVariants as resource
 use Rattle.ae_code.specs.declared.uses.Mode.TheVariants.{Read, GroupShared, GroupWhole}
-use Rattle.ae_code.specs.Uses.{IsConflict}
+use Rattle.ae_code.specs.Edges.{IsConflict, Direct}
 use Rattle.ae_code.specs.Plain.{Code}
-use Rattle.ae_rules.specs.Edges.{Direct, is_edge}
+use Rattle.ae_rules.specs.Edges.{is_edge}
 use Rattle.ae_rules.specs.Blocks.{scene_uses}
 use Rattle.ae_rules.specs.Instances.{Instance, Point, InBlock, AtChoice, AtLoop, Nowhere, Parting, parting, first_point, IsFirstAt, Ordered, Conflict, uses_from}
+use Rattle.ae_rules.specs.Paths.{comes_before, is_simple_at}
 use Rattle.ae_rules.proofs.PredLemmas.{listed}
 use Rattle.ae_rules.proofs.GraphExamples.{lent_twice_then_changed, four_in_a_group}
 use Rattle.ae_rules.proofs.UseExamples.{branch_reads_and_writes, loop_counts, blocks_with_a_local}
@@ -98,3 +99,33 @@ turns-ordered = ordered loop_counts (2 ∷ 0 ∷ 1 ∷ []) (2 ∷ 1 ∷ 0 ∷ []
 -- two turns of a loop conflict on a local outside
 turns-conflict : Conflict loop_counts (2 ∷ 0 ∷ 0 ∷ []) (2 ∷ 1 ∷ 1 ∷ [])
 turns-conflict = conflict loop_counts (2 ∷ 0 ∷ 0 ∷ []) (2 ∷ 1 ∷ 1 ∷ []) (resource.Local 3) (parting loop_counts (2 ∷ 0 ∷ 0 ∷ []) (2 ∷ 1 ∷ 1 ∷ [])) refl refl
+
+-- ---- source order, and simple statements
+
+-- a path comes before those that go on from it
+turn-before_its_statements : comes_before (2 ∷ 1 ∷ []) (2 ∷ 1 ∷ 0 ∷ []) ≡ true
+turn-before_its_statements = refl
+
+later_turn-not_before : comes_before (2 ∷ 1 ∷ []) (2 ∷ 0 ∷ 5 ∷ []) ≡ false
+later_turn-not_before = refl
+
+-- an atomic block in a call is simple, and the call is not
+block_in_call-simple : is_simple_at four_in_a_group (3 ∷ 0 ∷ 0 ∷ []) ≡ true
+block_in_call-simple = refl
+
+call-not_simple : is_simple_at four_in_a_group (3 ∷ 0 ∷ []) ≡ false
+call-not_simple = refl
+
+-- a statement in a turn is simple, and the turn and the loop are not
+statement_in_turn-simple : is_simple_at loop_counts (2 ∷ 1 ∷ 0 ∷ []) ≡ true
+statement_in_turn-simple = refl
+
+turn-not_simple : is_simple_at loop_counts (2 ∷ 1 ∷ []) ≡ false
+turn-not_simple = refl
+
+loop-not_simple : is_simple_at loop_counts (2 ∷ []) ≡ false
+loop-not_simple = refl
+
+-- nothing stands where no statement is
+no_statement-not_simple : is_simple_at loop_counts (9 ∷ []) ≡ false
+no_statement-not_simple = refl

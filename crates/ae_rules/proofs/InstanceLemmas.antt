@@ -1,4 +1,5 @@
 -- Instances that conflict and part at two statements of a block are ordered.
+use Rattle.ae_code.specs.Edges.{Uses}
 use Rattle.std.proofs.Common.{◌≡◌, inl, inr, refl, ap, ◌∙◌, subst, ℕ, zero, suc, nat_eq, Bool, true, false, if◌then◌else◌, List, [], ◌∷◌, map, Option, None, Some}
 use Rattle.std.specs.Prelude.{zip}
 use Rattle.std.proofs.lemmas.Bool.{eqb-true}
@@ -24,7 +25,7 @@ use Rattle.ae_rules.specs.Forms.{is_unique, is_object}
 use Rattle.ae_rules.specs.Calls.{Callee, Slot, group_in, slots, givens, wanted}
 use Rattle.ae_rules.specs.Statements.{judge_statement}
 use Rattle.ae_rules.specs.Judges.{start, need_for, needed, knows}
-use Rattle.ae_rules.specs.Uses.{Uses, nothing, same_resource, one, reads, writes, ◌∪◌, of_each, of_judged, of_found, is_seen, outside, all_but, walk_uses, given_uses, argument_uses, need_uses, callee_uses, statement_uses, lines_use, context_at, block_uses}
+use Rattle.ae_rules.specs.Uses.{nothing, same_resource, one, reads, writes, ◌∪◌, of_each, of_judged, of_found, is_seen, outside, all_but, walk_uses, given_uses, argument_uses, need_uses, callee_uses, statement_uses, lines_use, context_at, block_uses}
 use Rattle.ae_rules.specs.EdgeLaws.{group_allows, is_allowed}
 use Rattle.ae_rules.specs.Instances.{renamed, source_outside, param_outside, param_names, params_given, group_names, callee_outside, body_outside, lock_outside}
 use Rattle.ae_rules.proofs.SeenLemmas.{Inside, one_if, same_is, of_two}

@@ -5,12 +5,12 @@ use Rattle.ae_code.specs.declared.uses.Resource.{Resource}
 use Rattle.ae_code.specs.declared.uses.Resource.TheVariants as resource
 use Rattle.ae_code.specs.declared.uses.Mode.{Mode}
 use Rattle.ae_code.specs.declared.uses.Mode.TheVariants as mode
-use Rattle.ae_code.specs.Uses.{is_strong, are_compatible, IsConflict}
+use Rattle.ae_code.specs.Edges.{is_strong, are_compatible, IsConflict, Uses}
 use Rattle.ae_rules.specs.declared.held.GroupPerm.{GroupPerm}
 use Rattle.ae_rules.specs.declared.held.GroupPerm.TheVariants as group
 use Rattle.ae_rules.specs.Verdict.{Verdict, Holds, Broken, given}
 use Rattle.ae_rules.specs.Context.{Context}
-use Rattle.ae_rules.specs.Uses.{Uses, nothing, same_resource, one, stronger, ◌∪◌, of_each, of_judged, of_found, is_seen, outside, all_but}
+use Rattle.ae_rules.specs.Uses.{nothing, same_resource, one, stronger, ◌∪◌, of_each, of_judged, of_found, is_seen, outside, all_but}
 use Rattle.ae_rules.specs.EdgeLaws.{is_of_local, group_allows, is_allowed}
 use Rattle.ae_rules.specs.Instances.{renamed}
 use Rattle.ae_rules.proofs.SeenLemmas.{Within}

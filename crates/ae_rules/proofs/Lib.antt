@@ -1,13 +1,14 @@
 pub mod VerdictLemmas
 mod LawLemmas
 mod CallLemmas
-mod Programs
+mod MoveLemmas
+pub mod Programs
 mod TableExamples
 mod ObjectExamples
 mod GroupExamples
 mod KeepLemmas
 mod EdgeLemmas
-mod GraphExamples
+pub mod GraphExamples
 mod SeenLemmas
 mod VisibleLemmas
 mod PredLemmas
@@ -17,3 +18,4 @@ mod LessLemmas
 mod InstanceLemmas
 mod PathLemmas
 mod CaseLemmas
+mod CaseUseLemmas

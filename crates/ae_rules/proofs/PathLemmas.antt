@@ -11,22 +11,23 @@ use Rattle.ae_code.specs.declared.form.Form.{Form}
 use Rattle.ae_code.specs.declared.form.Form.TheVariants as f
 use Rattle.ae_code.specs.declared.uses.Resource.{Resource}
 use Rattle.ae_code.specs.declared.uses.Resource.TheVariants as resource
-use Rattle.ae_code.specs.Uses.{IsConflict, statement_at}
+use Rattle.ae_code.specs.Uses.{statement_at}
+use Rattle.ae_code.specs.Edges.{IsConflict, Uses, Before}
 use Rattle.ae_code.specs.Names.{main}
 use Rattle.ae_code.specs.Plain.{Invocation, RightSide, Value, Taken, Zeros, Made, Returned, Lines, End, Next, Definition, Code}
 use Rattle.ae_code.specs.Plain.{Action, Declares, Assigns, Stores, StoresAt, Calls, Chooses, ChoosesElse, Repeats, Groups, Splits, Locks, Freezes, Shares, Prints, PrintsText, Asserts, Returns}
 use Rattle.ae_rules.specs.Verdict.{Verdict, Holds, Broken, ◌>>=◌, found, each, in_turn, given, require}
 use Rattle.ae_rules.specs.Forms.{is_object}
-use Rattle.ae_rules.specs.Lookups.{Names, is_empty, method_at, top_number, top_called, class_of, method_number, method_called}
+use Rattle.ae_rules.specs.Lookups.{Names, is_empty, method_at, top_number, top_called, class_of, groups_of, method_number}
+use Rattle.ae_code.specs.Form.{bare_names}
 use Rattle.ae_rules.specs.Table.{table_verdict, no_names}
 use Rattle.ae_rules.specs.Context.{Local, Context}
 use Rattle.ae_rules.specs.Walks.{walk}
 use Rattle.ae_rules.specs.Expressions.{is_value}
-use Rattle.ae_rules.specs.Calls.{Callee, callee_in, callee_of, top_callee, judge_callee}
+use Rattle.ae_rules.specs.Calls.{Callee, callee_at, callee_in, callee_of, top_callee, judge_callee}
 use Rattle.ae_rules.specs.Statements.{may_split, while_split, may_lock, while_locked, end_block, branches_meet, loop_keeps, judge_statement, judge_lines}
 use Rattle.ae_rules.specs.Judges.{start, judge_method, Accepts}
-use Rattle.ae_rules.specs.Uses.{Uses, nothing, writes, together, ◌∪◌, of_judged, of_found, outside, all_but, value_uses, call_uses, right_uses, callee_uses, split_start, statement_uses, lines_use, context_at}
-use Rattle.ae_rules.specs.Edges.{Before}
+use Rattle.ae_rules.specs.Uses.{nothing, writes, together, ◌∪◌, of_judged, of_found, outside, all_but, value_uses, call_uses, right_uses, callee_uses, split_start, statement_uses, lines_use, context_at}
 use Rattle.ae_rules.specs.Blocks.{Scene, scene_uses}
 use Rattle.ae_rules.specs.Instances.{Point, InBlock, AtChoice, AtLoop, Nowhere, block_at, body, point_of, in_statement, inside, first_point, Parting, parting_from, IsFirstAt, body_outside, statement_outside, outside_of, uses_from}
 use Rattle.ae_rules.proofs.SeenLemmas.{found_is}
@@ -67,12 +68,15 @@ mapped : {A B : Type 0} (g : A → B) (o : Option A) (y : B) → option_map g o 
 mapped g None y e = absurd (cc)
 mapped g (Some x) y e = (x, refl, cc)
 
+called_by_number : (p : Code) (names groups : List ℕ) (o : Option ℕ) (k : Callee) → given o None (callee_at p names groups) ≡ Some k → IsMethod p k.method
+called_by_number p names groups None k e = absurd (cc)
+called_by_number p names groups (Some n) k e =
+    let r = mapped _ (method_at p n) k e in
+    (n, r.1 ∙ ap Some (ap (λ (z : Callee). z.method) r.2))
+
 member_method : (p : Code) (o : Option Class) (l : Kind) (x : ℕ) (k : Callee) → given o None (callee_in p l x) ≡ Some k → IsMethod p k.method
 member_method p None l x k e = absurd (cc)
-member_method p (Some c) l x k e =
-    let r = mapped _ (method_called p c x) k e in
-    let q = numbered p (method_number p c x) r.0 r.1 in
-    (q.0, q.1 ∙ ap Some (ap (λ (z : Callee). z.method) r.2))
+member_method p (Some c) l x k e = called_by_number p (bare_names c.groups) (groups_of l) (method_number p c x) k e
 
 form_method : (p : Code) (t : Form) (x : ℕ) (k : Callee) → callee_of p t x ≡ Some k → IsMethod p k.method
 form_method p f.Int x k e = absurd (cc)
@@ -80,10 +84,7 @@ form_method p f.Bool x k e = absurd (cc)
 form_method p (f.Object q l) x k e = member_method p (class_of p l) l x k e
 
 callee_method : (p : Code) (c : Context) (on : Option Path) (x : NameAt) (k : Callee) → judge_callee p c on x ≡ Holds k → IsMethod p k.method
-callee_method p c None x k e =
-    let r = mapped _ (top_called p x.name) k (found_is (top_callee p x.name) rule.UnknownMethod x.at k e) in
-    let q = numbered p (top_number p x.name) r.0 r.1 in
-    (q.0, q.1 ∙ ap Some (ap (λ (z : Callee). z.method) r.2))
+callee_method p c None x k e = called_by_number p [] [] (top_number p x.name) k (found_is (top_callee p x.name) rule.UnknownMethod x.at k e)
 callee_method p c (Some path) x k e =
     let w = first_holds (walk p c path) _ k e in
     let t = first_holds (require (is_object w.0.form) rule.TypeMismatch path.root.at) _ k w.2 in

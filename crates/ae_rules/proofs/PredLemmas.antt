@@ -9,9 +9,9 @@ use Rattle.std.proofs.lemmas.List.Elements.{Contains-append_left, Contains-appen
 use Rattle.ae_code.specs.declared.uses.Resource.{Resource}
 use Rattle.ae_code.specs.declared.uses.Resource.TheVariants as resource
 use Rattle.ae_code.specs.declared.uses.Mode.{Mode}
-use Rattle.ae_code.specs.Uses.{are_compatible, is_strong, IsConflict, IsWeak, IsRising}
+use Rattle.ae_code.specs.Edges.{are_compatible, is_strong, IsConflict, IsWeak, IsRising, BlockUses, Edge}
 use Rattle.ae_rules.specs.Context.{all_below}
-use Rattle.ae_rules.specs.Edges.{BlockUses, Edge, conflicts, is_weak, edge_on, any_below, is_edge, those_below}
+use Rattle.ae_rules.specs.Edges.{conflicts, is_weak, edge_on, any_below, is_edge, those_below}
 use Rattle.ae_rules.specs.EdgeLaws.{name_of, NamesBelow, PredsAreEdges}
 
 -- ---- tests

@@ -11,7 +11,7 @@ use Rattle.ae_code.specs.declared.uses.Resource.{Resource}
 use Rattle.ae_code.specs.declared.uses.Resource.TheVariants as resource
 use Rattle.ae_code.specs.declared.uses.Mode.{Mode}
 use Rattle.ae_code.specs.declared.uses.Mode.TheVariants as mode
-use Rattle.ae_code.specs.Uses.{is_strong}
+use Rattle.ae_code.specs.Edges.{is_strong, Uses}
 use Rattle.ae_code.specs.declared.form.Form.{Form}
 use Rattle.ae_code.specs.declared.form.Form.TheVariants as f
 use Rattle.ae_code.specs.Plain.{Expression, Number, Truth, Nothing, Read, Item, Length, Grouped, Negated, Minus, Binary, Code}
@@ -25,7 +25,7 @@ use Rattle.ae_rules.specs.Forms.{is_ints}
 use Rattle.ae_rules.specs.Context.{Local, Context, group_is, same_group_perm, opens, access}
 use Rattle.ae_rules.specs.Walks.{Place, step, walk, owner, write_access, owner_write_access}
 use Rattle.ae_rules.specs.Expressions.{place, Operands, Numbers, Truths, Equals, operands, Compared, path_beside_null, beside_null, has_form, both_have, two_alike, equal_operands, judge_operands, judge_value, is_value}
-use Rattle.ae_rules.specs.Uses.{Uses, nothing, same_resource, one, reads, writes, whole, together, stronger, ◌∪◌, of_each, of_judged, of_found, is_seen, outside, all_but, reach, steps_use, walk_uses, path_uses, end_uses, root_written, write_uses, value_uses}
+use Rattle.ae_rules.specs.Uses.{nothing, same_resource, one, reads, writes, whole, together, stronger, ◌∪◌, of_each, of_judged, of_found, is_seen, outside, all_but, reach, steps_use, walk_uses, path_uses, end_uses, root_written, write_uses, value_uses}
 use Rattle.ae_rules.specs.EdgeLaws.{is_of_local, group_allows, is_allowed}
 use Rattle.ae_rules.proofs.VerdictLemmas.{Yields, gives, next, asks}
 

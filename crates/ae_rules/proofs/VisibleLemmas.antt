@@ -1,4 +1,5 @@
 -- What a judged statement uses is visible and allowed: calls, right sides and statements.
+use Rattle.ae_code.specs.Edges.{Uses}
 use Rattle.std.proofs.Common.{◌≡◌, inl, inr, refl, sym, ap, ◌∙◌, subst, ℕ, nat_eq, Bool, true, false, ◌&&◌, ◌||◌, not, if◌then◌else◌, List, map, Option, None, Some}
 use Rattle.std.specs.Prelude.{is_some, length, zip, ⊤}
 use Rattle.std.proofs.lemmas.Bool.{eqb-true, eq-eqb}
@@ -35,7 +36,7 @@ use Rattle.ae_rules.specs.Expressions.{place, judge_value, is_value}
 use Rattle.ae_rules.specs.Into.{Source, Null, From, source, path_into, source_into, moves, into}
 use Rattle.ae_rules.specs.Calls.{Roots, Filled, no_roots, apart, fills, judge_new, Callee, judge_callee, judge_callee_with, judge_call, Slot, slots, givens, group_in, source_to_param, to_form, to_slot, Wanted, wanted, any_clash, need_met, needs_met}
 use Rattle.ae_rules.specs.Statements.{judge_take, judge_right, judge_let, judge_assign, judge_store, judge_store_at, holds_alone, judge_share, prints, judge_return, may_split, while_split, may_lock, held_back, while_locked, end_block, judge_statement, judge_lines}
-use Rattle.ae_rules.specs.Uses.{Uses, same_resource, writes, whole, together, ◌∪◌, of_each, of_judged, of_found, is_seen, outside, all_but, walk_uses, path_uses, write_uses, value_uses, source_uses, into_uses, root_lent, given_uses, argument_uses, need_uses, callee_uses, call_uses, made_uses, right_uses, assign_uses, store_uses, return_uses, split_start, statement_uses, lines_use}
+use Rattle.ae_rules.specs.Uses.{same_resource, writes, whole, together, ◌∪◌, of_each, of_judged, of_found, is_seen, outside, all_but, walk_uses, path_uses, write_uses, value_uses, source_uses, into_uses, root_lent, given_uses, argument_uses, need_uses, callee_uses, call_uses, made_uses, right_uses, assign_uses, store_uses, return_uses, split_start, statement_uses, lines_use}
 use Rattle.ae_rules.specs.Laws.{Keeps}
 use Rattle.ae_rules.specs.EdgeLaws.{is_of_local, group_allows, is_allowed, UsesAreAllowed}
 use Rattle.ae_rules.proofs.VerdictLemmas.{Yields, gives, next, asks, turns}

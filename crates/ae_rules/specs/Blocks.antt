@@ -1,4 +1,5 @@
 -- The blocks of a method by their numbers, with the context in which each begins, and the graph of each.
+use Rattle.ae_code.specs.Edges.{BlockUses}
 use Rattle.std.specs.Prelude.{ℕ, nat_eq, if◌then◌else◌, List, length, Option, None, Some, option_map}
 use Rattle.ae_code.specs.Limits.{count}
 use Rattle.ae_code.specs.Plain.{Action, Chooses, ChoosesElse, Repeats, Splits, Locks, Lines, End, Next, Definition, Code}
@@ -8,7 +9,7 @@ use Rattle.ae_rules.specs.Context.{Context}
 use Rattle.ae_rules.specs.Statements.{while_locked, judge_statement}
 use Rattle.ae_rules.specs.Judges.{start}
 use Rattle.ae_rules.specs.Uses.{split_start, block_uses}
-use Rattle.ae_rules.specs.Edges.{BlockUses, graph}
+use Rattle.ae_rules.specs.Edges.{graph}
 
 -- a block of a method, and the context in which it begins
 pub record Scene : Type 0 where

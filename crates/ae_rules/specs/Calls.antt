@@ -26,7 +26,7 @@ use Rattle.ae_rules.specs.declared.held.GroupPerm.TheVariants as group
 use Rattle.ae_rules.specs.Verdict.{Verdict, Holds, Broken, ◌>>=◌, ◌>>◌, require, found, each, in_turn, given}
 use Rattle.ae_rules.specs.Shares.{Share, splits, joins}
 use Rattle.ae_rules.specs.Forms.{is_object, is_of_kind, is_unique, in_place, form_with}
-use Rattle.ae_rules.specs.Lookups.{Names, class_called, class_of, groups_of, method_called, top_called, field_form, own_kind}
+use Rattle.ae_rules.specs.Lookups.{Names, class_called, class_of, groups_of, method_at, method_number, top_number, field_form, own_kind}
 use Rattle.ae_rules.specs.Types.{groups_fit}
 use Rattle.ae_rules.specs.Table.{no_names, and_also}
 use Rattle.ae_rules.specs.Context.{Context, same_held, held_in, group_is, opens, known, with_held, moved}
@@ -97,14 +97,18 @@ judge_new p c x gs args =
 
 -- ---- the method that is called
 
--- a method, with the groups of the object that it is called on, and the names that its class has for them
+-- a method and its number, with the groups of the object that it is called on, and the names that its class has for them
 pub record Callee : Type 0 where
+  pub number : ℕ
   pub method : Definition
   pub names : List ℕ
   pub groups : List ℕ
 
+abbrev pub callee_at : Code → List ℕ → List ℕ → ℕ → Option Callee
+callee_at p names groups n = option_map (λ m. record { number = n; method = m; names = names; groups = groups }) (method_at p n)
+
 abbrev pub callee_in : Code → Kind → ℕ → Class → Option Callee
-callee_in p k x c = option_map (λ m. record { method = m; names = bare_names c.groups; groups = groups_of k }) (method_called p c x)
+callee_in p k x c = given (method_number p c x) None (callee_at p (bare_names c.groups) (groups_of k))
 
 -- the method with this name of an object of this form; integers have none
 abbrev pub callee_of : Code → Form → ℕ → Option Callee
@@ -113,7 +117,7 @@ callee_of p f.Bool x = None
 callee_of p (f.Object q k) x = given (class_of p k) None (callee_in p k x)
 
 abbrev pub top_callee : Code → ℕ → Option Callee
-top_callee p x = option_map (λ m. record { method = m; names = []; groups = [] }) (top_called p x)
+top_callee p x = given (top_number p x) None (callee_at p [] [])
 
 -- a member of the receiver's class, or a method at the top
 abbrev pub judge_callee : Code → Context → Option Path → NameAt → Verdict Callee

@@ -1,14 +1,17 @@
--- The programs that run today are judged by the whole rules as they are by today's.
-use Rattle.std.specs.Prelude.{◌≡◌, List, [], ◌∷◌}
+-- The programs that run today are judged by the whole rules as they are by today's, and their statements use the same.
+use Rattle.std.specs.Prelude.{◌≡◌, ℕ, List, [], ◌∷◌, Some}
 use Rattle.ae_text.specs.declared.refusal.Spot.{Spot}
 use Rattle.ae_text.specs.declared.refusal.Rule.{Rule}
 use Rattle.ae_text.specs.declared.token.Token.{Token}
 use Rattle.ae_code.specs.declared.tree.Decl.TheVariants as decl
-use Rattle.ae_code.specs.Plain.{Code}
+use Rattle.ae_code.specs.declared.uses.Resource.{Resource}
+use Rattle.ae_code.specs.Plain.{Definition, Code}
 use Rattle.ae_code.specs.Grammar.{Derives}
 use Rattle.ae_code.specs.Built.{Built}
 use Rattle.ae_code.specs.Judgement.{Accepted, Breaks}
+use Rattle.ae_code.specs.Uses.{use_at}
 use Rattle.ae_rules.specs.Judges.{Accepts, FirstBroken}
+use Rattle.ae_rules.specs.Blocks.{Scene, scene, scene_uses}
 
 -- the first method is all that is declared
 abbrev pub DeclaresOne : Code → Type 0
@@ -27,3 +30,8 @@ TodayIsACase = (p : Code) → Built p → DeclaresOne p → JudgeAlike p
 -- a program that was read from tokens, and has forms that run today alone, declares one method
 abbrev pub BuiltDeclaresOne : Type 0
 BuiltDeclaresOne = (tokens : List Token) (p : Code) → Derives tokens p → Built p → DeclaresOne p
+
+-- the statements of the one body of an accepted program use the same by today's rules and the whole ones
+abbrev pub TodaysUsesAreACase : Type 0
+TodaysUsesAreACase = (p : Code) → Accepted p → DeclaresOne p → (m : Definition) → p.methods ≡ m ∷ [] → (s : Scene) → scene p m m.no ≡ Some s
+    → (i : ℕ) (r : Resource) → scene_uses p s i r ≡ use_at m.body i r

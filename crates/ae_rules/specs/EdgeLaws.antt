@@ -1,19 +1,19 @@
 -- What follows from the rules on uses and edges.
-use Rattle.std.specs.Prelude.{◌≡◌, ◌<◌, ◌↔◌, ℕ, Bool, true, false, ◌&&◌, Some, is_some}
+use Rattle.std.specs.Prelude.{◌≡◌, ◌<◌, ℕ, Bool, true, false, ◌&&◌, Some, is_some}
 use Rattle.ae_text.specs.declared.refusal.Spot.{Spot}
 use Rattle.ae_code.specs.declared.uses.Resource.{Resource}
 use Rattle.ae_code.specs.declared.uses.Resource.TheVariants as resource
 use Rattle.ae_code.specs.declared.uses.Mode.{Mode}
 use Rattle.ae_code.specs.declared.uses.Mode.TheVariants as mode
-use Rattle.ae_code.specs.Uses.{IsConflict, use_at, IsEdge}
-use Rattle.ae_code.specs.Plain.{Action, Lines, Definition, Code}
+use Rattle.ae_code.specs.Edges.{IsConflict, BlockUses, Edge, Before, Preds}
+use Rattle.ae_code.specs.Plain.{Action, Definition, Code}
 use Rattle.ae_rules.specs.declared.held.GroupPerm.{GroupPerm}
 use Rattle.ae_rules.specs.declared.held.GroupPerm.TheVariants as group
 use Rattle.ae_rules.specs.Verdict.{given}
 use Rattle.ae_rules.specs.Context.{Context}
 use Rattle.ae_rules.specs.Judges.{Judges, Accepts}
 use Rattle.ae_rules.specs.Uses.{statement_uses}
-use Rattle.ae_rules.specs.Edges.{BlockUses, Edge, Before, Preds, preds}
+use Rattle.ae_rules.specs.Edges.{preds}
 use Rattle.ae_rules.specs.Blocks.{Scene}
 use Rattle.ae_rules.specs.Instances.{Instance, InBlock, Ordered, Conflict}
 
@@ -70,7 +70,3 @@ PredsAreEdges = (n : ℕ) (uses : BlockUses) → NamesBelow n uses → (j : ℕ)
 abbrev pub ConflictsAreFirst : Type 0
 ConflictsAreFirst = (p : Code) → Accepts p → (q r : Instance) (k : Conflict p q r) (locked : Bool) (s : Scene)
     → k.fork.at ≡ InBlock locked s → k.fork.left < k.fork.right → Ordered p q r
-
--- the edges of the forms that run today are these edges, by the uses of today
-abbrev pub EdgesAreAsToday : Type 0
-EdgesAreAsToday = (b : Lines) (i j : ℕ) → IsEdge b i j ↔ Edge (use_at b) i j

@@ -1,34 +1,12 @@
--- Which statements of a block wait for which, by what each of them uses.
-use Rattle.std.specs.Prelude.{◌<◌, ◌↔◌, ℕ, zero, suc, nat_lt, Bool, true, false, ◌&&◌, ◌||◌, not, if◌then◌else◌, List, [], ◌∷◌, ◌++◌, map, Option, None, Some, Contains}
+-- The edges of a block as a test and as lists.
+use Rattle.std.specs.Prelude.{ℕ, zero, suc, nat_lt, Bool, true, false, ◌&&◌, ◌||◌, not, if◌then◌else◌, List, [], ◌∷◌, ◌++◌, map, Option, None, Some}
 use Rattle.ae_code.specs.declared.uses.Resource.{Resource}
 use Rattle.ae_code.specs.declared.uses.Resource.TheVariants as resource
 use Rattle.ae_code.specs.declared.uses.Mode.{Mode}
-use Rattle.ae_code.specs.Uses.{are_compatible, is_strong, IsConflict, IsWeak, IsRising}
+use Rattle.ae_code.specs.Edges.{are_compatible, is_strong, BlockUses}
 use Rattle.ae_rules.specs.Context.{all_below}
-use Rattle.ae_rules.specs.Uses.{Uses}
 
--- how each statement of a block uses each resource
-abbrev pub BlockUses : Type 0
-BlockUses = ℕ → Uses
-
--- Statement j waits for statement i: they use a resource in ways that do not go together, and no statement strictly between them uses it by Write or GroupWhole.
-pub record Edge (uses : BlockUses) (i j : ℕ) : Type 0 where
-  pub before : i < j
-  pub on : Resource
-  pub conflict : IsConflict (uses i on) (uses j on)
-  pub clear : (k : ℕ) → i < k → k < j → IsWeak (uses k on)
-
--- a chain of edges leads from statement i to statement j
-pub data Before (uses : BlockUses) : ℕ → ℕ → Type 0 where
-  Direct : (i j : ℕ) → Edge uses i j → Before uses i j
-  Through : (i j k : ℕ) → Edge uses i j → Before uses j k → Before uses i k
-
--- the numbers of exactly the statements for which statement j waits, rising
-pub record Preds (uses : BlockUses) (j : ℕ) (preds : List ℕ) : Type 0 where
-  pub rising : IsRising preds
-  pub exact : (i : ℕ) → Contains preds i ↔ Edge uses i j
-
--- ---- the same as a list, where each used name is below a bound
+-- ---- where each used name is below a bound
 
 abbrev pub conflicts : Option Mode → Option Mode → Bool
 conflicts (Some m) (Some n) = not (are_compatible m n)

@@ -30,6 +30,11 @@ same_value f.Int f.Int = true
 same_value f.Bool f.Bool = true
 same_value _ _ = false
 
+-- the same form
+abbrev pub same_form : Form → Form → Bool
+same_form (f.Object p k) (f.Object q l) = same_perm p q && same_kind k l
+same_form form other = same_value form other
+
 abbrev pub is_object : Form → Bool
 is_object f.Int = false
 is_object f.Bool = false

@@ -8,7 +8,8 @@ use Rattle.ae_code.specs.declared.uses.Mode.{Mode}
 use Rattle.ae_code.specs.declared.form.Form.{Form}
 use Rattle.ae_code.specs.Form.{bare_names}
 use Rattle.ae_code.specs.Names.{io, main, this}
-use Rattle.ae_code.specs.Uses.{IsConflict, statement_at}
+use Rattle.ae_code.specs.Uses.{statement_at}
+use Rattle.ae_code.specs.Edges.{IsConflict, Uses, Before}
 use Rattle.ae_code.specs.Plain.{Expression, Invocation, RightSide, Value, Taken, Zeros, Made, Returned, Lines, Definition, Code}
 use Rattle.ae_code.specs.Plain.{Action, Declares, Assigns, Calls, Chooses, ChoosesElse, Repeats, Splits, Locks}
 use Rattle.ae_rules.specs.Verdict.{Verdict, Holds, Broken, given}
@@ -19,8 +20,7 @@ use Rattle.ae_rules.specs.Into.{Source, Null, From, source}
 use Rattle.ae_rules.specs.Calls.{Callee, judge_callee, Slot, group_in, if_some, slots, givens}
 use Rattle.ae_rules.specs.Statements.{while_locked}
 use Rattle.ae_rules.specs.Judges.{start}
-use Rattle.ae_rules.specs.Uses.{Uses, nothing, one, reads, together, ◌∪◌, of_each, of_judged, of_found, outside, all_but, split_start, statement_uses, context_at}
-use Rattle.ae_rules.specs.Edges.{Before}
+use Rattle.ae_rules.specs.Uses.{nothing, one, reads, together, ◌∪◌, of_each, of_judged, of_found, outside, all_but, split_start, statement_uses, context_at}
 use Rattle.ae_rules.specs.Blocks.{Scene, scene_uses}
 
 -- A statement as it runs: the numbers of the statements that lead to it, each inside the one before. After an `if` stands

@@ -12,7 +12,7 @@ use Rattle.ae_code.specs.declared.form.Form.TheVariants as f
 use Rattle.ae_code.specs.Plain.{Expression, Nothing, Read, Code}
 use Rattle.ae_rules.specs.declared.held.Held.{Held}
 use Rattle.ae_rules.specs.declared.held.Held.TheVariants as held
-use Rattle.ae_rules.specs.Verdict.{Verdict, Holds, Broken, ◌>>=◌, ◌>>◌, fine, require, found}
+use Rattle.ae_rules.specs.Verdict.{Verdict, Holds, Broken, ◌>>=◌, ◌>>◌, fine, require, found, given}
 use Rattle.ae_rules.specs.Forms.{same_perm, same_value, same_kind, is_of_kind}
 use Rattle.ae_rules.specs.Context.{Context, same_held}
 use Rattle.ae_rules.specs.Walks.{walk, is_name}
@@ -71,6 +71,17 @@ moves _ path = None
 abbrev pub source_into : Code → Context → Perm → Kind → Source → Spot → Verdict (Option ℕ)
 source_into p c q k Null at = Holds None
 source_into p c q k (From path) at = path_into p c q k path at >> Holds (moves q path)
+
+-- the name that moves with a source
+abbrev pub source_moves : Perm → Source → Option ℕ
+source_moves q Null = None
+source_moves q (From path) = moves q path
+
+-- the name that moves with an expression into a form, by its text alone
+abbrev pub name_into : Form → Expression → Option ℕ
+name_into f.Int e = None
+name_into f.Bool e = None
+name_into (f.Object q k) e = given (source e) None (source_moves q)
 
 -- An expression into a form. It comes to the name that moves, which holds nothing after the statement.
 abbrev pub into : Code → Context → Form → Expression → Verdict (Option ℕ)

@@ -1,16 +1,19 @@
 -- What follows from the rules: a verdict is one thing, and what is taken can be given back.
-use Rattle.std.specs.Prelude.{◌≡◌, ◌⊎◌, ℕ, nat_eq, Bool, true, ◌&&◌, not, List, ◌∷◌, ◌++◌, Some, None}
+use Rattle.std.specs.Prelude.{◌≡◌, ◌⊎◌, ℕ, nat_eq, Bool, true, ◌&&◌, not, List, ◌∷◌, ◌++◌, Option, Some, None}
 use Rattle.std.specs.List.{list_all}
 use Rattle.ae_text.specs.declared.refusal.Spot.{Spot}
 use Rattle.ae_text.specs.declared.refusal.Rule.{Rule}
 use Rattle.ae_code.specs.declared.form.Perm.{Perm}
 use Rattle.ae_code.specs.declared.form.Perm.TheVariants as need
-use Rattle.ae_code.specs.Plain.{Action, Definition, Code}
+use Rattle.ae_code.specs.Plain.{Action, Expression, Definition, Code}
 use Rattle.ae_rules.specs.declared.held.Held.{Held}
 use Rattle.ae_rules.specs.declared.held.Held.TheVariants as held
 use Rattle.ae_rules.specs.declared.held.GroupPerm.{GroupPerm}
 use Rattle.ae_rules.specs.Shares.{splits, Splits, Joins}
 use Rattle.ae_rules.specs.Context.{Local, Context, held_in}
+use Rattle.ae_code.specs.declared.form.Form.{Form}
+use Rattle.ae_rules.specs.Verdict.{Holds}
+use Rattle.ae_rules.specs.Into.{into, name_into}
 use Rattle.ae_rules.specs.Calls.{Part, after_call}
 use Rattle.ae_rules.specs.Judges.{Judges, Breaks, Accepts, FirstBroken}
 
@@ -43,6 +46,10 @@ TakenIsGivenBack = (whole : Held) (n : Perm) (part rest : Held) → Splits whole
 -- nothing can be taken of what holds nothing, nor of what is inside a group's member
 abbrev pub NothingToTake : Type 0
 NothingToTake = (n : Perm) → (splits held.None n ≡ None) × ((g : ℕ) → splits (held.Inner g) n ≡ None)
+
+-- the name that moves with an expression is told by its text alone
+abbrev pub MovesByItsText : Type 0
+MovesByItsText = (p : Code) (c : Context) (form : Form) (e : Expression) (name : Option ℕ) → into p c form e ≡ Holds name → name ≡ name_into form e
 
 -- no part of this local is given away for good
 abbrev pub none_away : List Part → ℕ → Bool

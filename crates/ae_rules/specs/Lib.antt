@@ -16,6 +16,7 @@ pub mod Edges
 pub mod EdgeLaws
 pub mod Blocks
 pub mod Instances
+pub mod Paths
 pub mod Stands
 pub mod Laws
 pub mod Cases

@@ -15,7 +15,8 @@ use Rattle.ae_code.specs.declared.form.Form.{Form}
 use Rattle.ae_code.specs.declared.form.Form.TheVariants as f
 use Rattle.ae_code.specs.Form.{form, bare_names}
 use Rattle.ae_code.specs.Names.{io}
-use Rattle.ae_code.specs.Uses.{is_strong, statement_at}
+use Rattle.ae_code.specs.Uses.{statement_at}
+use Rattle.ae_code.specs.Edges.{Uses, is_strong}
 use Rattle.ae_code.specs.Plain.{Expression, Number, Truth, Nothing, Read, Item, Length, Grouped, Negated, Minus, Binary, Invocation, RightSide, Value, Taken, Zeros, Made, Returned, Lines, End, Next, Definition, Code}
 use Rattle.ae_code.specs.Plain.{Action, Declares, Assigns, Stores, StoresAt, Calls, Chooses, ChoosesElse, Repeats, Groups, Splits, Locks, Freezes, Shares, Prints, PrintsText, Asserts, Returns}
 use Rattle.ae_rules.specs.declared.held.Held.{Held}
@@ -28,10 +29,6 @@ use Rattle.ae_rules.specs.Walks.{Place, step, walk, owner}
 use Rattle.ae_rules.specs.Into.{Source, Null, From, source, moves}
 use Rattle.ae_rules.specs.Calls.{Callee, judge_callee, Slot, group_in, slots, givens, Wanted, wanted}
 use Rattle.ae_rules.specs.Statements.{may_split, while_split, while_locked, judge_statement}
-
--- how each resource is used, if it is
-abbrev pub Uses : Type 0
-Uses = Resource → Option Mode
 
 -- ---- uses put together
 

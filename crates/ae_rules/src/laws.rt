@@ -1,7 +1,7 @@
 // Laws over the rules alone.
-ghost use Rattle.ae_rules.specs.Cases.{BuiltDeclaresOne, TodayIsACase};
-ghost use Rattle.ae_rules.specs.Laws.{JudgedOrBroken, NeverBoth, AcceptedOrBroken, NeverAcceptedAndBroken, FirstIsOne, TakenIsGivenBack, NothingToTake, CallsGiveBack, GivenAwayIsGone, StatementsKeep};
-ghost use Rattle.ae_rules.specs.EdgeLaws.{EdgesGoForward, ChainsGoForward, ConflictsAreOrdered, UsesAreAllowed, PredsAreEdges, ConflictsAreFirst, EdgesAreAsToday};
+ghost use Rattle.ae_rules.specs.Cases.{BuiltDeclaresOne, TodayIsACase, TodaysUsesAreACase};
+ghost use Rattle.ae_rules.specs.Laws.{JudgedOrBroken, NeverBoth, AcceptedOrBroken, NeverAcceptedAndBroken, FirstIsOne, TakenIsGivenBack, NothingToTake, CallsGiveBack, GivenAwayIsGone, MovesByItsText, StatementsKeep};
+ghost use Rattle.ae_rules.specs.EdgeLaws.{EdgesGoForward, ChainsGoForward, ConflictsAreOrdered, UsesAreAllowed, PredsAreEdges, ConflictsAreFirst};
 
 /// Each statement is judged, or a premise of it fails first.
 pub fn statements_are_judged_or_broken()
@@ -48,6 +48,11 @@ pub fn given_away_is_gone()
     ensures { GivenAwayIsGone }
 {}
 
+/// Which name moves with an expression is told by its text alone.
+pub fn moves_are_told_by_the_text()
+    ensures { MovesByItsText }
+{}
+
 /// After a judged statement each local that was visible still is, with its form, and each group has its permission.
 pub fn statements_keep_what_is_visible()
     ensures { StatementsKeep }
@@ -83,15 +88,15 @@ pub fn conflicts_are_first()
     ensures { ConflictsAreFirst }
 {}
 
-/// The edges of the forms that run today are these edges.
-pub fn edges_are_as_today()
-    ensures { EdgesAreAsToday }
-{}
-
 /// A program of forms that run today is judged by the whole rules as it is by today's: accepted by both or by neither,
 /// and refused by both for the same rule at the same place.
 pub fn todays_judgement_is_a_case()
     ensures { TodayIsACase }
+{}
+
+/// Each statement of an accepted program of forms that run today uses the same by the whole rules as by today's.
+pub fn todays_uses_are_a_case()
+    ensures { TodaysUsesAreACase }
 {}
 
 /// A program that was read, and has forms that run today alone, declares its one method.

@@ -10,20 +10,19 @@ use Rattle.ae_code.specs.Plain.{Code, Number, Read, Binary, Value, Made, End, Ne
 use Rattle.ae_code.specs.Plain.{Declares, Stores, Calls, Groups, Splits, Locks, Shares, Prints}
 use Rattle.ae_semantics.specs.Observations.{Trap}
 use Rattle.ae_semantics.specs.Meaning.{one, many, below}
-use Rattle.std.specs.Prelude.{Bool, map}
+use Rattle.std.specs.Prelude.{Bool, map, length}
 use Rattle.ae_code.specs.Names.{main}
-use Rattle.ae_code.specs.Plain.{Lines, Definition}
 use Rattle.ae_code.specs.declared.uses.Resource.{Resource}
 use Rattle.ae_code.specs.declared.uses.Resource.TheVariants.{Local, Group}
 use Rattle.ae_code.specs.declared.uses.Mode.{Mode}
 use Rattle.ae_code.specs.declared.uses.Mode.TheVariants as mode
-use Rattle.ae_semantics.specs.Fields.{given, top_number, method_at}
-use Rattle.ae_semantics.specs.Known.{Known, known_in}
-use Rattle.ae_semantics.specs.Uses.{is_edge}
-use Rattle.ae_semantics.specs.Observations.{Instance}
+use Rattle.ae_rules.specs.Verdict.{given}
+use Rattle.ae_rules.specs.Lookups.{top_called}
+use Rattle.ae_rules.specs.Blocks.{Scene, scene_uses}
+use Rattle.ae_rules.specs.Edges.{is_edge}
+use Rattle.ae_rules.specs.Instances.{body, Instance, Parting, parting, uses_from}
 use Rattle.ae_semantics.specs.Means.{At, Meant}
 use Rattle.ae_semantics.specs.Atom.{part}
-use Rattle.ae_semantics.specs.Instances.{Parting, AtStatements, uses_in, parting_of}
 use Rattle.ae_semantics.proofs.Programs.{at, name, path, call, field, class_with, param, need, top_method, line, printed}
 
 -- The first statement traps. The third reads what it declares, and the others go on.
@@ -65,11 +64,11 @@ past-printed : printed past ≡ line (pos 2) ∷ []
 unfolding part one many below
 past-printed = refl
 
-abbrev body_of : Code → Known → Lines → List (ℕ × ℕ) → List Bool
-body_of p k b xs = map (λ (x : ℕ × ℕ). is_edge p k b x.0 x.1) xs
+abbrev edges_of : Code → Scene → List (ℕ × ℕ) → List Bool
+edges_of p s xs = map (λ (x : ℕ × ℕ). is_edge (length p.names) (scene_uses p s) x.0 x.1) xs
 
 abbrev edges_among : Code → List (ℕ × ℕ) → List Bool
-edges_among p xs = given (top_number p main) [] (λ n. given (method_at p n) [] (λ (m : Definition). body_of p (known_in p m) m.body xs))
+edges_among p xs = given (top_called p main) [] (λ m. edges_of p (body p m) xs)
 
 trap_beside_a_print-edges : edges_among trap_beside_a_print ((0, 1) ∷ (0, 2) ∷ (0, 3) ∷ (1, 2) ∷ (1, 3) ∷ (2, 3) ∷ []) ≡ false ∷ true ∷ false ∷ false ∷ true ∷ false ∷ []
 trap_beside_a_print-edges = refl
@@ -120,17 +119,17 @@ four_calls-edges : edges_among four_calls ((0, 1) ∷ (0, 2) ∷ (1, 2) ∷ (0, 
 four_calls-edges = refl
 
 -- Two of the calls part at statements of the split block.
-abbrev statements_of : Parting → List Instance
-statements_of (AtStatements k b q r) = q ∷ r ∷ []
-statements_of _ = []
+abbrev statements_of : Option Parting → List Instance
+statements_of None = []
+statements_of (Some k) = (k.left ∷ k.left_rest) ∷ (k.right ∷ k.right_rest) ∷ []
 
-abbrev uses_of : Parting → Resource → List (Option Mode)
-uses_of (AtStatements k b q r) x = uses_in four_calls 9 k b q x ∷ uses_in four_calls 9 k b r x ∷ []
-uses_of _ x = []
+abbrev uses_of : Option Parting → Resource → List (Option Mode)
+uses_of None x = []
+uses_of (Some k) x = uses_from four_calls k.at (k.left ∷ k.left_rest) x ∷ uses_from four_calls k.at (k.right ∷ k.right_rest) x ∷ []
 
 -- the write in the first call's atomic block, and the second call
-abbrev two_calls : Parting
-two_calls = parting_of four_calls (3 ∷ 0 ∷ 0 ∷ 0 ∷ []) (3 ∷ 1 ∷ [])
+abbrev two_calls : Option Parting
+two_calls = parting four_calls (3 ∷ 0 ∷ 0 ∷ 0 ∷ []) (3 ∷ 1 ∷ [])
 
 two_calls-part : statements_of two_calls ≡ (0 ∷ 0 ∷ 0 ∷ []) ∷ (1 ∷ []) ∷ []
 two_calls-part = refl

@@ -1,4 +1,5 @@
 -- A run by one observer is the run by another that answers alike wherever the first one answers.
+use Rattle.ae_code.specs.Edges.{Uses}
 use Rattle.std.proofs.Common.{◌≡◌, ℕ, zero, suc, nat_eq, nat_lt, Bool, true, false, if◌then◌else◌, List, [], ◌∷◌, Option, None, Some, refl, ap, sym, subst}
 use Rattle.std.specs.Prelude.{⊤}
 use Rattle.ae_text.specs.declared.refusal.Spot.{Spot}
@@ -9,17 +10,18 @@ use Rattle.ae_code.specs.Names.{io}
 use Rattle.ae_code.specs.Plain.{Expression, Invocation, RightSide, Value, Taken, Zeros, Made, Returned, Lines, End, Next, Code}
 use Rattle.ae_code.specs.Plain.{Action, Declares, Assigns, Stores, StoresAt, Calls, Chooses, ChoosesElse, Repeats, Groups, Splits, Locks, Freezes, Shares, Prints, PrintsText, Asserts, Returns}
 use Rattle.ae_semantics.specs.Gathering.{stops_at}
-use Rattle.ae_semantics.specs.Fields as fields
+use Rattle.ae_rules.specs.Verdict as rules
+use Rattle.ae_rules.specs.Context.{Local, Context}
+use Rattle.ae_rules.specs.Blocks.{Scene}
 use Rattle.ae_semantics.specs.Values.{Val}
 use Rattle.ae_semantics.specs.Places.{Outcome, Fine, Traps, Lacks, ◌>>=◌, there, CellName, State, bind}
 use Rattle.ae_semantics.specs.Expressions.{value, truth_of}
-use Rattle.ae_semantics.specs.Known.{Known, after, moved_right}
-use Rattle.ae_semantics.specs.Uses.{Uses}
+use Rattle.ae_semantics.specs.Contexts.{after}
 use Rattle.ae_semantics.specs.Observations.{Piece, Image, OfStore, OfLog, Ask, Answer, Gave, Trapped, Spent, Seen, OfBlock, OfCell, Query, AtBlock, AtEnd, Trap, Ran, Turned, Asked, Notes, Observer}
-use Rattle.ae_semantics.specs.Runs.{Run, Went, Ends, Stops, Act, and_then, given, paid, chosen, marked, deeper, Where, Whole, Machine, Below, fuel_of}
+use Rattle.ae_semantics.specs.Runs.{Run, Went, Ends, Stops, Act, and_then, given, paid, chosen, marked, deeper, Where, knowing, splitting, locking, whole, Machine, Below, fuel_of}
 use Rattle.ae_semantics.specs.Calls.{Frame, enter, leave, moved}
 use Rattle.ae_semantics.specs.Blocks.{image_of, to_cell, goes_away, all_go_away, store_back, log_back, unless_stopped, used, cell_back, comes_back, all_come_back, cell_at, out_fits, answered, block_back, ask_of, else_uses, put_to, asks}
-use Rattle.ae_semantics.specs.Meaning.{stored, stored_at, frozen, shared, returns, printed, prints, begun, knowing, assigned, result_to, made, sets, body_run, call_run, call, asserts, does, left, again, split_around, splits, locks, whole, one, many, block, below}
+use Rattle.ae_semantics.specs.Meaning.{stored, stored_at, frozen, shared, returns, printed, prints, begun, assigned, result_to, made, right_moved, sets, body_run, call_run, call, asserts, does, left, again, split_around, splits, locks, one, many, block, below}
 
 -- the second observer answers alike wherever the first one answers
 abbrev pub Answers : {V W : Type 0} → (V → W) → Observer V → Observer W → Type 0
@@ -57,15 +59,15 @@ same_if : {V W : Type 0} (h : V → W) (b : Bool) (f1 f2 : Run V) (g1 g2 : Run W
 same_if h true f1 f2 g1 g2 d e = d
 same_if h false f1 f2 g1 g2 d e = e
 
-pub same_option : {A V W : Type 0} (h : V → W) (o : Option A) (r : Run V) (q : Run W) (f : A → Run V) (g : A → Run W) → Same h r q → ((x : A) → Same h (f x) (g x)) → Same h (fields.given o r f) (fields.given o q g)
+pub same_option : {A V W : Type 0} (h : V → W) (o : Option A) (r : Run V) (q : Run W) (f : A → Run V) (g : A → Run W) → Same h r q → ((x : A) → Same h (f x) (g x)) → Same h (rules.given o r f) (rules.given o q g)
 same_option h None r q f g d k = d
 same_option h (Some x) r q f g d k = k x
 
 same_observed : {V W : Type 0} (h : V → W) (o : Option (Seen × V)) (u : Option (Seen × W)) (n : Notes V) (m : Notes W) (f : Seen × V → Run V) (g : Seen × W → Run W)
     → ((x : Seen) (v : V) → o ≡ Some (x, v) → u ≡ Some (x, h v)) → ((x : Seen) (v : V) → Same h (f (x, v)) (g (x, h v)))
-    → Same h (fields.given o (Stops n) f) (fields.given u (Stops m) g)
+    → Same h (rules.given o (Stops n) f) (rules.given u (Stops m) g)
 same_observed h None u n m f g a k = tt
-same_observed h (Some x) u n m f g a k = subst (λ (y : Option (Seen × _)). Same h (f x) (fields.given y (Stops m) g)) (sym (a x.0 x.1 refl)) (k x.0 x.1)
+same_observed h (Some x) u n m f g a k = subst (λ (y : Option (Seen × _)). Same h (f x) (rules.given y (Stops m) g)) (sym (a x.0 x.1 refl)) (k x.0 x.1)
 
 -- ---- what has one of the fuel less
 
@@ -139,28 +141,28 @@ same_back h p o u a here (g ∷ gs) before log s n = same_then h _ _
 
 -- ---- atomic blocks
 
-same_answered : {V W : Type 0} (h : V → W) (p : Code) (u : Uses) (later : Known) (x : Answer) (n m : Notes V) (s : State)
+same_answered : {V W : Type 0} (h : V → W) (p : Code) (u : Uses) (later : Context) (x : Answer) (n m : Notes V) (s : State)
     → Same h (answered p u later x n s m) (answered p u later x (carry h n) s (carry h m))
 same_answered h p u later (Gave out) n m s = same_if h (out_fits p u later s out) _ _ _ _ refl tt
 same_answered h p u later (Trapped code at) n m s = refl
 same_answered h p u later (Spent at) n m s = refl
 
-same_block_back : {V W : Type 0} (h : V → W) (p : Code) (u : Uses) (later : Known) (path : List ℕ) (x : Seen) (v : V) (s : State) (n : Notes V)
+same_block_back : {V W : Type 0} (h : V → W) (p : Code) (u : Uses) (later : Context) (path : List ℕ) (x : Seen) (v : V) (s : State) (n : Notes V)
     → Same h (block_back p u later path (x, v) s n) (block_back p u later path (x, h v) s (carry h n))
 same_block_back h p u later path (OfCell image) v s n = tt
 same_block_back h p u later path (OfBlock a) v s n = same_answered h p u later a n (used path v n) s
 
-same_put : {V W : Type 0} (h : V → W) (p : Code) (o : Observer V) (u : Observer W) → Answers h o u → (ask : Ask) (e : Uses) (later : Known)
+same_put : {V W : Type 0} (h : V → W) (p : Code) (o : Observer V) (u : Observer W) → Answers h o u → (ask : Ask) (e : Uses) (later : Context)
     → Steady h (put_to (stops_at p o) ask e later) (put_to (stops_at p u) ask e later)
 same_put h p o u a ask e later s n = same_observed h _ _ n (carry h n) (λ x. block_back p e later ask.path x s n) (λ x. block_back p e later ask.path x s (carry h n))
     (a n.watch (AtBlock ask)) (λ x v. same_block_back h p e later ask.path x v s n)
 
-same_asks : {V W : Type 0} (h : V → W) (p : Code) (o : Observer V) (u : Observer W) → Answers h o u → (here : Where) (cell : CellName) (g : NameAt) (number : ℕ) (b : Lines) (fuel : ℕ)
-    → Steady h (asks (stops_at p o) here cell g number b fuel) (asks (stops_at p u) here cell g number b fuel)
-same_asks h p o u a here cell g number b fuel s n =
-    let e : Uses = else_uses p here.known g.name b in
+same_asks : {V W : Type 0} (h : V → W) (p : Code) (o : Observer V) (u : Observer W) → Answers h o u → (here : Where) (at : Spot) (cell : CellName) (g : NameAt) (number : ℕ) (b : Lines) (fuel : ℕ)
+    → Steady h (asks (stops_at p o) here at cell g number b fuel) (asks (stops_at p u) here at cell g number b fuel)
+same_asks h p o u a here at cell g number b fuel s n =
+    let e : Uses = else_uses p g.name (whole b (locking g here)) in
     let ask : Ask = ask_of here number fuel e s in
-    same_put h p o u a ask e (after p here.known (Locks g number b)) s (marked (Asked cell ask) n)
+    same_put h p o u a ask e (after p here.method at (Locks g number b) here.context) s (marked (Asked cell ask) n)
 
 -- ---- calls and right sides
 
@@ -187,12 +189,12 @@ same_call h p o u b c l here at i s n go ho k = same_given h (enter p here i s) 
     refl)
 
 same_made : {V W : Type 0} (h : V → W) (p : Code) (here : Where) (at : Spot) (x : ℕ) (form : Form) (e : RightSide) (s : State) (n : Notes V)
-    → Same h (given (made p e s) at n (λ r. assigned at x form r.0 (moved (moved_right p here.known (Some form) e) r.1) n))
-    (given (made p e s) at (carry h n) (λ r. assigned at x form r.0 (moved (moved_right p here.known (Some form) e) r.1) (carry h n)))
+    → Same h (given (made p e s) at n (λ r. assigned at x form r.0 (moved (right_moved p form e) r.1) n))
+    (given (made p e s) at (carry h n) (λ r. assigned at x form r.0 (moved (right_moved p form e) r.1) (carry h n)))
 same_made h p here at x form e s n = same_given h (made p e s) at n
-    (λ r. assigned at x form r.0 (moved (moved_right p here.known (Some form) e) r.1) n)
-    (λ r. assigned at x form r.0 (moved (moved_right p here.known (Some form) e) r.1) (carry h n))
-    (λ r. same_assigned h at x form r.0 (moved (moved_right p here.known (Some form) e) r.1) n)
+    (λ r. assigned at x form r.0 (moved (right_moved p form e) r.1) n)
+    (λ r. assigned at x form r.0 (moved (right_moved p form e) r.1) (carry h n))
+    (λ r. same_assigned h at x form r.0 (moved (right_moved p form e) r.1) n)
 
 same_sets : {V W : Type 0} (h : V → W) (p : Code) (o : Observer V) (u : Observer W) (b : Option (Below V)) (c : Option (Below W)) → BothAlike h b c
     → (here : Where) (at : Spot) (x : ℕ) (form : Form) (e : RightSide) → Steady h (sets (stops_at p o) b here at x form e) (sets (stops_at p u) c here at x form e)
@@ -209,8 +211,8 @@ same_asserts h at false s n = refl
 same_does : {V W : Type 0} (h : V → W) (at : Spot) (n : Notes V) (o : Outcome State) → Same h (does at n o) (does at (carry h n) o)
 same_does h at n o = same_given h o at n (λ s. Went s n) (λ s. Went s (carry h n)) (λ s. refl)
 
-same_left : {V W : Type 0} (h : V → W) (b : Lines) (r : Run V) (q : Run W) → Same h r q → Same h (left b r) (left b q)
-same_left h b r q e = same_then h r q e _ _ (λ s n. refl)
+same_left : {V W : Type 0} (h : V → W) (c : Context) (r : Run V) (q : Run W) → Same h r q → Same h (left c r) (left c q)
+same_left h c r q e = same_then h r q e _ _ (λ s n. refl)
 
 abbrev turn_run : {W : Type 0} → Where → ℕ → Spot → Expression → Lines → State → Notes W → Below W → Run W
 turn_run here t at e lines s n run = and_then (run.block (deeper t here) lines s n) (run.again here (suc t) at e lines)
@@ -241,17 +243,17 @@ same_splits h p o u a here gs f g k s n = same_chosen h here.inside
     (all_come_back (stops_at p o) here gs s n.log) (all_come_back (stops_at p u) here gs s n.log) (same_back h p o u a here gs s n.log)))
 
 same_locks : {V W : Type 0} (h : V → W) (p : Code) (o : Observer V) (u : Observer W) → Answers h o u → (b : Option (Below V)) (c : Option (Below W)) → BothAlike h b c
-    → (here : Where) (x : NameAt) (number : ℕ) (lines : Lines) (f : Act V) (g : Act W) → Steady h f g
-    → Steady h (locks (stops_at p o) b here x number lines f) (locks (stops_at p u) c here x number lines g)
-same_locks h p o u a b c l here x number lines f g k s n = same_option h (cell_at x.name s n) (f s n) (g s (carry h n))
-    (λ cell. asks (stops_at p o) here cell x number lines (fuel_of b) s n) (λ cell. asks (stops_at p u) here cell x number lines (fuel_of c) s (carry h n)) (k s n)
-    (λ cell. subst (λ (fuel : ℕ). Same h (asks (stops_at p o) here cell x number lines (fuel_of b) s n) (asks (stops_at p u) here cell x number lines fuel s (carry h n)))
-    (same_fuel h b c l) (same_asks h p o u a here cell x number lines (fuel_of b) s n))
+    → (here : Where) (at : Spot) (x : NameAt) (number : ℕ) (lines : Lines) (f : Act V) (g : Act W) → Steady h f g
+    → Steady h (locks (stops_at p o) b here at x number lines f) (locks (stops_at p u) c here at x number lines g)
+same_locks h p o u a b c l here at x number lines f g k s n = same_option h (cell_at x.name s n) (f s n) (g s (carry h n))
+    (λ cell. asks (stops_at p o) here at cell x number lines (fuel_of b) s n) (λ cell. asks (stops_at p u) here at cell x number lines (fuel_of c) s (carry h n)) (k s n)
+    (λ cell. subst (λ (fuel : ℕ). Same h (asks (stops_at p o) here at cell x number lines (fuel_of b) s n) (asks (stops_at p u) here at cell x number lines fuel s (carry h n)))
+    (same_fuel h b c l) (same_asks h p o u a here at cell x number lines (fuel_of b) s n))
 
 -- ---- statements
 
 abbrev branch : {W : Type 0} → Machine W → Option (Below W) → Where → Where → Lines → Act W
-branch m b inner here x s n = left x (many m b inner (whole x here) 0 x [] s n)
+branch m b inner here x s n = left here.context (many m b inner (whole x here) 0 x [] s n)
 
 mutual
   unfolding one many
@@ -259,9 +261,9 @@ mutual
   same_one : {V W : Type 0} (h : V → W) (p : Code) (o : Observer V) (u : Observer W) → Answers h o u → (b : Option (Below V)) (c : Option (Below W)) → BothAlike h b c
       → (here : Where) (at : Spot) (x : Action) → Steady h (one (stops_at p o) b here at x) (one (stops_at p u) c here at x)
   same_one h p o u a b c l here at (Declares ty x e) s n = same_sets h p o u b c l here at x.name (form ty) e s n
-  same_one h p o u a b c l here at (Assigns x e) s n = same_given h (there (here.known.declared x.name)) at n
-      (λ y. sets (stops_at p o) b here at x.name y e s n) (λ y. sets (stops_at p u) c here at x.name y e s (carry h n)) (λ y. same_sets h p o u b c l here at x.name y e s n)
-  same_one h p o u a b c l here at (Stores path e) s n = same_does h at n (stored p here.known path e s)
+  same_one h p o u a b c l here at (Assigns x e) s n = same_given h (there (here.context.local x.name)) at n
+      (λ (y : Local). sets (stops_at p o) b here at x.name y.form e s n) (λ (y : Local). sets (stops_at p u) c here at x.name y.form e s (carry h n)) (λ (y : Local). same_sets h p o u b c l here at x.name y.form e s n)
+  same_one h p o u a b c l here at (Stores path e) s n = same_does h at n (stored p path e s)
   same_one h p o u a b c l here at (StoresAt path i e) s n = same_does h at n (stored_at p path i e s)
   same_one h p o u a b c l here at (Calls i) s n = same_call h p o u b c l here at i s n (λ r t m. Went t m) (λ r t m. Went t m) (λ r t m. refl)
   same_one h p o u a b c l here at (Chooses e nb x) s n = same_given h (truth_of p s e) at n
@@ -270,7 +272,7 @@ mutual
       (λ test. same_chosen h test
       (λ _. branch (stops_at p o) b (deeper 0 here) here x s n) (λ _. Went s n)
       (λ _. branch (stops_at p u) c (deeper 0 here) here x s (carry h n)) (λ _. Went s (carry h n))
-      (same_left h x (many (stops_at p o) b (deeper 0 here) (whole x here) 0 x [] s n) (many (stops_at p u) c (deeper 0 here) (whole x here) 0 x [] s (carry h n))
+      (same_left h here.context (many (stops_at p o) b (deeper 0 here) (whole x here) 0 x [] s n) (many (stops_at p u) c (deeper 0 here) (whole x here) 0 x [] s (carry h n))
       (same_many h p o u a b c l (deeper 0 here) (whole x here) 0 x [] s n)) refl)
   same_one h p o u a b c l here at (ChoosesElse e nb x nc y) s n = same_given h (truth_of p s e) at n
       (λ test. chosen test (λ _. branch (stops_at p o) b (deeper 0 here) here x s n) (λ _. branch (stops_at p o) b (deeper 1 here) here y s n))
@@ -278,37 +280,37 @@ mutual
       (λ test. same_chosen h test
       (λ _. branch (stops_at p o) b (deeper 0 here) here x s n) (λ _. branch (stops_at p o) b (deeper 1 here) here y s n)
       (λ _. branch (stops_at p u) c (deeper 0 here) here x s (carry h n)) (λ _. branch (stops_at p u) c (deeper 1 here) here y s (carry h n))
-      (same_left h x (many (stops_at p o) b (deeper 0 here) (whole x here) 0 x [] s n) (many (stops_at p u) c (deeper 0 here) (whole x here) 0 x [] s (carry h n))
+      (same_left h here.context (many (stops_at p o) b (deeper 0 here) (whole x here) 0 x [] s n) (many (stops_at p u) c (deeper 0 here) (whole x here) 0 x [] s (carry h n))
       (same_many h p o u a b c l (deeper 0 here) (whole x here) 0 x [] s n))
-      (same_left h y (many (stops_at p o) b (deeper 1 here) (whole y here) 0 y [] s n) (many (stops_at p u) c (deeper 1 here) (whole y here) 0 y [] s (carry h n))
+      (same_left h here.context (many (stops_at p o) b (deeper 1 here) (whole y here) 0 y [] s n) (many (stops_at p u) c (deeper 1 here) (whole y here) 0 y [] s (carry h n))
       (same_many h p o u a b c l (deeper 1 here) (whole y here) 0 y [] s n)))
   same_one h p o u a b c l here at (Repeats e nb x) s n = same_again h p o u b c l here 0 at e x s n
   same_one h p o u a b c l here at (Groups g) s n = refl
-  same_one h p o u a b c l here at (Splits gs nb x) s n = same_splits h p o u a here gs (branch (stops_at p o) b here here x) (branch (stops_at p u) c here here x)
-      (λ t m. same_left h x (many (stops_at p o) b here (whole x here) 0 x [] t m) (many (stops_at p u) c here (whole x here) 0 x [] t (carry h m))
-      (same_many h p o u a b c l here (whole x here) 0 x [] t m)) s n
-  same_one h p o u a b c l here at (Locks g number x) s n = same_locks h p o u a b c l here g number x (branch (stops_at p o) b here here x) (branch (stops_at p u) c here here x)
-      (λ t m. same_left h x (many (stops_at p o) b here (whole x here) 0 x [] t m) (many (stops_at p u) c here (whole x here) 0 x [] t (carry h m))
-      (same_many h p o u a b c l here (whole x here) 0 x [] t m)) s n
+  same_one h p o u a b c l here at (Splits gs nb x) s n = same_splits h p o u a here gs (branch (stops_at p o) b (splitting gs here) (splitting gs here) x) (branch (stops_at p u) c (splitting gs here) (splitting gs here) x)
+      (λ t m. same_left h (splitting gs here).context (many (stops_at p o) b (splitting gs here) (whole x (splitting gs here)) 0 x [] t m) (many (stops_at p u) c (splitting gs here) (whole x (splitting gs here)) 0 x [] t (carry h m))
+      (same_many h p o u a b c l (splitting gs here) (whole x (splitting gs here)) 0 x [] t m)) s n
+  same_one h p o u a b c l here at (Locks g number x) s n = same_locks h p o u a b c l here at g number x (branch (stops_at p o) b (locking g here) (locking g here) x) (branch (stops_at p u) c (locking g here) (locking g here) x)
+      (λ t m. same_left h (locking g here).context (many (stops_at p o) b (locking g here) (whole x (locking g here)) 0 x [] t m) (many (stops_at p u) c (locking g here) (whole x (locking g here)) 0 x [] t (carry h m))
+      (same_many h p o u a b c l (locking g here) (whole x (locking g here)) 0 x [] t m)) s n
   same_one h p o u a b c l here at (Freezes x) s n = same_does h at n (frozen x.name s)
   same_one h p o u a b c l here at (Shares x g) s n = same_does h at n (shared x.name g.name s)
   same_one h p o u a b c l here at (Prints e) s n = same_given h (value p s e >>= printed) at n (λ bytes. prints here bytes s n) (λ bytes. prints here bytes s (carry h n)) (λ bytes. refl)
   same_one h p o u a b c l here at (PrintsText text) s n = refl
   same_one h p o u a b c l here at (Asserts e) s n = same_given h (truth_of p s e) at n (λ test. asserts at test s n) (λ test. asserts at test s (carry h n)) (λ test. same_asserts h at test s n)
-  same_one h p o u a b c l here at (Returns e) s n = same_does h at n (returns p here.known e s)
+  same_one h p o u a b c l here at (Returns e) s n = same_does h at n (returns p here.method e s)
 
   same_many : {V W : Type 0} (h : V → W) (p : Code) (o : Observer V) (u : Observer W) → Answers h o u → (b : Option (Below V)) (c : Option (Below W)) → BothAlike h b c
-      → (here : Where) (all : Whole) (j : ℕ) (x : Lines) (barred : List ℕ) → Steady h (many (stops_at p o) b here all j x barred) (many (stops_at p u) c here all j x barred)
+      → (here : Where) (all : Scene) (j : ℕ) (x : Lines) (barred : List ℕ) → Steady h (many (stops_at p o) b here all j x barred) (many (stops_at p u) c here all j x barred)
   same_many h p o u a b c l here all j End barred s n = refl
   same_many h p o u a b c l here all j (Next at x rest) barred s n = same_then h
       (begun (deeper j here) at (one (stops_at p o) b (deeper j here) at x) s n) (begun (deeper j here) at (one (stops_at p u) c (deeper j here) at x) s (carry h n))
       (same_one h p o u a b c l (deeper j here) at x s (marked (Ran (deeper j here).path at) n))
-      (many (stops_at p o) b (knowing (after p here.known x) here) all (suc j) rest barred) (many (stops_at p u) c (knowing (after p here.known x) here) all (suc j) rest barred)
-      (same_many h p o u a b c l (knowing (after p here.known x) here) all (suc j) rest barred)
+      (many (stops_at p o) b (knowing (after p here.method at x here.context) here) all (suc j) rest barred) (many (stops_at p u) c (knowing (after p here.method at x here.context) here) all (suc j) rest barred)
+      (same_many h p o u a b c l (knowing (after p here.method at x here.context) here) all (suc j) rest barred)
 
 pub same_block : {V W : Type 0} (h : V → W) (p : Code) (o : Observer V) (u : Observer W) → Answers h o u → (b : Option (Below V)) (c : Option (Below W)) → BothAlike h b c
     → (here : Where) (x : Lines) → Steady h (block (stops_at p o) b here x) (block (stops_at p u) c here x)
-same_block h p o u a b c l here x s n = same_left h x (many (stops_at p o) b here (whole x here) 0 x [] s n) (many (stops_at p u) c here (whole x here) 0 x [] s (carry h n))
+same_block h p o u a b c l here x s n = same_left h here.context (many (stops_at p o) b here (whole x here) 0 x [] s n) (many (stops_at p u) c here (whole x here) 0 x [] s (carry h n))
     (same_many h p o u a b c l here (whole x here) 0 x [] s n)
 
 pub same_below : {V W : Type 0} (h : V → W) (p : Code) (o : Observer V) (u : Observer W) → Answers h o u → (f : ℕ) → BothAlike h (below (stops_at p o) f) (below (stops_at p u) f)

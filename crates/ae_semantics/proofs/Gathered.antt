@@ -1,4 +1,5 @@
 -- A run by any observer is the run by the list of the answers that it gets, in order.
+use Rattle.ae_code.specs.Edges.{Uses}
 use Rattle.std.proofs.Common.{◌≡◌, ℕ, zero, suc, nat_eq, nat_lt, Bool, true, false, if◌then◌else◌, List, [], ◌∷◌, Option, None, Some, refl, ap, sym, subst, ◌++◌, ◌∙◌}
 use Rattle.std.specs.Prelude.{⊤, option_map}
 use Rattle.std.proofs.lemmas.List.{append_assoc, append-nil}
@@ -11,17 +12,18 @@ use Rattle.ae_code.specs.Form.{form}
 use Rattle.ae_code.specs.Names.{io}
 use Rattle.ae_code.specs.Plain.{Expression, Invocation, RightSide, Value, Taken, Zeros, Made, Returned, Lines, End, Next, Code}
 use Rattle.ae_code.specs.Plain.{Action, Declares, Assigns, Stores, StoresAt, Calls, Chooses, ChoosesElse, Repeats, Groups, Splits, Locks, Freezes, Shares, Prints, PrintsText, Asserts, Returns}
-use Rattle.ae_semantics.specs.Fields as fields
+use Rattle.ae_rules.specs.Verdict as rules
+use Rattle.ae_rules.specs.Context.{Local, Context}
+use Rattle.ae_rules.specs.Blocks.{Scene}
 use Rattle.ae_semantics.specs.Values.{Val}
 use Rattle.ae_semantics.specs.Places.{Outcome, Fine, Traps, Lacks, ◌>>=◌, there, CellName, State, bind, Here, Away, with_group}
 use Rattle.ae_semantics.specs.Expressions.{value, truth_of}
-use Rattle.ae_semantics.specs.Known.{Known, after, moved_right}
-use Rattle.ae_semantics.specs.Uses.{Uses}
+use Rattle.ae_semantics.specs.Contexts.{after}
 use Rattle.ae_semantics.specs.Observations.{Piece, Image, OfStore, OfLog, Ask, Answer, Gave, Trapped, Spent, Seen, OfBlock, OfCell, Query, AtBlock, AtEnd, Trap, Ran, Turned, Asked, Notes, Observer, Ending, Entered, Fuel}
-use Rattle.ae_semantics.specs.Runs.{Run, Went, Ends, Stops, Act, and_then, given, paid, chosen, marked, logged, deeper, Where, Whole, Machine, Below, fuel_of}
+use Rattle.ae_semantics.specs.Runs.{Run, Went, Ends, Stops, Act, and_then, given, paid, chosen, marked, logged, deeper, Where, knowing, splitting, locking, whole, Machine, Below, fuel_of}
 use Rattle.ae_semantics.specs.Calls.{Frame, enter, leave, moved}
 use Rattle.ae_semantics.specs.Blocks.{image_of, to_cell, goes_away, all_go_away, store_back, log_back, unless_stopped, used, cell_back, comes_back, all_come_back, cell_at, out_fits, answered, block_back, ask_of, else_uses, asks, cell_of, with_out, with_values, pieces_in}
-use Rattle.ae_semantics.specs.Meaning.{stored, stored_at, frozen, shared, returns, printed, prints, begun, knowing, assigned, result_to, made, sets, body_run, call_run, call, asserts, does, left, again, split_around, splits, locks, whole, forgotten, one, many, block, below}
+use Rattle.ae_semantics.specs.Meaning.{stored, stored_at, frozen, shared, returns, printed, prints, begun, assigned, result_to, made, right_moved, sets, body_run, call_run, call, asserts, does, left, again, split_around, splits, locks, forgotten, one, many, block, below}
 
 abbrev pub listed : {V : Type 0} → Notes V → List Seen → Notes (List Seen)
 listed n rest = record { log = n.log; cell = n.cell; marks = n.marks; watch = rest }
@@ -71,18 +73,18 @@ sim_if true w f1 f2 g1 g2 d e = d
 sim_if false w f1 f2 g1 g2 d e = e
 
 pub sim_option : {A V : Type 0} (o : Option A) (w : List Seen) (r : Run (V × List Seen)) (q : List Seen → Run (List Seen)) (f : A → Run (V × List Seen)) (g : List Seen → A → Run (List Seen))
-    → Sim r w q → ((x : A) → Sim (f x) w (λ rest. g rest x)) → Sim (fields.given o r f) w (λ rest. fields.given o (q rest) (g rest))
+    → Sim r w q → ((x : A) → Sim (f x) w (λ rest. g rest x)) → Sim (rules.given o r f) w (λ rest. rules.given o (q rest) (g rest))
 sim_option None w r q f g d k = d
 sim_option (Some x) w r q f g d k = k x
 
 -- an answer is the next of the list
 sim_observed : {V : Type 0} (o : Option (Seen × V)) (n : Notes (V × List Seen)) (f : Seen × (V × List Seen) → Run (V × List Seen)) (g : List Seen → Seen × List Seen → Run (List Seen)) (q : Query)
     → ((x : Seen) (v : V) → Sim (f (x, (v, n.watch.1 ++ (x ∷ [])))) (n.watch.1 ++ (x ∷ [])) (λ rest. g (x ∷ rest) (x, rest)))
-    → Sim (fields.given (option_map (λ (z : Seen × V). (z.0, (z.1, n.watch.1 ++ (z.0 ∷ [])))) o) (Stops n) f) n.watch.1
-    (λ rest. fields.given (in_order rest q) (Stops (listed n rest)) (g rest))
+    → Sim (rules.given (option_map (λ (z : Seen × V). (z.0, (z.1, n.watch.1 ++ (z.0 ∷ [])))) o) (Stops n) f) n.watch.1
+    (λ rest. rules.given (in_order rest q) (Stops (listed n rest)) (g rest))
 sim_observed None n f g q k = tt
 sim_observed (Some x) n f g q k = sim_go (f (x.0, (x.1, n.watch.1 ++ (x.0 ∷ [])))) n.watch.1 (x.0 ∷ []) (n.watch.1 ++ (x.0 ∷ [])) refl
-    (λ rest. g (x.0 ∷ rest) (x.0, rest)) (k x.0 x.1) (λ rest. fields.given (in_order rest q) (Stops (listed n rest)) (g rest)) (λ m rest. refl)
+    (λ rest. g (x.0 ∷ rest) (x.0, rest)) (k x.0 x.1) (λ rest. rules.given (in_order rest q) (Stops (listed n rest)) (g rest)) (λ m rest. refl)
 
 -- ---- what has one of the fuel less
 
@@ -163,8 +165,8 @@ sim_back : {V : Type 0} (p : Code) (o : Observer V) (here : Where) (gs : List Na
     → Sims (all_come_back (stops_at p (gathering o)) here gs before log) (all_come_back (stops_at p in_order) here gs before log)
 sim_back p o here [] before log s n = went_here s n
 sim_back p o here (g ∷ gs) before log s n = sim_then
-    (fields.given (image_of g.name before (record n { log = log })) (Stops n) (λ first. comes_back (stops_at p (gathering o)) here g.name first s n)) n.watch.1
-    (λ rest. fields.given (image_of g.name before (record n { log = log })) (Stops (listed n rest)) (λ first. comes_back (stops_at p in_order) here g.name first s (listed n rest)))
+    (rules.given (image_of g.name before (record n { log = log })) (Stops n) (λ first. comes_back (stops_at p (gathering o)) here g.name first s n)) n.watch.1
+    (λ rest. rules.given (image_of g.name before (record n { log = log })) (Stops (listed n rest)) (λ first. comes_back (stops_at p in_order) here g.name first s (listed n rest)))
     (sim_option (image_of g.name before (record n { log = log })) n.watch.1 (Stops n) (λ rest. Stops (listed n rest))
     (λ first. comes_back (stops_at p (gathering o)) here g.name first s n) (λ rest first. comes_back (stops_at p in_order) here g.name first s (listed n rest)) tt
     (λ first. sim_comes_back p o here g.name first s n))
@@ -172,24 +174,24 @@ sim_back p o here (g ∷ gs) before log s n = sim_then
 
 -- ---- atomic blocks
 
-sim_answered : {V : Type 0} (p : Code) (u : Uses) (later : Known) (x : Answer) (n : Notes (V × List Seen)) (m : List Seen → Notes (List Seen)) (s : State) (k : Notes (V × List Seen))
+sim_answered : {V : Type 0} (p : Code) (u : Uses) (later : Context) (x : Answer) (n : Notes (V × List Seen)) (m : List Seen → Notes (List Seen)) (s : State) (k : Notes (V × List Seen))
     → Sim (answered p u later x n s k) k.watch.1 (λ rest. answered p u later x (m rest) s (listed k rest))
 sim_answered p u later (Gave out) n m s k = sim_if (out_fits p u later s out) k.watch.1 (with_out u out s k) (Stops n)
     (λ rest. with_out u out s (listed k rest)) (λ rest. Stops (m rest)) (went_here (with_values u out s) (record k { log = k.log ++ pieces_in out.pieces })) tt
 sim_answered p u later (Trapped code at) n m s k = ends_here (Trap code at) k
 sim_answered p u later (Spent at) n m s k = ends_here (Fuel at) k
 
-sim_block_back : {V : Type 0} (p : Code) (e : Uses) (later : Known) (path : List ℕ) (x : Seen) (v : V) (u : List Seen) (s : State) (n : Notes (V × List Seen))
+sim_block_back : {V : Type 0} (p : Code) (e : Uses) (later : Context) (path : List ℕ) (x : Seen) (v : V) (u : List Seen) (s : State) (n : Notes (V × List Seen))
     → Sim (block_back p e later path (x, (v, u)) s n) u (λ rest. block_back p e later path (x, rest) s (listed n (x ∷ rest)))
 sim_block_back p e later path (OfCell image) v u s n = tt
 sim_block_back p e later path (OfBlock a) v u s n = sim_answered p e later a n (λ rest. listed n (OfBlock a ∷ rest)) s (used path (v, u) n)
 
-sim_asks : {V : Type 0} (p : Code) (o : Observer V) (here : Where) (cell : CellName) (g : NameAt) (number : ℕ) (b : Lines) (fuel : ℕ)
-    → Sims (asks (stops_at p (gathering o)) here cell g number b fuel) (asks (stops_at p in_order) here cell g number b fuel)
-sim_asks p o here cell g number b fuel s n =
-    let e : Uses = else_uses p here.known g.name b in
+sim_asks : {V : Type 0} (p : Code) (o : Observer V) (here : Where) (at : Spot) (cell : CellName) (g : NameAt) (number : ℕ) (b : Lines) (fuel : ℕ)
+    → Sims (asks (stops_at p (gathering o)) here at cell g number b fuel) (asks (stops_at p in_order) here at cell g number b fuel)
+sim_asks p o here at cell g number b fuel s n =
+    let e : Uses = else_uses p g.name (whole b (locking g here)) in
     let ask : Ask = ask_of here number fuel e s in
-    let later : Known = after p here.known (Locks g number b) in
+    let later : Context = after p here.method at (Locks g number b) here.context in
     let k : Notes _ = marked (Asked cell ask) n in
     sim_observed (o n.watch.0 (AtBlock ask)) k (λ x. block_back p e later ask.path x s k) (λ rest x. block_back p e later ask.path x s (listed k rest)) (AtBlock ask)
     (λ x v. sim_block_back p e later ask.path x v (n.watch.1 ++ (x ∷ [])) s k)
@@ -221,12 +223,12 @@ sim_call p o b c l here at i s n go ho k = sim_given (enter p here i s) at n (ca
     (ends_here (Trap 6 at) n))
 
 sim_made : {V : Type 0} (p : Code) (here : Where) (at : Spot) (x : ℕ) (form : Form) (e : RightSide) (s : State) (n : Notes (V × List Seen))
-    → Sim (given (made p e s) at n (λ r. assigned at x form r.0 (moved (moved_right p here.known (Some form) e) r.1) n)) n.watch.1
-    (λ rest. given (made p e s) at (listed n rest) (λ r. assigned at x form r.0 (moved (moved_right p here.known (Some form) e) r.1) (listed n rest)))
+    → Sim (given (made p e s) at n (λ r. assigned at x form r.0 (moved (right_moved p form e) r.1) n)) n.watch.1
+    (λ rest. given (made p e s) at (listed n rest) (λ r. assigned at x form r.0 (moved (right_moved p form e) r.1) (listed n rest)))
 sim_made p here at x form e s n = sim_given (made p e s) at n
-    (λ r. assigned at x form r.0 (moved (moved_right p here.known (Some form) e) r.1) n)
-    (λ rest r. assigned at x form r.0 (moved (moved_right p here.known (Some form) e) r.1) (listed n rest))
-    (λ r. sim_assigned at x form r.0 (moved (moved_right p here.known (Some form) e) r.1) n)
+    (λ r. assigned at x form r.0 (moved (right_moved p form e) r.1) n)
+    (λ rest r. assigned at x form r.0 (moved (right_moved p form e) r.1) (listed n rest))
+    (λ r. sim_assigned at x form r.0 (moved (right_moved p form e) r.1) n)
 
 sim_sets : {V : Type 0} (p : Code) (o : Observer V) (b : Option (Below (V × List Seen))) (c : Option (Below (List Seen))) → BothFollow b c
     → (here : Where) (at : Spot) (x : ℕ) (form : Form) (e : RightSide) → Sims (sets (stops_at p (gathering o)) b here at x form e) (sets (stops_at p in_order) c here at x form e)
@@ -243,8 +245,8 @@ sim_asserts at false s n = ends_here (Trap 5 at) n
 sim_does : {V : Type 0} (at : Spot) (n : Notes (V × List Seen)) (o : Outcome State) → Sim (does at n o) n.watch.1 (λ rest. does at (listed n rest) o)
 sim_does at n o = sim_given o at n (λ s. Went s n) (λ rest s. Went s (listed n rest)) (λ s. went_here s n)
 
-sim_left : {V : Type 0} (b : Lines) (r : Run (V × List Seen)) (w : List Seen) (g : List Seen → Run (List Seen)) → Sim r w g → Sim (left b r) w (λ rest. left b (g rest))
-sim_left b r w g d = sim_then r w g d (λ s n. Went (forgotten b s) n) (λ s n. Went (forgotten b s) n) (λ s n. went_here (forgotten b s) n)
+sim_left : {V : Type 0} (c : Context) (r : Run (V × List Seen)) (w : List Seen) (g : List Seen → Run (List Seen)) → Sim r w g → Sim (left c r) w (λ rest. left c (g rest))
+sim_left c r w g d = sim_then r w g d (λ s n. Went (forgotten c s) n) (λ s n. Went (forgotten c s) n) (λ s n. went_here (forgotten c s) n)
 
 abbrev turn_run : {W : Type 0} → Where → ℕ → Spot → Expression → Lines → State → Notes W → Below W → Run W
 turn_run here t at e lines s n run = and_then (run.block (deeper t here) lines s n) (run.again here (suc t) at e lines)
@@ -275,17 +277,17 @@ sim_splits p o here gs f g k s n = sim_chosen here.inside n.watch.1
     (all_come_back (stops_at p (gathering o)) here gs s n.log) (all_come_back (stops_at p in_order) here gs s n.log) (sim_back p o here gs s n.log)))
 
 sim_locks : {V : Type 0} (p : Code) (o : Observer V) (b : Option (Below (V × List Seen))) (c : Option (Below (List Seen))) → BothFollow b c
-    → (here : Where) (x : NameAt) (number : ℕ) (lines : Lines) (f : Act (V × List Seen)) (g : Act (List Seen)) → Sims f g
-    → Sims (locks (stops_at p (gathering o)) b here x number lines f) (locks (stops_at p in_order) c here x number lines g)
-sim_locks p o b c l here x number lines f g k s n = sim_option (cell_at x.name s n) n.watch.1 (f s n) (λ rest. g s (listed n rest))
-    (λ cell. asks (stops_at p (gathering o)) here cell x number lines (fuel_of b) s n) (λ rest cell. asks (stops_at p in_order) here cell x number lines (fuel_of c) s (listed n rest)) (k s n)
-    (λ cell. subst (λ (fuel : ℕ). Sim (asks (stops_at p (gathering o)) here cell x number lines (fuel_of b) s n) n.watch.1 (λ rest. asks (stops_at p in_order) here cell x number lines fuel s (listed n rest)))
-    (follow_fuel b c l) (sim_asks p o here cell x number lines (fuel_of b) s n))
+    → (here : Where) (at : Spot) (x : NameAt) (number : ℕ) (lines : Lines) (f : Act (V × List Seen)) (g : Act (List Seen)) → Sims f g
+    → Sims (locks (stops_at p (gathering o)) b here at x number lines f) (locks (stops_at p in_order) c here at x number lines g)
+sim_locks p o b c l here at x number lines f g k s n = sim_option (cell_at x.name s n) n.watch.1 (f s n) (λ rest. g s (listed n rest))
+    (λ cell. asks (stops_at p (gathering o)) here at cell x number lines (fuel_of b) s n) (λ rest cell. asks (stops_at p in_order) here at cell x number lines (fuel_of c) s (listed n rest)) (k s n)
+    (λ cell. subst (λ (fuel : ℕ). Sim (asks (stops_at p (gathering o)) here at cell x number lines (fuel_of b) s n) n.watch.1 (λ rest. asks (stops_at p in_order) here at cell x number lines fuel s (listed n rest)))
+    (follow_fuel b c l) (sim_asks p o here at cell x number lines (fuel_of b) s n))
 
 -- ---- statements
 
 abbrev branch : {W : Type 0} → Machine W → Option (Below W) → Where → Where → Lines → Act W
-branch m b inner here x s n = left x (many m b inner (whole x here) 0 x [] s n)
+branch m b inner here x s n = left here.context (many m b inner (whole x here) 0 x [] s n)
 
 mutual
   unfolding one many
@@ -293,10 +295,10 @@ mutual
   sim_one : {V : Type 0} (p : Code) (o : Observer V) (b : Option (Below (V × List Seen))) (c : Option (Below (List Seen))) → BothFollow b c
       → (here : Where) (at : Spot) (x : Action) → Sims (one (stops_at p (gathering o)) b here at x) (one (stops_at p in_order) c here at x)
   sim_one p o b c l here at (Declares ty x e) s n = sim_sets p o b c l here at x.name (form ty) e s n
-  sim_one p o b c l here at (Assigns x e) s n = sim_given (there (here.known.declared x.name)) at n
-      (λ y. sets (stops_at p (gathering o)) b here at x.name y e s n) (λ rest y. sets (stops_at p in_order) c here at x.name y e s (listed n rest))
-      (λ y. sim_sets p o b c l here at x.name y e s n)
-  sim_one p o b c l here at (Stores path e) s n = sim_does at n (stored p here.known path e s)
+  sim_one p o b c l here at (Assigns x e) s n = sim_given (there (here.context.local x.name)) at n
+      (λ (y : Local). sets (stops_at p (gathering o)) b here at x.name y.form e s n) (λ rest (y : Local). sets (stops_at p in_order) c here at x.name y.form e s (listed n rest))
+      (λ (y : Local). sim_sets p o b c l here at x.name y.form e s n)
+  sim_one p o b c l here at (Stores path e) s n = sim_does at n (stored p path e s)
   sim_one p o b c l here at (StoresAt path i e) s n = sim_does at n (stored_at p path i e s)
   sim_one p o b c l here at (Calls i) s n = sim_call p o b c l here at i s n (λ r t m. Went t m) (λ r t m. Went t m) (λ r t m. went_here t m)
   sim_one p o b c l here at (Chooses e nb x) s n = sim_given (truth_of p s e) at n
@@ -305,7 +307,7 @@ mutual
       (λ test. sim_chosen test n.watch.1
       (λ _. branch (stops_at p (gathering o)) b (deeper 0 here) here x s n) (λ _. Went s n)
       (λ rest _. branch (stops_at p in_order) c (deeper 0 here) here x s (listed n rest)) (λ rest _. Went s (listed n rest))
-      (sim_left x (many (stops_at p (gathering o)) b (deeper 0 here) (whole x here) 0 x [] s n) n.watch.1 (λ rest. many (stops_at p in_order) c (deeper 0 here) (whole x here) 0 x [] s (listed n rest))
+      (sim_left here.context (many (stops_at p (gathering o)) b (deeper 0 here) (whole x here) 0 x [] s n) n.watch.1 (λ rest. many (stops_at p in_order) c (deeper 0 here) (whole x here) 0 x [] s (listed n rest))
       (sim_many p o b c l (deeper 0 here) (whole x here) 0 x [] s n)) (went_here s n))
   sim_one p o b c l here at (ChoosesElse e nb x nc y) s n = sim_given (truth_of p s e) at n
       (λ test. chosen test (λ _. branch (stops_at p (gathering o)) b (deeper 0 here) here x s n) (λ _. branch (stops_at p (gathering o)) b (deeper 1 here) here y s n))
@@ -313,39 +315,39 @@ mutual
       (λ test. sim_chosen test n.watch.1
       (λ _. branch (stops_at p (gathering o)) b (deeper 0 here) here x s n) (λ _. branch (stops_at p (gathering o)) b (deeper 1 here) here y s n)
       (λ rest _. branch (stops_at p in_order) c (deeper 0 here) here x s (listed n rest)) (λ rest _. branch (stops_at p in_order) c (deeper 1 here) here y s (listed n rest))
-      (sim_left x (many (stops_at p (gathering o)) b (deeper 0 here) (whole x here) 0 x [] s n) n.watch.1 (λ rest. many (stops_at p in_order) c (deeper 0 here) (whole x here) 0 x [] s (listed n rest))
+      (sim_left here.context (many (stops_at p (gathering o)) b (deeper 0 here) (whole x here) 0 x [] s n) n.watch.1 (λ rest. many (stops_at p in_order) c (deeper 0 here) (whole x here) 0 x [] s (listed n rest))
       (sim_many p o b c l (deeper 0 here) (whole x here) 0 x [] s n))
-      (sim_left y (many (stops_at p (gathering o)) b (deeper 1 here) (whole y here) 0 y [] s n) n.watch.1 (λ rest. many (stops_at p in_order) c (deeper 1 here) (whole y here) 0 y [] s (listed n rest))
+      (sim_left here.context (many (stops_at p (gathering o)) b (deeper 1 here) (whole y here) 0 y [] s n) n.watch.1 (λ rest. many (stops_at p in_order) c (deeper 1 here) (whole y here) 0 y [] s (listed n rest))
       (sim_many p o b c l (deeper 1 here) (whole y here) 0 y [] s n)))
   sim_one p o b c l here at (Repeats e nb x) s n = sim_again p o b c l here 0 at e x s n
   sim_one p o b c l here at (Groups g) s n = went_here (with_group g.name (Some (Here [])) s) n
-  sim_one p o b c l here at (Splits gs nb x) s n = sim_splits p o here gs (branch (stops_at p (gathering o)) b here here x) (branch (stops_at p in_order) c here here x)
-      (λ t m. sim_left x (many (stops_at p (gathering o)) b here (whole x here) 0 x [] t m) m.watch.1 (λ rest. many (stops_at p in_order) c here (whole x here) 0 x [] t (listed m rest))
-      (sim_many p o b c l here (whole x here) 0 x [] t m)) s n
-  sim_one p o b c l here at (Locks g number x) s n = sim_locks p o b c l here g number x (branch (stops_at p (gathering o)) b here here x) (branch (stops_at p in_order) c here here x)
-      (λ t m. sim_left x (many (stops_at p (gathering o)) b here (whole x here) 0 x [] t m) m.watch.1 (λ rest. many (stops_at p in_order) c here (whole x here) 0 x [] t (listed m rest))
-      (sim_many p o b c l here (whole x here) 0 x [] t m)) s n
+  sim_one p o b c l here at (Splits gs nb x) s n = sim_splits p o here gs (branch (stops_at p (gathering o)) b (splitting gs here) (splitting gs here) x) (branch (stops_at p in_order) c (splitting gs here) (splitting gs here) x)
+      (λ t m. sim_left (splitting gs here).context (many (stops_at p (gathering o)) b (splitting gs here) (whole x (splitting gs here)) 0 x [] t m) m.watch.1 (λ rest. many (stops_at p in_order) c (splitting gs here) (whole x (splitting gs here)) 0 x [] t (listed m rest))
+      (sim_many p o b c l (splitting gs here) (whole x (splitting gs here)) 0 x [] t m)) s n
+  sim_one p o b c l here at (Locks g number x) s n = sim_locks p o b c l here at g number x (branch (stops_at p (gathering o)) b (locking g here) (locking g here) x) (branch (stops_at p in_order) c (locking g here) (locking g here) x)
+      (λ t m. sim_left (locking g here).context (many (stops_at p (gathering o)) b (locking g here) (whole x (locking g here)) 0 x [] t m) m.watch.1 (λ rest. many (stops_at p in_order) c (locking g here) (whole x (locking g here)) 0 x [] t (listed m rest))
+      (sim_many p o b c l (locking g here) (whole x (locking g here)) 0 x [] t m)) s n
   sim_one p o b c l here at (Freezes x) s n = sim_does at n (frozen x.name s)
   sim_one p o b c l here at (Shares x g) s n = sim_does at n (shared x.name g.name s)
   sim_one p o b c l here at (Prints e) s n = sim_given (value p s e >>= printed) at n (λ bytes. prints here bytes s n) (λ rest bytes. prints here bytes s (listed n rest))
       (λ bytes. went_here s (logged (record { path = here.path; bytes = bytes } ∷ []) n))
   sim_one p o b c l here at (PrintsText text) s n = went_here s (logged (record { path = here.path; bytes = text } ∷ []) n)
   sim_one p o b c l here at (Asserts e) s n = sim_given (truth_of p s e) at n (λ test. asserts at test s n) (λ rest test. asserts at test s (listed n rest)) (λ test. sim_asserts at test s n)
-  sim_one p o b c l here at (Returns e) s n = sim_does at n (returns p here.known e s)
+  sim_one p o b c l here at (Returns e) s n = sim_does at n (returns p here.method e s)
 
   sim_many : {V : Type 0} (p : Code) (o : Observer V) (b : Option (Below (V × List Seen))) (c : Option (Below (List Seen))) → BothFollow b c
-      → (here : Where) (all : Whole) (j : ℕ) (x : Lines) (barred : List ℕ) → Sims (many (stops_at p (gathering o)) b here all j x barred) (many (stops_at p in_order) c here all j x barred)
+      → (here : Where) (all : Scene) (j : ℕ) (x : Lines) (barred : List ℕ) → Sims (many (stops_at p (gathering o)) b here all j x barred) (many (stops_at p in_order) c here all j x barred)
   sim_many p o b c l here all j End barred s n = went_here s n
   sim_many p o b c l here all j (Next at x rest) barred s n = sim_then
       (begun (deeper j here) at (one (stops_at p (gathering o)) b (deeper j here) at x) s n) n.watch.1
       (λ more. begun (deeper j here) at (one (stops_at p in_order) c (deeper j here) at x) s (listed n more))
       (sim_one p o b c l (deeper j here) at x s (marked (Ran (deeper j here).path at) n))
-      (many (stops_at p (gathering o)) b (knowing (after p here.known x) here) all (suc j) rest barred) (many (stops_at p in_order) c (knowing (after p here.known x) here) all (suc j) rest barred)
-      (sim_many p o b c l (knowing (after p here.known x) here) all (suc j) rest barred)
+      (many (stops_at p (gathering o)) b (knowing (after p here.method at x here.context) here) all (suc j) rest barred) (many (stops_at p in_order) c (knowing (after p here.method at x here.context) here) all (suc j) rest barred)
+      (sim_many p o b c l (knowing (after p here.method at x here.context) here) all (suc j) rest barred)
 
 pub sim_block : {V : Type 0} (p : Code) (o : Observer V) (b : Option (Below (V × List Seen))) (c : Option (Below (List Seen))) → BothFollow b c
     → (here : Where) (x : Lines) → Sims (block (stops_at p (gathering o)) b here x) (block (stops_at p in_order) c here x)
-sim_block p o b c l here x s n = sim_left x (many (stops_at p (gathering o)) b here (whole x here) 0 x [] s n) n.watch.1 (λ rest. many (stops_at p in_order) c here (whole x here) 0 x [] s (listed n rest))
+sim_block p o b c l here x s n = sim_left here.context (many (stops_at p (gathering o)) b here (whole x here) 0 x [] s n) n.watch.1 (λ rest. many (stops_at p in_order) c here (whole x here) 0 x [] s (listed n rest))
     (sim_many p o b c l here (whole x here) 0 x [] s n)
 
 pub sim_below : {V : Type 0} (p : Code) (o : Observer V) (f : ℕ) → BothFollow (below (stops_at p (gathering o)) f) (below (stops_at p in_order) f)

@@ -4,15 +4,21 @@ use Rattle.std.proofs.lemmas.List.{append-nil}
 use Rattle.std.specs.Prelude.{⊤}
 use Rattle.std.specs.Prelude.{option_map}
 use Rattle.ae_code.specs.Plain.{Code}
+use Rattle.ae_rules.specs.Verdict.{Verdict}
+use Rattle.ae_rules.specs.Context.{Context}
+use Rattle.ae_semantics.specs.Contexts.{or_before}
 use Rattle.ae_semantics.specs.Observations.{Seen, Ending, Query, Observer}
 use Rattle.ae_semantics.specs.Runs.{Run, Went, Ends, Stops}
 use Rattle.ae_semantics.specs.Meaning.{block, below}
 use Rattle.ae_semantics.specs.Means.{notes_of, Start, start, no_notes, run, ending_of, meant, in_order, source_machine, mean}
-use Rattle.ae_semantics.specs.Laws.{OneEnding, MoreChangesNothing}
+use Rattle.ae_semantics.specs.Laws.{ContextsAreJudged, OneEnding, MoreChangesNothing}
 use Rattle.ae_semantics.proofs.Follow.{Same, Answers, same_option, same_block, same_below}
 use Rattle.ae_semantics.specs.Gathering.{stops_at, gathering, gathered, GoesByItsAnswers}
 use Rattle.ae_semantics.specs.Atom.{by_query}
 use Rattle.ae_semantics.proofs.Gathered.{Sim, sim_option, sim_block, sim_below}
+
+pub contexts_are_judged : ContextsAreJudged
+contexts_are_judged p m at a c d j = ap (λ (v : Verdict Context). or_before v c) j
 
 some_once : {A : Type 0} (o : Option A) (x y : A) → o ≡ Some x → o ≡ Some y → x ≡ y
 some_once o x y d e = cc

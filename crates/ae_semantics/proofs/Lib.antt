@@ -6,8 +6,15 @@ mod LawLemmas
 mod FlowExamples
 mod Gathered
 mod DeepExamples
+mod ReportWords
 mod ReportExamples
+mod PastExamples
+mod EndingExamples
+mod SourceOrder
+mod Ended
 mod UnfoldingExamples
 mod UnfoldingGroupExamples
 mod UnfoldingLoopExamples
 mod Watched
+mod Kept
+mod Fresh

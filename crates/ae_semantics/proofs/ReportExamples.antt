@@ -1,73 +1,27 @@
 -- Reports of runs, worked out: two blocks in either order, and reports that are refused.
-use Rattle.std.proofs.Common.{◌≡◌, ◌≢◌, ◌<◌, ◌⊎◌, inl, inr, refl, sym, ap, subst, arith, ℕ, zero, suc, nat_lt, nat_eq, true, false, not, ◌&&◌, Bool, List, [], ◌∷◌, ◌++◌, ◌∙◌, map, append-nil, Option, None, Some, Contains}
-use mathlib.Core.Path.{fun_ext}
+use Rattle.ae_code.specs.Edges.{Direct}
+use Rattle.std.proofs.Common.{◌≡◌, ◌<◌, ◌⊎◌, inl, inr, refl, sym, ap, subst, arith, ℕ, zero, suc, nat_eq, true, ◌&&◌, List, [], ◌∷◌, ◌++◌, ◌∙◌, map, Option, None, Some, Contains}
 use Rattle.std.proofs.Math.Dec.{eqb-zero-suc}
-use Rattle.std.proofs.lemmas.Bool.Decides.{eqb_tells}
-use Rattle.std.specs.Prelude.{pos, codes, slice_get}
+use Rattle.std.specs.Prelude.{pos, codes}
 use Rattle.ae_text.specs.declared.refusal.Spot.{Spot}
 use Rattle.ae_code.specs.declared.tree.Need.TheVariants as need_of
 use Rattle.ae_code.specs.declared.tree.Ty.TheVariants as ty
 use Rattle.ae_code.specs.declared.tree.Decl.TheVariants as decl
-use Rattle.ae_code.specs.Plain.{Code, Number, Truth, Read, Value, End, Next, Lines, Definition}
-use Rattle.ae_code.specs.Plain.{Declares, Assigns, Splits, Locks, Prints, Asserts}
+use Rattle.ae_code.specs.Plain.{Code, Number, Read, Value, End, Next, Lines, Definition}
+use Rattle.ae_code.specs.Plain.{Declares, Assigns, Splits, Locks, Prints}
 use Rattle.ae_code.specs.declared.uses.Resource.{Resource}
 use Rattle.ae_code.specs.declared.uses.Resource.TheVariants.{Local, Group}
+use Rattle.ae_code.specs.Edges.{IsConflict}
+use Rattle.ae_rules.specs.Instances.{Instance, Point, inside, first_point, Ordered, Conflict}
+use Rattle.ae_rules.specs.Paths.{comes_before, begins, is_simple_at}
 use Rattle.ae_semantics.specs.Places.{CellName}
-use Rattle.ae_semantics.specs.Known.{Known, known_in, after}
-use Rattle.ae_semantics.specs.Uses.{is_edge, clash}
-use Rattle.ae_semantics.specs.Observations.{Instance, Piece, Image, OfLog, Carried, Ask, Answer, Gave, Trapped, Done, Trap}
-use Rattle.ae_semantics.specs.Instances.{IsBefore, Direct, Through, IsOrdered, IsConflict, uses_in, comes_before, begins, is_simple_at}
+use Rattle.ae_semantics.specs.Observations.{Piece, Image, OfLog, Carried, Ask, Answer, Gave, Trapped, Done}
 use Rattle.ae_semantics.specs.Meaning.{one, many, below}
 use Rattle.ae_semantics.specs.Means.{At, Asking, First, mean, bytes_of}
 use Rattle.ae_semantics.specs.Atom.{atom, part}
-use Rattle.ae_semantics.specs.Report.{Event, Cell, Line, Report, AllPairs, AllDiffer, Rises, of_cell, Leads, LeadsTo, Legal, Explained, mean_of, part_of, asking_of, IsEntered, first_of, Covers, IsOf, IsLater, Keeps, traced_part, Traced}
+use Rattle.ae_semantics.specs.Report.{Event, Cell, Line, Report, AllDiffer, Leads, LeadsTo, Legal, Explained, mean_of, part_of, asking_of, IsEntered, first_of, Covers, IsOf, IsLater, Keeps, traced_part, Traced}
+use Rattle.ae_semantics.proofs.ReportWords.{no_thing, of_two, of_three, pair_of_two, two_differ, some_same, carried_same, asking_same, two_same, and_false, not_both, unparted, part_so, fork_of, conflict_so, used_at, backwards, side_by_side, hidden, unused, rises_two, one_cell, by_test, nothing_given, one_line, two_lines, all_differ-so, no_line}
 use Rattle.ae_semantics.proofs.Programs.{at, name, path, need, top_method, line, nothing_out, number_out}
-
--- ---- the things of short lists
-
-no_thing : {A : Type 0} (z : A) → Contains [] z → ⊥
-no_thing z (k, l, e) = omega (arith, l)
-
-one_thing : {A : Type 0} (x z : A) → Contains (x ∷ []) z → x ≡ z
-one_thing x z (zero, l, e) = e
-one_thing x z (suc k, l, e) = absurd (omega (arith, l))
-
-of_two : {A : Type 0} (P : A → Type 0) (x y : A) → P x → P y → (z : A) → Contains (x ∷ y ∷ []) z → P z
-of_two P x y p q z (zero, l, e) = subst P e p
-of_two P x y p q z (suc zero, l, e) = subst P e q
-of_two P x y p q z (suc (suc k), l, e) = absurd (omega (arith, l))
-
-of_three : {A : Type 0} (P : A → Type 0) (x y w : A) → P x → P y → P w → (z : A) → Contains (x ∷ y ∷ w ∷ []) z → P z
-of_three P x y w p q r z (zero, l, e) = subst P e p
-of_three P x y w p q r z (suc zero, l, e) = subst P e q
-of_three P x y w p q r z (suc (suc zero), l, e) = subst P e r
-of_three P x y w p q r z (suc (suc (suc k)), l, e) = absurd (omega (arith, l))
-
-pair_of_two : {A : Type 0} (rel : A → A → Type 0) (x y : A) → rel x y → AllPairs rel (x ∷ y ∷ [])
-pair_of_two rel x y r = (λ z c. subst (rel x) (one_thing y z c) r, (λ z c. absurd (no_thing z c), tt))
-
-two_differ : (m n : ℕ) → m ≢ n → AllDiffer (m ∷ n ∷ [])
-two_differ m n e = pair_of_two {A = ℕ} (λ (k l : ℕ). k ≢ l) m n e
-
-some_same : {A : Type 0} (x y : A) → Some x ≡ Some y → x ≡ y
-some_same x y e = cc
-
-none_is_not : {A : Type 0} {x : A} → None ≡ Some x → ⊥
-none_is_not i = cc
-
--- ---- what is carried, asked and answered, compared name by name
-
-carried_same : (c d : Carried) → ((x : ℕ) → c.locals x ≡ d.locals x) → ((g : ℕ) → c.stores g ≡ d.stores g) → c.pieces ≡ d.pieces → c ≡ d
-carried_same c d p q r = λ i. record { locals = fun_ext p i; stores = fun_ext q i; pieces = r i }
-
-asking_same : (x y : Asking) → x.cell ≡ y.cell → x.ask.path ≡ y.ask.path → x.ask.method ≡ y.ask.method → x.ask.block ≡ y.ask.block → x.ask.fuel ≡ y.ask.fuel → x.ask.depth ≡ y.ask.depth → x.ask.ins ≡ y.ask.ins → x ≡ y
-asking_same x y a b c d e f g = λ i. record { cell = a i; ask = record { path = b i; method = c i; block = d i; fuel = e i; depth = f i; ins = g i } }
-
-one_same : {A : Type 0} (v x : A) → v ≡ x → v ∷ [] ≡ x ∷ []
-one_same v x e = ap (λ z. z ∷ []) e
-
-two_same : {A : Type 0} (v w x y : A) → v ≡ x → w ≡ y → v ∷ w ∷ [] ≡ x ∷ y ∷ []
-two_same v w x y e d = λ i. e i ∷ d i ∷ []
 
 -- ---- two blocks that print
 
@@ -97,25 +51,25 @@ two_prints = record {
   decls = decl.Method 0 ∷ [];
 }
 
-abbrev first_block : Instance
+abbrev pub first_block : Instance
 first_block = 0 ∷ 0 ∷ []
 
-abbrev second_block : Instance
+abbrev pub second_block : Instance
 second_block = 0 ∷ 1 ∷ []
 
 abbrev asked_at : Instance → ℕ → Ask
 asked_at q block = record { path = q; method = 0; block = block; fuel = 10; depth = 1; ins = nothing_out }
 
-abbrev event_at : Instance → ℕ → ℕ → Event
+abbrev pub event_at : Instance → ℕ → ℕ → Event
 event_at q block stamp = record { cell = 0; path = q; ask = asked_at q block; out = Gave nothing_out; stamp = stamp }
 
 abbrev piece_one : Piece
 piece_one = record { path = 0 ∷ 0 ∷ 0 ∷ []; bytes = line (pos 1) }
 
-abbrev piece_two : Piece
+abbrev pub piece_two : Piece
 piece_two = record { path = 0 ∷ 1 ∷ 0 ∷ []; bytes = line (pos 2) }
 
-abbrev log_cell : List Piece → Cell
+abbrev pub log_cell : List Piece → Cell
 log_cell pieces = record { name = record { path = 0 ∷ []; group = 0 }; first = OfLog []; last = OfLog pieces }
 
 -- a report of the two blocks, with these stamps, in this order of their places
@@ -145,79 +99,47 @@ other_order = report 5 3 (1 ∷ 0 ∷ []) (piece_two ∷ piece_one ∷ []) (line
 
 -- ---- their order
 
-and_false : (b : Bool) → (b && false) ≡ false
-and_false true = refl
-and_false false = refl
-
--- no edge leads from a statement of the split block to another
-no_edges : (i j : ℕ) → is_edge two_prints (known_in two_prints main_method) split_lines i j ≡ false
-no_edges zero zero = refl
-no_edges zero (suc zero) = refl
-no_edges zero (suc (suc j)) = and_false (nat_lt 0 (suc (suc j)))
-no_edges (suc zero) zero = refl
-no_edges (suc zero) (suc zero) = refl
-no_edges (suc zero) (suc (suc j)) = and_false (nat_lt 1 (suc (suc j)))
-no_edges (suc (suc i)) j = and_false (nat_lt (suc (suc i)) j)
-
-not_both : (b : Bool) → b ≡ false → b ≡ true → ⊥
-not_both b e d = cc
-
-and_left : (a b : Bool) → (a && b) ≡ true → a ≡ true
-and_left true b h = refl
-and_left false b h = h
-
-and_right : (a b : Bool) → (a && b) ≡ true → b ≡ true
-and_right true b h = h
-and_right false b h = absurd (not_both false refl h)
-
--- where no edge leads from a statement, no chain does
-no_chain : (p : Code) (k : Known) (b : Lines) (i : ℕ) → ((j : ℕ) → is_edge p k b i j ≡ false) → (j : ℕ) → IsBefore p k b i j → ⊥
-no_chain p k b i none j (Direct _ m e) = not_both _ (none m) e
-no_chain p k b i none j (Through _ m _ e c) = not_both _ (none m) e
-
-abbrev IsBlock : Instance → Type 0
+abbrev pub IsBlock : Instance → Type 0
 IsBlock q = (q ≡ first_block) ⊎ (q ≡ second_block)
 
 -- where no order is kept between the two blocks, none is kept between blocks
-free_in : (p : Code) → (IsOrdered p first_block first_block → ⊥) → (IsOrdered p first_block second_block → ⊥) → (IsOrdered p second_block first_block → ⊥)
-    → (IsOrdered p second_block second_block → ⊥) → (q r : Instance) → IsBlock q → IsBlock r → IsOrdered p q r → ⊥
-free_in p f g h k q r (inl e) (inl d) o = f (subst (λ z. IsOrdered p first_block z) d (subst (λ z. IsOrdered p z r) e o))
-free_in p f g h k q r (inl e) (inr d) o = g (subst (λ z. IsOrdered p first_block z) d (subst (λ z. IsOrdered p z r) e o))
-free_in p f g h k q r (inr e) (inl d) o = h (subst (λ z. IsOrdered p second_block z) d (subst (λ z. IsOrdered p z r) e o))
-free_in p f g h k q r (inr e) (inr d) o = k (subst (λ z. IsOrdered p second_block z) d (subst (λ z. IsOrdered p z r) e o))
+pub free_in : (p : Code) → (Ordered p first_block first_block → ⊥) → (Ordered p first_block second_block → ⊥) → (Ordered p second_block first_block → ⊥)
+    → (Ordered p second_block second_block → ⊥) → (q r : Instance) → IsBlock q → IsBlock r → Ordered p q r → ⊥
+free_in p f g h k q r (inl e) (inl d) o = f (subst (λ z. Ordered p first_block z) d (subst (λ z. Ordered p z r) e o))
+free_in p f g h k q r (inl e) (inr d) o = g (subst (λ z. Ordered p first_block z) d (subst (λ z. Ordered p z r) e o))
+free_in p f g h k q r (inr e) (inl d) o = h (subst (λ z. Ordered p second_block z) d (subst (λ z. Ordered p z r) e o))
+free_in p f g h k q r (inr e) (inr d) o = k (subst (λ z. Ordered p second_block z) d (subst (λ z. Ordered p z r) e o))
 
-free : (q r : Instance) → IsBlock q → IsBlock r → IsOrdered two_prints q r → ⊥
-free = free_in two_prints (λ o. not_both _ refl o) (no_chain two_prints (known_in two_prints main_method) split_lines 0 (no_edges 0) 1)
-    (no_chain two_prints (known_in two_prints main_method) split_lines 1 (no_edges 1) 0) (λ o. not_both _ refl o)
+-- inside the split block
+abbrev pub inside_split : Code → Point
+inside_split p = inside p (first_point p) 0
+
+-- the blocks conflict on nothing
+no_clash : (r : Resource) → IsConflict (used_at two_prints (inside_split two_prints) 0 r) (used_at two_prints (inside_split two_prints) 1 r) → ⊥
+no_clash (Local y) h = unused _ _ (hidden _) h
+no_clash (Group zero) h = absurd (cc)
+no_clash (Group (suc g)) h = unused _ _ (rw (eqb-zero-suc g) refl) h
+
+free : (q r : Instance) → IsBlock q → IsBlock r → Ordered two_prints q r → ⊥
+free = free_in two_prints (unparted two_prints first_block first_block refl)
+    (part_so two_prints first_block second_block (fork_of two_prints first_block second_block) refl (side_by_side two_prints (inside_split two_prints) 0 1 refl refl no_clash))
+    (part_so two_prints second_block first_block (fork_of two_prints second_block first_block) refl (backwards two_prints (inside_split two_prints) 1 0 refl (omega arith)))
+    (unparted two_prints second_block second_block refl)
 
 is_block : (s t : ℕ) (e : Event) → Contains (event_at first_block 2 s ∷ event_at second_block 3 t ∷ []) e → IsBlock e.path
 is_block s t = of_two (λ (e : Event). IsBlock e.path) _ _ (inl refl) (inr refl)
 
 -- ---- what the blocks do
 
-nothing_given : (c : Carried) → ((x : ℕ) → c.locals x ≡ None) → ((g : ℕ) → c.stores g ≡ None) → c.pieces ≡ None → Some (Gave c) ≡ Some (Gave nothing_out)
-nothing_given c p q r = ap (λ (d : Carried). Some (Gave d)) (carried_same c nothing_out p q r)
-
 leads_first : (stamp : ℕ) (pieces : List Piece) → LeadsTo two_prints (event_at first_block 2 stamp) (OfLog pieces) (OfLog (pieces ++ (piece_one ∷ [])))
 unfolding mean one many below atom
-leads_first stamp pieces = record { image = refl; out = nothing_given _ (λ x. refl) (elim [ zero ↦ refl | suc g ↦ rw (eqb-zero-suc g) refl ]) refl }
+leads_first stamp pieces = record { image = refl; out = nothing_given _ (λ x. by_test 2 x (λ e. rw e refl) (λ e. rw e refl)) (elim [ zero ↦ refl | suc g ↦ rw (eqb-zero-suc g) refl ]) refl }
 
 leads_second : (stamp : ℕ) (pieces : List Piece) → LeadsTo two_prints (event_at second_block 3 stamp) (OfLog pieces) (OfLog (pieces ++ (piece_two ∷ [])))
 unfolding mean one many below atom
-leads_second stamp pieces = record { image = refl; out = nothing_given _ (λ x. refl) (elim [ zero ↦ refl | suc g ↦ rw (eqb-zero-suc g) refl ]) refl }
+leads_second stamp pieces = record { image = refl; out = nothing_given _ (λ x. by_test 2 x (λ e. rw e refl) (λ e. rw e refl)) (elim [ zero ↦ refl | suc g ↦ rw (eqb-zero-suc g) refl ]) refl }
 
 -- ---- legal order
-
-rises_two : (es : List Event) (i j : ℕ) (x y : Event) → slice_get es i ≡ Some x → slice_get es j ≡ Some y → x.stamp < y.stamp → Rises es (i ∷ j ∷ [])
-rises_two es i j x y p q l = (λ d e a b. later x y d e (some_same x d (sym p ∙ a)) (some_same y e (sym q ∙ b)) l, tt)
-  where
-    later : (x y d e : Event) → x ≡ d → y ≡ e → x.stamp < y.stamp → d.stamp < e.stamp
-    later x y d e a b l = subst (λ (z : Event). z.stamp < e.stamp) a (subst (λ (z : Event). x.stamp < z.stamp) b l)
-
-one_cell : (p : Code) (es : List Event) (x : Cell) → Leads p (of_cell 0 es) x.first x.last
-    → (i : ℕ) (c : Cell) → slice_get (x ∷ []) i ≡ Some c → Leads p (of_cell i es) c.first c.last
-one_cell p es x l zero c e = subst (λ (z : Cell). Leads p (of_cell 0 es) z.first z.last) (some_same x c e) l
-one_cell p es x l (suc i) c e = absurd (none_is_not e)
 
 in_order-legal : Legal two_prints in_order
 in_order-legal = record {
@@ -244,24 +166,24 @@ other_order-legal = record {
 abbrev log_name : CellName
 log_name = record { path = 0 ∷ []; group = 0 }
 
-abbrev asking : Instance → ℕ → Asking
+abbrev pub asking : Instance → ℕ → Asking
 asking q block = record { cell = log_name; ask = asked_at q block }
 
-abbrev both_asks : List Asking
+abbrev pub both_asks : List Asking
 both_asks = asking first_block 2 ∷ asking second_block 3 ∷ []
 
 -- in source order, and past what stopped, the two blocks ask alike
 asked_in : (s t : ℕ) (order : List ℕ) (pieces : List Piece) (out : List ℕ) (trace : List Line) → (mean_of two_prints [] 10 (report s t order pieces out trace)).asked ≡ both_asks
 unfolding mean one many below
 asked_in s t order pieces out trace = two_same _ _ _ _
-    (asking_same _ _ refl refl refl refl refl refl (carried_same _ nothing_out (λ x. refl) (elim [ zero ↦ refl | suc g ↦ rw (eqb-zero-suc g) refl ]) refl))
-    (asking_same _ _ refl refl refl refl refl refl (carried_same _ nothing_out (λ x. refl) (elim [ zero ↦ refl | suc g ↦ rw (eqb-zero-suc g) refl ]) refl))
+    (asking_same _ _ refl refl refl refl refl refl (carried_same _ nothing_out (λ x. by_test 2 x (λ e. rw e refl) (λ e. rw e refl)) (elim [ zero ↦ refl | suc g ↦ rw (eqb-zero-suc g) refl ]) refl))
+    (asking_same _ _ refl refl refl refl refl refl (carried_same _ nothing_out (λ x. by_test 2 x (λ e. rw e refl) (λ e. rw e refl)) (elim [ zero ↦ refl | suc g ↦ rw (eqb-zero-suc g) refl ]) refl))
 
 asked_past : (s t : ℕ) (order : List ℕ) (pieces : List Piece) (out : List ℕ) (trace : List Line) → (part_of two_prints [] 10 (report s t order pieces out trace)).asked ≡ both_asks
 unfolding part one many below
 asked_past s t order pieces out trace = two_same _ _ _ _
-    (asking_same _ _ refl refl refl refl refl refl (carried_same _ nothing_out (λ x. refl) (elim [ zero ↦ refl | suc g ↦ rw (eqb-zero-suc g) refl ]) refl))
-    (asking_same _ _ refl refl refl refl refl refl (carried_same _ nothing_out (λ x. refl) (elim [ zero ↦ refl | suc g ↦ rw (eqb-zero-suc g) refl ]) refl))
+    (asking_same _ _ refl refl refl refl refl refl (carried_same _ nothing_out (λ x. by_test 2 x (λ e. rw e refl) (λ e. rw e refl)) (elim [ zero ↦ refl | suc g ↦ rw (eqb-zero-suc g) refl ]) refl))
+    (asking_same _ _ refl refl refl refl refl refl (carried_same _ nothing_out (λ x. by_test 2 x (λ e. rw e refl) (λ e. rw e refl)) (elim [ zero ↦ refl | suc g ↦ rw (eqb-zero-suc g) refl ]) refl))
 
 is_asked : (s t : ℕ) (order : List ℕ) (pieces : List Piece) (out : List ℕ) (trace : List Line) (e : Event) (x : Asking) → Contains (report s t order pieces out trace).events e
     → asking_of (report s t order pieces out trace) e ≡ Some x → Contains both_asks x
@@ -293,12 +215,6 @@ explained s t order pieces out trace same legal = record {
   legal = legal;
   out = same;
 }
-
-one_line : (xs : List ℕ) → xs ≡ (xs ++ []) ++ []
-one_line xs = sym (append-nil (xs ++ []) ∙ append-nil xs)
-
-two_lines : (xs ys : List ℕ) → xs ++ ys ≡ (xs ++ (ys ++ [])) ++ []
-two_lines xs ys = sym (append-nil (xs ++ (ys ++ [])) ∙ ap (λ (zs : List ℕ). xs ++ zs) (append-nil ys))
 
 in_order-explained : Explained two_prints [] 10 in_order
 in_order-explained = explained 2 5 in_order.order (piece_one ∷ piece_two ∷ []) in_order.out in_order.trace (two_lines (line (pos 1)) (line (pos 2))) in_order-legal
@@ -367,14 +283,18 @@ written_then_printed = record {
   decls = decl.Method 0 ∷ [];
 }
 
-written_first : IsOrdered written_then_printed (1 ∷ 0 ∷ []) (1 ∷ 1 ∷ [])
-written_first = Direct 0 1 refl
+written_first : Ordered written_then_printed (1 ∷ 0 ∷ []) (1 ∷ 1 ∷ [])
+written_first = record {
+  fork = fork_of written_then_printed (1 ∷ 0 ∷ []) (1 ∷ 1 ∷ []);
+  parts = refl;
+  order = inr (Direct 0 1 (record { before = omega arith; on = Local 3; conflict = refl; clear = λ k l m. absurd (omega (arith, l, m)) }));
+}
 
 -- in every legal report the block that writes has the lower stamp
 written_first-legal : (r : Report) → Legal written_then_printed r → (d e : Event) → Contains r.events d → Contains r.events e
     → d.path ≡ 1 ∷ 0 ∷ [] → e.path ≡ 1 ∷ 1 ∷ [] → d.stamp < e.stamp
 written_first-legal r l d e a b p q = l.ordered d e a b
-    (subst (λ z. IsOrdered written_then_printed z e.path) (sym p) (subst (λ z. IsOrdered written_then_printed (1 ∷ 0 ∷ []) z) (sym q) written_first))
+    (subst (λ z. Ordered written_then_printed z e.path) (sym p) (subst (λ z. Ordered written_then_printed (1 ∷ 0 ∷ []) z) (sym q) written_first))
 
 -- the report with the blocks in that order, which is legal
 abbrev writing : Event
@@ -407,45 +327,26 @@ printing_first = record writing_first { events = record writing { stamp = 2 } �
 printing_first-refused : Legal written_then_printed printing_first → ⊥
 printing_first-refused r = omega (arith, r.ordered (record writing { stamp = 2 }) (record printing { stamp = 1 }) (0, omega arith, refl) (1, omega arith, refl) written_first)
 
-by_test : {A : Type 0} (m n : ℕ) → (nat_eq m n ≡ true → A) → (nat_eq m n ≡ false → A) → A
-by_test {A = A} m n f g = tested (eqb_tells m n)
-  where
-    tested : ((nat_eq m n ≡ true) × (m ≡ n)) ⊎ ((nat_eq m n ≡ false) × (m ≢ n)) → A
-    tested (inl x) = f x.0
-    tested (inr x) = g x.0
-
 leads_writing : LeadsTo written_then_printed writing (OfLog []) (OfLog [])
 unfolding mean one many below atom
-leads_writing = record { image = refl; out = ap (λ (c : Carried). Some (Gave c)) (carried_same _ (number_out 3 (pos 1)) (λ x. by_test 3 x (λ e. rw e refl) (λ e. rw e refl)) (elim [ zero ↦ refl | suc g ↦ rw (eqb-zero-suc g) refl ]) refl) }
+leads_writing = record { image = refl; out = ap (λ (c : Carried). Some (Gave c)) (carried_same _ (number_out 3 (pos 1)) (λ x. by_test 3 x (λ e. rw e refl) (λ e. by_test 2 x (λ d. rw (e, d) refl) (λ d. rw (e, d) refl))) (elim [ zero ↦ refl | suc g ↦ rw (eqb-zero-suc g) refl ]) refl) }
 
 leads_printing : LeadsTo written_then_printed printing (OfLog []) (OfLog (printed_one ∷ []))
 unfolding mean one many below atom
-leads_printing = record { image = refl; out = nothing_given _ (λ x. by_test 3 x (λ e. rw e refl) (λ e. rw e refl)) (elim [ zero ↦ refl | suc g ↦ rw (eqb-zero-suc g) refl ]) refl }
+leads_printing = record { image = refl; out = nothing_given _ (λ x. by_test 3 x (λ e. rw e refl) (λ e. by_test 2 x (λ d. rw (e, d) refl) (λ d. rw (e, d) refl))) (elim [ zero ↦ refl | suc g ↦ rw (eqb-zero-suc g) refl ]) refl }
 
-abbrev inner_lines : Lines
-inner_lines =
-    Next (at 4 1) (Locks (name 0 4 8) 2
-    (Next (at 4 13) (Assigns (name 3 4 13) (Value (Number (pos 1) (at 4 17)))) End))
-    (Next (at 5 1) (Locks (name 0 5 8) 3
-    (Next (at 5 13) (Prints (Read (path (name 3 5 19) []))) End)) End)
-
-abbrev at_inner : Known
-at_inner = after written_then_printed (known_in written_then_printed writing_method) (Declares (ty.Int (at 2 5)) (name 3 2 9) (Value (Number (pos 0) (at 2 13))))
-
--- no edge leads from the block that prints
-no_edge_back : (j : ℕ) → is_edge written_then_printed at_inner inner_lines 1 j ≡ false
-no_edge_back zero = refl
-no_edge_back (suc zero) = refl
-no_edge_back (suc (suc j)) = and_false (nat_lt 1 (suc (suc j)))
+not_written_last : Ordered written_then_printed (1 ∷ 1 ∷ []) (1 ∷ 0 ∷ []) → ⊥
+not_written_last = part_so written_then_printed (1 ∷ 1 ∷ []) (1 ∷ 0 ∷ []) (fork_of written_then_printed (1 ∷ 1 ∷ []) (1 ∷ 0 ∷ [])) refl
+    (backwards written_then_printed (inside written_then_printed (first_point written_then_printed) 1) 1 0 refl (omega arith))
 
 -- of the two blocks only the one that writes keeps its place before the other
 abbrev StampsRise : Event → Event → Type 0
-StampsRise d e = IsOrdered written_then_printed d.path e.path → d.stamp < e.stamp
+StampsRise d e = Ordered written_then_printed d.path e.path → d.stamp < e.stamp
 
 rises_from : (d e : Event) → Contains writing_first.events d → Contains writing_first.events e → StampsRise d e
 rises_from d e a b = of_two (λ (x : Event). (y : Event) → Contains writing_first.events y → StampsRise x y) writing printing
-    (of_two (StampsRise writing) writing printing (λ o. absurd (not_both _ refl o)) (λ o. omega arith))
-    (of_two (StampsRise printing) writing printing (λ o. absurd (no_chain written_then_printed at_inner inner_lines 1 no_edge_back 0 o)) (λ o. absurd (not_both _ refl o)))
+    (of_two (StampsRise writing) writing printing (λ o. absurd (unparted written_then_printed (1 ∷ 0 ∷ []) (1 ∷ 0 ∷ []) refl o)) (λ o. omega arith))
+    (of_two (StampsRise printing) writing printing (λ o. absurd (not_written_last o)) (λ o. absurd (unparted written_then_printed (1 ∷ 1 ∷ []) (1 ∷ 1 ∷ []) refl o)))
     d a e b
 
 writing_first-legal : Legal written_then_printed writing_first
@@ -464,14 +365,14 @@ written_asks = record { cell = written_cell.name; ask = writing.ask } ∷ record
 writing_first-asks : (mean_of written_then_printed [] 10 writing_first).asked ≡ written_asks
 unfolding mean one many below
 writing_first-asks = two_same _ _ _ _
-    (asking_same _ _ refl refl refl refl refl refl (carried_same _ (number_out 3 (pos 0)) (λ x. by_test 3 x (λ e. rw e refl) (λ e. rw e refl)) (elim [ zero ↦ refl | suc g ↦ rw (eqb-zero-suc g) refl ]) refl))
-    (asking_same _ _ refl refl refl refl refl refl (carried_same _ (number_out 3 (pos 1)) (λ x. by_test 3 x (λ e. rw e refl) (λ e. rw e refl)) (elim [ zero ↦ refl | suc g ↦ rw (eqb-zero-suc g) refl ]) refl))
+    (asking_same _ _ refl refl refl refl refl refl (carried_same _ (number_out 3 (pos 0)) (λ x. by_test 3 x (λ e. rw e refl) (λ e. by_test 2 x (λ d. rw (e, d) refl) (λ d. rw (e, d) refl))) (elim [ zero ↦ refl | suc g ↦ rw (eqb-zero-suc g) refl ]) refl))
+    (asking_same _ _ refl refl refl refl refl refl (carried_same _ (number_out 3 (pos 1)) (λ x. by_test 3 x (λ e. rw e refl) (λ e. by_test 2 x (λ d. rw (e, d) refl) (λ d. rw (e, d) refl))) (elim [ zero ↦ refl | suc g ↦ rw (eqb-zero-suc g) refl ]) refl))
 
 writing_first-asks_past : (part_of written_then_printed [] 10 writing_first).asked ≡ written_asks
 unfolding part one many below
 writing_first-asks_past = two_same _ _ _ _
-    (asking_same _ _ refl refl refl refl refl refl (carried_same _ (number_out 3 (pos 0)) (λ x. by_test 3 x (λ e. rw e refl) (λ e. rw e refl)) (elim [ zero ↦ refl | suc g ↦ rw (eqb-zero-suc g) refl ]) refl))
-    (asking_same _ _ refl refl refl refl refl refl (carried_same _ (number_out 3 (pos 1)) (λ x. by_test 3 x (λ e. rw e refl) (λ e. rw e refl)) (elim [ zero ↦ refl | suc g ↦ rw (eqb-zero-suc g) refl ]) refl))
+    (asking_same _ _ refl refl refl refl refl refl (carried_same _ (number_out 3 (pos 0)) (λ x. by_test 3 x (λ e. rw e refl) (λ e. by_test 2 x (λ d. rw (e, d) refl) (λ d. rw (e, d) refl))) (elim [ zero ↦ refl | suc g ↦ rw (eqb-zero-suc g) refl ]) refl))
+    (asking_same _ _ refl refl refl refl refl refl (carried_same _ (number_out 3 (pos 1)) (λ x. by_test 3 x (λ e. rw e refl) (λ e. by_test 2 x (λ d. rw (e, d) refl) (λ d. rw (e, d) refl))) (elim [ zero ↦ refl | suc g ↦ rw (eqb-zero-suc g) refl ]) refl))
 
 is_written_asked : (e : Event) (x : Asking) → Contains writing_first.events e → asking_of writing_first e ≡ Some x → Contains written_asks x
 is_written_asked e x c = of_two (λ (d : Event). asking_of writing_first d ≡ Some x → Contains written_asks x) writing printing
@@ -504,33 +405,6 @@ writing_first-explained = record {
 
 -- ---- traced
 
-differs_by : (m n : ℕ) → ((nat_eq m n ≡ true) × (m ≡ n)) ⊎ ((nat_eq m n ≡ false) × (m ≢ n)) → not (nat_eq m n) ≡ true → m ≢ n
-differs_by m n (inl x) e = absurd (not_both (not (nat_eq m n)) (ap not x.0) e)
-differs_by m n (inr x) e = x.1
-
-differs : (m n : ℕ) → not (nat_eq m n) ≡ true → m ≢ n
-differs m n = differs_by m n (eqb_tells m n)
-
-abbrev is_absent : ℕ → List ℕ → Bool
-is_absent m [] = true
-is_absent m (x ∷ xs) = not (nat_eq m x) && is_absent m xs
-
-abbrev all_differ : List ℕ → Bool
-all_differ [] = true
-all_differ (x ∷ xs) = is_absent x xs && all_differ xs
-
-absent : (m : ℕ) (xs : List ℕ) → is_absent m xs ≡ true → (z : ℕ) → Contains xs z → m ≢ z
-absent m [] h z (k, l, e) = absurd (omega (arith, l))
-absent m (x ∷ xs) h z (zero, l, e) = subst (λ y. m ≢ y) e (differs m x (and_left _ _ h))
-absent m (x ∷ xs) h z (suc k, l, e) = absent m xs (and_right _ _ h) z (k, omega (arith, l), e)
-
-no_line : {P : Line → Type 0} → ((l : Line) × Contains [] l × P l) → ⊥
-no_line x = no_thing x.0 x.1
-
-all_differ-so : (xs : List ℕ) → all_differ xs ≡ true → AllDiffer xs
-all_differ-so [] h = tt
-all_differ-so (x ∷ xs) h = (absent x xs (and_left _ _ h), all_differ-so xs (and_right _ _ h))
-
 apart : (q : Instance) → begins first_block q ≡ true → begins second_block q ≡ true → ⊥
 apart [] e d = not_both _ refl e
 apart (a ∷ []) e d = not_both _ (and_false (nat_eq 0 a)) e
@@ -549,14 +423,8 @@ lines_apart s t order pieces out trace l m e d q (inl x) (inl y) = apart q (subs
 lines_apart s t order pieces out trace l m e d q (inl x) (inr y) = absurd (no_thing y.0 y.1)
 lines_apart s t order pieces out trace l m e d q (inr x) y = absurd (no_thing x.0 x.1)
 
--- the blocks conflict on nothing
-no_clash : (x : Resource) → clash (uses_in two_prints 4 (known_in two_prints main_method) split_lines (0 ∷ []) x) (uses_in two_prints 4 (known_in two_prints main_method) split_lines (1 ∷ []) x) ≡ false
-no_clash (Local y) = refl
-no_clash (Group zero) = refl
-no_clash (Group (suc g)) = rw (eqb-zero-suc g) refl
-
-no_conflict : IsConflict two_prints first_block second_block → ⊥
-no_conflict x = not_both _ (no_clash x.0) x.1
+no_conflict : Conflict two_prints first_block second_block → ⊥
+no_conflict = conflict_so two_prints first_block second_block (fork_of two_prints first_block second_block) refl no_clash
 
 abbrev HasLine : Report → At → Type 0
 HasLine r x = (l : Line) × Contains r.trace l × Covers (traced_part two_prints [] 10 r) l x.path
@@ -615,127 +483,3 @@ early_print-refused r = omega (arith, r.keeps.0 (block_line (1 ∷ 1 ∷ []) 5 3
 empty_trace-refused : Traced written_then_printed [] 10 writing_first → ⊥
 unfolding mean one many below
 empty_trace-refused r = no_line (r.all_run (record { path = 0 ∷ []; spot = at 2 1 }) (0, omega arith, refl) refl)
-
--- ---- a block that traps, and one past it
-
--- The first block traps. The second one ran, and its prints do not count.
---     method void main() with exclusive io {
---     split io {
---     atomic io { print 1; assert false; }
---     atomic io { print 2; }
---     }
---     }
-abbrev trap_lines : Lines
-trap_lines =
-    Next (at 3 1) (Locks (name 0 3 8) 2
-    (Next (at 3 13) (Prints (Number (pos 1) (at 3 19)))
-    (Next (at 3 22) (Asserts (Truth false (at 3 29))) End)))
-    (Next (at 4 1) (Locks (name 0 4 8) 3
-    (Next (at 4 13) (Prints (Number (pos 2) (at 4 19))) End)) End)
-
-abbrev trap_method : Definition
-trap_method = top_method None (name 1 1 13) [] [] (need need_of.Exclusive (name 0 1 35) ∷ [])
-    (Next (at 2 1) (Splits ((name 0 2 7) ∷ []) 1 trap_lines) End)
-
-abbrev trap_before_a_print : Code
-trap_before_a_print = record {
-  names = codes "io" ∷ codes "main" ∷ codes "this" ∷ [];
-  classes = [];
-  methods = trap_method ∷ [];
-  decls = decl.Method 0 ∷ [];
-}
-
--- the answer of the block that trapped
-abbrev trap_event : Event
-trap_event = record (event_at first_block 2 2) { out = Trapped 5 (at 3 22) }
-
--- The second block went first, and is past the ending.
-abbrev trapped : Report
-trapped = record {
-  ending = Trap 5 (at 3 22);
-  out = [];
-  events = trap_event ∷ event_at second_block 3 1 ∷ [];
-  past = 1;
-  order = 1 ∷ 0 ∷ [];
-  cells = log_cell (piece_two ∷ []) ∷ [];
-  trace = [];
-}
-
--- a block that traps leaves the log as it was
-leads_trap : (pieces : List Piece) → LeadsTo trap_before_a_print trap_event (OfLog pieces) (OfLog pieces)
-unfolding mean one many below atom
-leads_trap pieces = record { image = refl; out = refl }
-
-leads_past : LeadsTo trap_before_a_print (event_at second_block 3 1) (OfLog []) (OfLog (piece_two ∷ []))
-unfolding mean one many below atom
-leads_past = record { image = refl; out = nothing_given _ (λ x. refl) (elim [ zero ↦ refl | suc g ↦ rw (eqb-zero-suc g) refl ]) refl }
-
-trap_edges : (i j : ℕ) → is_edge trap_before_a_print (known_in trap_before_a_print trap_method) trap_lines i j ≡ false
-trap_edges zero zero = refl
-trap_edges zero (suc zero) = refl
-trap_edges zero (suc (suc j)) = and_false (nat_lt 0 (suc (suc j)))
-trap_edges (suc zero) zero = refl
-trap_edges (suc zero) (suc zero) = refl
-trap_edges (suc zero) (suc (suc j)) = and_false (nat_lt 1 (suc (suc j)))
-trap_edges (suc (suc i)) j = and_false (nat_lt (suc (suc i)) j)
-
-trap_free : (q r : Instance) → IsBlock q → IsBlock r → IsOrdered trap_before_a_print q r → ⊥
-trap_free = free_in trap_before_a_print (λ o. not_both _ refl o)
-    (no_chain trap_before_a_print (known_in trap_before_a_print trap_method) trap_lines 0 (trap_edges 0) 1)
-    (no_chain trap_before_a_print (known_in trap_before_a_print trap_method) trap_lines 1 (trap_edges 1) 0) (λ o. not_both _ refl o)
-
-is_trapped_block : (e : Event) → Contains trapped.events e → IsBlock e.path
-is_trapped_block = of_two (λ (e : Event). IsBlock e.path) trap_event (event_at second_block 3 1) (inl refl) (inr refl)
-
-trapped-legal : Legal trap_before_a_print trapped
-trapped-legal = record {
-  differ = two_differ 2 1 (λ (e : 2 ≡ 1). omega (arith, e));
-  places = elim [ zero ↦ (λ l. (1, omega arith, refl), λ c. omega arith) | suc zero ↦ (λ l. (0, omega arith, refl), λ c. omega arith) | suc (suc i) ↦ (λ l. absurd (omega (arith, l)), λ c. of_two (λ z. z < 2) 1 0 (omega arith) (omega arith) (suc (suc i)) c) ];
-  once = two_differ 1 0 (λ (e : 1 ≡ 0). omega (arith, e));
-  rises = rises_two trapped.events 1 0 (event_at second_block 3 1) trap_event refl refl (omega arith);
-  leads = one_cell trap_before_a_print (event_at second_block 3 1 ∷ trap_event ∷ []) (log_cell (piece_two ∷ [])) (OfLog (piece_two ∷ []), leads_past, (OfLog (piece_two ∷ []), leads_trap (piece_two ∷ []), refl));
-  ordered = λ d e a b o. absurd (trap_free d.path e.path (is_trapped_block d a) (is_trapped_block e b) o);
-}
-
-trapped-asks : (mean_of trap_before_a_print [] 10 trapped).asked ≡ asking first_block 2 ∷ []
-unfolding mean one many below
-trapped-asks = one_same _ _ (asking_same _ _ refl refl refl refl refl refl (carried_same _ nothing_out (λ x. refl) (elim [ zero ↦ refl | suc g ↦ rw (eqb-zero-suc g) refl ]) refl))
-
--- past the ending the second block asks too
-trapped-asks_past : (part_of trap_before_a_print [] 10 trapped).asked ≡ both_asks
-unfolding part one many below
-trapped-asks_past = two_same _ _ _ _
-    (asking_same _ _ refl refl refl refl refl refl (carried_same _ nothing_out (λ x. refl) (elim [ zero ↦ refl | suc g ↦ rw (eqb-zero-suc g) refl ]) refl))
-    (asking_same _ _ refl refl refl refl refl refl (carried_same _ nothing_out (λ x. refl) (elim [ zero ↦ refl | suc g ↦ rw (eqb-zero-suc g) refl ]) refl))
-
-is_trapped_asked : (e : Event) (x : Asking) → Contains trapped.events e → asking_of trapped e ≡ Some x → Contains both_asks x
-is_trapped_asked e x c = of_two (λ (d : Event). asking_of trapped d ≡ Some x → Contains both_asks x) trap_event (event_at second_block 3 1)
-    (λ q. (0, omega arith, some_same (asking first_block 2) x q)) (λ q. (1, omega arith, some_same (asking second_block 3) x q)) e c
-
-is_trapped_cell : (x : First) → IsEntered trap_before_a_print [] 10 trapped x → Contains (map first_of trapped.cells) x
-unfolding mean part one many below
-is_trapped_cell x (inl c) = c
-is_trapped_cell x (inr c) = c.0
-
-not_done : (code : ℕ) (spot : Spot) → Trap code spot ≡ Done → ⊥
-not_done code spot e = cc
-
--- The trap is the ending, the second block is past it, and nothing is printed.
-trapped-explained : Explained trap_before_a_print [] 10 trapped
-unfolding mean part one many below atom
-trapped-explained = record {
-  ending = refl;
-  used = refl;
-  events_used = ap (map Some) trapped-asks;
-  sorted = pair_of_two (λ (d e : Event). comes_before d.path e.path ≡ true) trap_event (event_at second_block 3 1) refl;
-  own_path = of_two (λ (e : Event). e.ask.path ≡ e.path) trap_event (event_at second_block 3 1) refl refl;
-  past_later = λ e c. subst (λ (d : Event). comes_before first_block d.path ≡ true) (one_thing (event_at second_block 3 1) e c) refl;
-  none_past = λ d. absurd (not_done 5 (at 3 22) d);
-  past_within = omega arith;
-  asked = λ e x c q. subst (λ (l : List Asking). Contains l x) (sym trapped-asks_past) (is_trapped_asked e x c q);
-  of_a_cell = of_two (λ (e : Event). e.cell < 1) trap_event (event_at second_block 3 1) (omega arith) (omega arith);
-  cells = λ x. (λ c. inl c, is_trapped_cell x);
-  cells_sorted = (λ z c. absurd (no_thing z c), tt);
-  legal = trapped-legal;
-  out = refl;
-}

@@ -1,18 +1,21 @@
 -- Trees of a small program that stand for its meaning past what stopped.
+use Rattle.ae_code.specs.Edges.{Direct}
 use Rattle.std.proofs.Common.{◌≡◌, inl, inr, refl, sym, subst, arith, ℕ, zero, suc, pos, true, List, [], ◌∷◌, Option, None, Some, Contains}
 use Rattle.std.specs.Prelude.{Bool, false, nat_eq, if◌then◌else◌, map}
 use Rattle.ae_code.specs.declared.form.Form.TheVariants as f
+use Rattle.ae_code.specs.declared.uses.Resource.TheVariants.{Local}
 use Rattle.ae_semantics.specs.Values.{Val, OfInt}
 use Rattle.ae_semantics.specs.Places.{Bound}
-use Rattle.ae_semantics.specs.Uses.{shuts_out, stronger}
+use Rattle.ae_rules.specs.Uses.{stronger}
+use Rattle.ae_semantics.specs.Contexts.{shuts_out}
 use Rattle.ae_code.specs.declared.uses.Mode.TheVariants as mode
 use Rattle.ae_semantics.specs.Observations.{Trap}
-use Rattle.ae_semantics.specs.Instances.{Direct}
 use Rattle.ae_semantics.proofs.Programs.{at}
-use Rattle.ae_semantics.specs.Fields.{given}
+use Rattle.ae_rules.specs.Verdict.{given}
 use Rattle.ae_semantics.specs.Meaning.{one, many, below}
 use Rattle.ae_semantics.specs.Atom.{part}
 use Rattle.ae_semantics.specs.Unfolding.{Passage, AgreesOnChanged, uses_of, Frame, Begun, NoMore, Moment, Within, IsAfter, trail, fresh, StandsFor, part_of, trail_of, results, frames, halted, left_out, Then, Halted, Finished, LeftOut, Waiting, Gained, IsEntered, IsLeft, halt_place}
+use Rattle.ae_semantics.proofs.ReportWords.{fork_of}
 use Rattle.ae_semantics.proofs.FlowExamples.{trap_beside_a_print}
 
 -- P holds of each thing of a list
@@ -96,7 +99,15 @@ unfolding part trail one many below
 halfway-entered = (_, (0, omega arith, refl), refl, refl, record { locals = λ x h. refl; groups = λ g h. refl; result = refl; log = λ h. refl })
 
 first-before-third : IsAfter trap_beside_a_print (map halt_place (halted halfway)) (2 ∷ [])
-first-before-third = (Within (0 ∷ []), (0, omega arith, refl), Direct 0 2 refl)
+first-before-third = (
+  Within (0 ∷ []),
+  (0, omega arith, refl),
+  record {
+    fork = fork_of trap_beside_a_print (0 ∷ []) (2 ∷ []);
+    parts = refl;
+    order = inr (Direct 0 2 (record { before = omega arith; on = Local 3; conflict = refl; clear = elim [ zero ↦ (λ l m. absurd (omega (arith, l))) | suc zero ↦ (λ l m. tt) | suc (suc k) ↦ (λ l m. absurd (omega (arith, m))) ] }));
+  },
+)
 
 halfway-stands : StandsFor trap_beside_a_print [] 100 halfway
 unfolding part trail one many below

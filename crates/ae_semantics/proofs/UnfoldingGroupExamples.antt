@@ -1,16 +1,17 @@
 -- A tree with a split block that is being run: one call is done, one has its body begun, and two wait.
-use Rattle.std.proofs.Common.{inl, inr, refl, arith, ℕ, pos, List, [], ◌∷◌, Option, None, Some}
+use Rattle.std.proofs.Common.{◌≡◌, inl, inr, refl, ap, arith, ℕ, pos, List, [], ◌∷◌, Option, None, Some, Contains}
 use Rattle.std.specs.Prelude.{slice_get, if◌then◌else◌}
-use Rattle.ae_semantics.specs.Fields.{given}
+use Rattle.ae_rules.specs.Verdict.{given}
 use Rattle.ae_semantics.specs.Values.{OfInt, Object, values}
 use Rattle.ae_semantics.specs.Observations.{Image, OfStore, Answer, Gave, Seen, OfBlock, OfCell, Query, AtBlock, AtEnd}
 use Rattle.ae_semantics.specs.Meaning.{one, many, below}
-use Rattle.ae_semantics.specs.Means.{Asking, First}
+use Rattle.ae_semantics.specs.Means.{Asking}
 use Rattle.ae_semantics.specs.Atom.{part}
 use Rattle.ae_semantics.specs.Report.{Cell, same_instance}
 use Rattle.ae_semantics.specs.Unfolding.{Frame, IsLeft, IsEntered, Begun, NoMore, Then, Waiting, Task, Finished, InCall, InSplit, Moment, Passage, Happened, Gained, Within, Only, trail, StandsFor, part_of, trail_of, results, unfolded, frames, events, cells}
 use Rattle.ae_semantics.proofs.Programs.{at}
 use Rattle.ae_semantics.proofs.FlowExamples.{four_calls}
+use Rattle.ae_semantics.proofs.ReportWords.{asking_same, carried_same}
 use Rattle.ae_semantics.proofs.UnfoldingExamples.{every, no_values, nothing_gained}
 
 -- the first call's block has answered, and the count is one
@@ -43,7 +44,7 @@ abbrev asked_first : Asking
 asked_first = given (slice_get (part four_calls [] 100 known_so_far).asked 0) no_asking (λ (x : Asking). x)
 
 abbrev entered_with : Image
-entered_with = given (slice_get (part four_calls [] 100 known_so_far).firsts 0) one_counted (λ (x : First). x.image)
+entered_with = OfStore (Object 3 (values (OfInt (pos 0) ∷ [])) ∷ [])
 
 abbrev first_event : Happened
 first_event = record { asking = asked_first; out = nothing_out; stamp = 1 }
@@ -85,6 +86,15 @@ body_entered : IsEntered four_calls (trail_of four_calls [] 100 tree) (3 ∷ 1 �
 unfolding part trail one many below
 body_entered = (_, (7, omega arith, refl), refl, refl, record { locals = λ x h. refl; groups = λ g h. refl; result = refl; log = λ h. refl })
 
+first_thing : {A : Type 0} (xs : List A) (x : A) → slice_get xs 0 ≡ Some x → Contains xs x
+first_thing [] x e = absurd (cc e)
+first_thing (y ∷ ys) x e = (0, omega arith, cc e)
+
+-- by the tree's own observations the first block asks the same
+asked-same : slice_get (part_of four_calls [] 100 tree).asked 0 ≡ Some asked_first
+unfolding part one many below
+asked-same = ap Some (asking_same _ _ refl refl refl refl refl refl (carried_same _ _ (λ x. refl) (λ g. refl) refl))
+
 tree-stands : StandsFor four_calls [] 100 tree
 unfolding part trail one many below
 tree-stands = record {
@@ -107,7 +117,7 @@ tree-stands = record {
   each_entered = every _ (frames tree) (main_entered, (split_entered, (body_entered, tt)));
   each_halt = every _ [] tt;
   each_left_out = every _ [] tt;
-  each_event = every _ (events tree) (record { answer = refl; asked = (0, omega arith, refl) }, tt);
+  each_event = every _ (events tree) (record { answer = refl; asked = first_thing (part_of four_calls [] 100 tree).asked asked_first asked-same }, tt);
   each_cell = every _ (cells tree) (record { last = refl; entered = (0, omega arith, refl) }, tt);
   all_others = every _ (part_of four_calls [] 100 tree).ran (
     inl (Within (0 ∷ []), (0, omega arith, refl), refl),

@@ -1,4 +1,5 @@
 -- The run that is watched goes as the run of the meaning past what stopped.
+use Rattle.ae_code.specs.Edges.{Uses}
 use Rattle.std.proofs.Common.{◌≡◌, ℕ, zero, suc, nat_eq, nat_lt, Bool, true, false, if◌then◌else◌, List, [], ◌∷◌, Option, None, Some, refl, ap, sym, subst}
 use Rattle.std.specs.Prelude.{⊤}
 use Rattle.ae_text.specs.declared.refusal.Spot.{Spot}
@@ -8,16 +9,18 @@ use Rattle.ae_code.specs.Form.{form}
 use Rattle.ae_code.specs.Names.{io}
 use Rattle.ae_code.specs.Plain.{Expression, Invocation, RightSide, Value, Taken, Zeros, Made, Returned, Lines, End, Next, Code}
 use Rattle.ae_code.specs.Plain.{Action, Declares, Assigns, Stores, StoresAt, Calls, Chooses, ChoosesElse, Repeats, Groups, Splits, Locks, Freezes, Shares, Prints, PrintsText, Asserts, Returns}
-use Rattle.ae_semantics.specs.Fields as fields
+use Rattle.ae_rules.specs.Verdict as rules
+use Rattle.ae_rules.specs.Context.{Local, Context}
+use Rattle.ae_rules.specs.Blocks.{Scene}
 use Rattle.ae_semantics.specs.Values.{Val}
 use Rattle.ae_semantics.specs.Places.{Outcome, Fine, Traps, Lacks, ◌>>=◌, there, CellName, State, bind}
 use Rattle.ae_semantics.specs.Expressions.{value, truth_of}
-use Rattle.ae_semantics.specs.Known.{Known, after, moved_right}
-use Rattle.ae_semantics.specs.Uses.{Uses}
+use Rattle.ae_semantics.specs.Contexts.{after}
 use Rattle.ae_semantics.specs.Observations.{Piece, Image, OfStore, OfLog, Ask, Answer, Gave, Trapped, Spent, Seen, OfBlock, OfCell, Query, AtBlock, AtEnd, Trap, Ran, Turned, Asked, Notes, Observer}
-use Rattle.ae_semantics.specs.Runs.{Run, Went, Ends, Stops, Act, and_then, given, paid, chosen, marked, deeper, Where, Whole, Machine, Below, fuel_of}
+use Rattle.ae_semantics.specs.Runs.{Run, Went, Ends, Stops, Act, and_then, given, paid, chosen, marked, deeper, Where, knowing, splitting, locking, whole, Machine, Below, fuel_of}
 use Rattle.std.specs.Prelude.{option_map, ◌++◌}
-use Rattle.ae_semantics.specs.Observations.{Instance, Stopped}
+use Rattle.ae_semantics.specs.Observations.{Stopped}
+use Rattle.ae_rules.specs.Instances.{Instance}
 use Rattle.ae_semantics.specs.Runs.{flowing, flow_step, flow_close, is_left_out, absent, gone_on}
 use Rattle.ae_semantics.specs.Unfolding.{Trail, watching, watched, behind, passage, with_found}
 use Rattle.std.specs.Prelude.{ℤ}
@@ -26,7 +29,7 @@ use Rattle.ae_semantics.specs.Atom.{by_query, flow_machine, part}
 use Rattle.ae_semantics.specs.Unfolding.{by_table, no_trail, watched_run, WatchingChangesNothing}
 use Rattle.ae_semantics.specs.Calls.{Frame, enter, leave, moved}
 use Rattle.ae_semantics.specs.Blocks.{image_of, to_cell, goes_away, all_go_away, store_back, log_back, unless_stopped, used, cell_back, comes_back, all_come_back, cell_at, out_fits, answered, block_back, ask_of, else_uses, put_to, asks}
-use Rattle.ae_semantics.specs.Meaning.{stored, stored_at, frozen, shared, returns, printed, prints, begun, knowing, assigned, result_to, made, sets, body_run, call_run, call, asserts, does, left, again, split_around, splits, locks, whole, one, many, block, below}
+use Rattle.ae_semantics.specs.Meaning.{stored, stored_at, frozen, shared, returns, printed, prints, begun, assigned, result_to, made, right_moved, sets, body_run, call_run, call, asserts, does, left, again, split_around, splits, locks, one, many, block, below}
 
 abbrev pub watches : Code → Observer Trail → Machine Trail
 watches p o = record { code = p; observer = o; order = watching p }
@@ -70,15 +73,15 @@ same_if : (h : Trail → ⊤) (b : Bool) (f1 f2 : Run Trail) (g1 g2 : Run ⊤) �
 same_if h true f1 f2 g1 g2 d e = d
 same_if h false f1 f2 g1 g2 d e = e
 
-pub same_option : {A : Type 0} (h : Trail → ⊤) (o : Option A) (r : Run Trail) (q : Run ⊤) (f : A → Run Trail) (g : A → Run ⊤) → Same h r q → ((x : A) → Same h (f x) (g x)) → Same h (fields.given o r f) (fields.given o q g)
+pub same_option : {A : Type 0} (h : Trail → ⊤) (o : Option A) (r : Run Trail) (q : Run ⊤) (f : A → Run Trail) (g : A → Run ⊤) → Same h r q → ((x : A) → Same h (f x) (g x)) → Same h (rules.given o r f) (rules.given o q g)
 same_option h None r q f g d k = d
 same_option h (Some x) r q f g d k = k x
 
 same_observed : (h : Trail → ⊤) (o : Option (Seen × Trail)) (u : Option (Seen × ⊤)) (n : Notes Trail) (f : Seen × Trail → Run Trail) (g : Seen × ⊤ → Run ⊤)
     → u ≡ option_map (λ (x : Seen × Trail). (x.0, h x.1)) o → ((x : Seen) (v : Trail) → Same h (f (x, v)) (g (x, h v)))
-    → Same h (fields.given o (Stops n) f) (fields.given u (Stops (carry h n)) g)
-same_observed h None u n f g a k = ap (λ (y : Option (Seen × ⊤)). fields.given y (Stops (carry h n)) g) a
-same_observed h (Some x) u n f g a k = subst (λ (y : Option (Seen × ⊤)). Same h (f x) (fields.given y (Stops (carry h n)) g)) (sym a) (k x.0 x.1)
+    → Same h (rules.given o (Stops n) f) (rules.given u (Stops (carry h n)) g)
+same_observed h None u n f g a k = ap (λ (y : Option (Seen × ⊤)). rules.given y (Stops (carry h n)) g) a
+same_observed h (Some x) u n f g a k = subst (λ (y : Option (Seen × ⊤)). Same h (f x) (rules.given y (Stops (carry h n)) g)) (sym a) (k x.0 x.1)
 
 -- ---- what has one of the fuel less
 
@@ -152,28 +155,28 @@ same_back h p o u a here (g ∷ gs) before log s n = same_then h _ _
 
 -- ---- atomic blocks
 
-same_answered : (h : Trail → ⊤) (p : Code) (u : Uses) (later : Known) (x : Answer) (n m : Notes Trail) (s : State)
+same_answered : (h : Trail → ⊤) (p : Code) (u : Uses) (later : Context) (x : Answer) (n m : Notes Trail) (s : State)
     → Same h (answered p u later x n s m) (answered p u later x (carry h n) s (carry h m))
 same_answered h p u later (Gave out) n m s = same_if h (out_fits p u later s out) _ _ _ _ refl refl
 same_answered h p u later (Trapped code at) n m s = refl
 same_answered h p u later (Spent at) n m s = refl
 
-same_block_back : (h : Trail → ⊤) (p : Code) (u : Uses) (later : Known) (path : List ℕ) (x : Seen) (v : Trail) (s : State) (n : Notes Trail)
+same_block_back : (h : Trail → ⊤) (p : Code) (u : Uses) (later : Context) (path : List ℕ) (x : Seen) (v : Trail) (s : State) (n : Notes Trail)
     → Same h (block_back p u later path (x, v) s n) (block_back p u later path (x, h v) s (carry h n))
 same_block_back h p u later path (OfCell image) v s n = refl
 same_block_back h p u later path (OfBlock a) v s n = same_answered h p u later a n (used path v n) s
 
-same_put : (h : Trail → ⊤) (p : Code) (o : Observer Trail) (u : Observer ⊤) → Answers h o u → (ask : Ask) (e : Uses) (later : Known)
+same_put : (h : Trail → ⊤) (p : Code) (o : Observer Trail) (u : Observer ⊤) → Answers h o u → (ask : Ask) (e : Uses) (later : Context)
     → Steady h (put_to (watches p o) ask e later) (put_to (flows p u) ask e later)
 same_put h p o u a ask e later s n = same_observed h _ _ n (λ x. block_back p e later ask.path x s n) (λ x. block_back p e later ask.path x s (carry h n))
     (a n.watch (AtBlock ask)) (λ x v. same_block_back h p e later ask.path x v s n)
 
-same_asks : (h : Trail → ⊤) (p : Code) (o : Observer Trail) (u : Observer ⊤) → Answers h o u → (here : Where) (cell : CellName) (g : NameAt) (number : ℕ) (b : Lines) (fuel : ℕ)
-    → Steady h (asks (watches p o) here cell g number b fuel) (asks (flows p u) here cell g number b fuel)
-same_asks h p o u a here cell g number b fuel s n =
-    let e : Uses = else_uses p here.known g.name b in
+same_asks : (h : Trail → ⊤) (p : Code) (o : Observer Trail) (u : Observer ⊤) → Answers h o u → (here : Where) (at : Spot) (cell : CellName) (g : NameAt) (number : ℕ) (b : Lines) (fuel : ℕ)
+    → Steady h (asks (watches p o) here at cell g number b fuel) (asks (flows p u) here at cell g number b fuel)
+same_asks h p o u a here at cell g number b fuel s n =
+    let e : Uses = else_uses p g.name (whole b (locking g here)) in
     let ask : Ask = ask_of here number fuel e s in
-    same_put h p o u a ask e (after p here.known (Locks g number b)) s (marked (Asked cell ask) n)
+    same_put h p o u a ask e (after p here.method at (Locks g number b) here.context) s (marked (Asked cell ask) n)
 
 -- ---- calls and right sides
 
@@ -200,12 +203,12 @@ same_call h p o u b c l here at i s n go ho k = same_given h (enter p here i s) 
     refl)
 
 same_made : (h : Trail → ⊤) (p : Code) (here : Where) (at : Spot) (x : ℕ) (form : Form) (e : RightSide) (s : State) (n : Notes Trail)
-    → Same h (given (made p e s) at n (λ r. assigned at x form r.0 (moved (moved_right p here.known (Some form) e) r.1) n))
-    (given (made p e s) at (carry h n) (λ r. assigned at x form r.0 (moved (moved_right p here.known (Some form) e) r.1) (carry h n)))
+    → Same h (given (made p e s) at n (λ r. assigned at x form r.0 (moved (right_moved p form e) r.1) n))
+    (given (made p e s) at (carry h n) (λ r. assigned at x form r.0 (moved (right_moved p form e) r.1) (carry h n)))
 same_made h p here at x form e s n = same_given h (made p e s) at n
-    (λ r. assigned at x form r.0 (moved (moved_right p here.known (Some form) e) r.1) n)
-    (λ r. assigned at x form r.0 (moved (moved_right p here.known (Some form) e) r.1) (carry h n))
-    (λ r. same_assigned h at x form r.0 (moved (moved_right p here.known (Some form) e) r.1) n)
+    (λ r. assigned at x form r.0 (moved (right_moved p form e) r.1) n)
+    (λ r. assigned at x form r.0 (moved (right_moved p form e) r.1) (carry h n))
+    (λ r. same_assigned h at x form r.0 (moved (right_moved p form e) r.1) n)
 
 same_sets : (h : Trail → ⊤) (p : Code) (o : Observer Trail) (u : Observer ⊤) (b : Option (Below Trail)) (c : Option (Below ⊤)) → BothAlike h b c
     → (here : Where) (at : Spot) (x : ℕ) (form : Form) (e : RightSide) → Steady h (sets (watches p o) b here at x form e) (sets (flows p u) c here at x form e)
@@ -222,8 +225,8 @@ same_asserts h at false s n = refl
 same_does : (h : Trail → ⊤) (at : Spot) (n : Notes Trail) (o : Outcome State) → Same h (does at n o) (does at (carry h n) o)
 same_does h at n o = same_given h o at n (λ s. Went s n) (λ s. Went s (carry h n)) (λ s. refl)
 
-same_left : (h : Trail → ⊤) (b : Lines) (r : Run Trail) (q : Run ⊤) → Same h r q → Same h (left b r) (left b q)
-same_left h b r q e = same_then h r q e _ _ (λ s n. refl)
+same_left : (h : Trail → ⊤) (c : Context) (r : Run Trail) (q : Run ⊤) → Same h r q → Same h (left c r) (left c q)
+same_left h c r q e = same_then h r q e _ _ (λ s n. refl)
 
 abbrev turn_run : {W : Type 0} → Where → ℕ → Spot → Expression → Lines → State → Notes W → Below W → Run W
 turn_run here t at e lines s n run = and_then (run.block (deeper t here) lines s n) (run.again here (suc t) at e lines)
@@ -254,12 +257,12 @@ same_splits h p o u a here gs f g k s n = same_chosen h here.inside
     (all_come_back (watches p o) here gs s n.log) (all_come_back (flows p u) here gs s n.log) (same_back h p o u a here gs s n.log)))
 
 same_locks : (h : Trail → ⊤) (p : Code) (o : Observer Trail) (u : Observer ⊤) → Answers h o u → (b : Option (Below Trail)) (c : Option (Below ⊤)) → BothAlike h b c
-    → (here : Where) (x : NameAt) (number : ℕ) (lines : Lines) (f : Act Trail) (g : Act ⊤) → Steady h f g
-    → Steady h (locks (watches p o) b here x number lines f) (locks (flows p u) c here x number lines g)
-same_locks h p o u a b c l here x number lines f g k s n = same_option h (cell_at x.name s n) (f s n) (g s (carry h n))
-    (λ cell. asks (watches p o) here cell x number lines (fuel_of b) s n) (λ cell. asks (flows p u) here cell x number lines (fuel_of c) s (carry h n)) (k s n)
-    (λ cell. subst (λ (fuel : ℕ). Same h (asks (watches p o) here cell x number lines (fuel_of b) s n) (asks (flows p u) here cell x number lines fuel s (carry h n)))
-    (same_fuel h b c l) (same_asks h p o u a here cell x number lines (fuel_of b) s n))
+    → (here : Where) (at : Spot) (x : NameAt) (number : ℕ) (lines : Lines) (f : Act Trail) (g : Act ⊤) → Steady h f g
+    → Steady h (locks (watches p o) b here at x number lines f) (locks (flows p u) c here at x number lines g)
+same_locks h p o u a b c l here at x number lines f g k s n = same_option h (cell_at x.name s n) (f s n) (g s (carry h n))
+    (λ cell. asks (watches p o) here at cell x number lines (fuel_of b) s n) (λ cell. asks (flows p u) here at cell x number lines (fuel_of c) s (carry h n)) (k s n)
+    (λ cell. subst (λ (fuel : ℕ). Same h (asks (watches p o) here at cell x number lines (fuel_of b) s n) (asks (flows p u) here at cell x number lines fuel s (carry h n)))
+    (same_fuel h b c l) (same_asks h p o u a here at cell x number lines (fuel_of b) s n))
 
 -- ---- the way past what stopped
 
@@ -267,7 +270,7 @@ same_close : (h : Trail → ⊤) (barred : List ℕ) → Steady h (flow_close ba
 same_close h [] s n = refl
 same_close h (j ∷ barred) s n = refl
 
-same_behind : (h : Trail → ⊤) (here : Where) (all : Whole) (j : ℕ) (r : Run Trail) (q : Run ⊤) → Same h r q → Same h (behind here all j r) q
+same_behind : (h : Trail → ⊤) (here : Where) (all : Scene) (j : ℕ) (r : Run Trail) (q : Run ⊤) → Same h r q → Same h (behind here all j r) q
 same_behind h here all j (Went s n) q e = e
 same_behind h here all j (Ends ending n) q e = e
 same_behind h here all j (Stops n) q e = e
@@ -283,7 +286,7 @@ same_gone h (Stops n) q e path j barred kept a b k =
     subst (λ (x : Run _). Same h (a (j ∷ barred) kept (marked (Stopped path None) n)) (gone_on x path j barred kept b)) (sym e)
     (k (j ∷ barred) kept (marked (Stopped path None) n))
 
-same_step : (h : Trail → ⊤) (p : Code) (here : Where) (all : Whole) (j : ℕ) (barred : List ℕ) (f : Act Trail) (g : Act ⊤) → Steady h f g
+same_step : (h : Trail → ⊤) (p : Code) (here : Where) (all : Scene) (j : ℕ) (barred : List ℕ) (f : Act Trail) (g : Act ⊤) → Steady h f g
     → (a : List ℕ → Act Trail) (b : List ℕ → Act ⊤) → ((bars : List ℕ) → Steady h (a bars) (b bars))
     → Steady h (flow_step p here all j barred (watched here all j f) a) (flow_step p here all j barred g b)
 same_step h p here all j barred f g k a b l s n = same_chosen h (is_left_out p all j barred)
@@ -297,7 +300,7 @@ same_step h p here all j barred f g k a b l s n = same_chosen h (is_left_out p a
 -- ---- statements
 
 abbrev branch : {W : Type 0} → Machine W → Option (Below W) → Where → Where → Lines → Act W
-branch m b inner here x s n = left x (many m b inner (whole x here) 0 x [] s n)
+branch m b inner here x s n = left here.context (many m b inner (whole x here) 0 x [] s n)
 
 mutual
   unfolding one many
@@ -305,9 +308,9 @@ mutual
   same_one : (h : Trail → ⊤) (p : Code) (o : Observer Trail) (u : Observer ⊤) → Answers h o u → (b : Option (Below Trail)) (c : Option (Below ⊤)) → BothAlike h b c
       → (here : Where) (at : Spot) (x : Action) → Steady h (one (watches p o) b here at x) (one (flows p u) c here at x)
   same_one h p o u a b c l here at (Declares ty x e) s n = same_sets h p o u b c l here at x.name (form ty) e s n
-  same_one h p o u a b c l here at (Assigns x e) s n = same_given h (there (here.known.declared x.name)) at n
-      (λ y. sets (watches p o) b here at x.name y e s n) (λ y. sets (flows p u) c here at x.name y e s (carry h n)) (λ y. same_sets h p o u b c l here at x.name y e s n)
-  same_one h p o u a b c l here at (Stores path e) s n = same_does h at n (stored p here.known path e s)
+  same_one h p o u a b c l here at (Assigns x e) s n = same_given h (there (here.context.local x.name)) at n
+      (λ (y : Local). sets (watches p o) b here at x.name y.form e s n) (λ (y : Local). sets (flows p u) c here at x.name y.form e s (carry h n)) (λ (y : Local). same_sets h p o u b c l here at x.name y.form e s n)
+  same_one h p o u a b c l here at (Stores path e) s n = same_does h at n (stored p path e s)
   same_one h p o u a b c l here at (StoresAt path i e) s n = same_does h at n (stored_at p path i e s)
   same_one h p o u a b c l here at (Calls i) s n = same_call h p o u b c l here at i s n (λ r t m. Went t m) (λ r t m. Went t m) (λ r t m. refl)
   same_one h p o u a b c l here at (Chooses e nb x) s n = same_given h (truth_of p s e) at n
@@ -316,7 +319,7 @@ mutual
       (λ test. same_chosen h test
       (λ _. branch (watches p o) b (deeper 0 here) here x s n) (λ _. Went s n)
       (λ _. branch (flows p u) c (deeper 0 here) here x s (carry h n)) (λ _. Went s (carry h n))
-      (same_left h x (many (watches p o) b (deeper 0 here) (whole x here) 0 x [] s n) (many (flows p u) c (deeper 0 here) (whole x here) 0 x [] s (carry h n))
+      (same_left h here.context (many (watches p o) b (deeper 0 here) (whole x here) 0 x [] s n) (many (flows p u) c (deeper 0 here) (whole x here) 0 x [] s (carry h n))
       (same_many h p o u a b c l (deeper 0 here) (whole x here) 0 x [] s n)) refl)
   same_one h p o u a b c l here at (ChoosesElse e nb x nc y) s n = same_given h (truth_of p s e) at n
       (λ test. chosen test (λ _. branch (watches p o) b (deeper 0 here) here x s n) (λ _. branch (watches p o) b (deeper 1 here) here y s n))
@@ -324,37 +327,37 @@ mutual
       (λ test. same_chosen h test
       (λ _. branch (watches p o) b (deeper 0 here) here x s n) (λ _. branch (watches p o) b (deeper 1 here) here y s n)
       (λ _. branch (flows p u) c (deeper 0 here) here x s (carry h n)) (λ _. branch (flows p u) c (deeper 1 here) here y s (carry h n))
-      (same_left h x (many (watches p o) b (deeper 0 here) (whole x here) 0 x [] s n) (many (flows p u) c (deeper 0 here) (whole x here) 0 x [] s (carry h n))
+      (same_left h here.context (many (watches p o) b (deeper 0 here) (whole x here) 0 x [] s n) (many (flows p u) c (deeper 0 here) (whole x here) 0 x [] s (carry h n))
       (same_many h p o u a b c l (deeper 0 here) (whole x here) 0 x [] s n))
-      (same_left h y (many (watches p o) b (deeper 1 here) (whole y here) 0 y [] s n) (many (flows p u) c (deeper 1 here) (whole y here) 0 y [] s (carry h n))
+      (same_left h here.context (many (watches p o) b (deeper 1 here) (whole y here) 0 y [] s n) (many (flows p u) c (deeper 1 here) (whole y here) 0 y [] s (carry h n))
       (same_many h p o u a b c l (deeper 1 here) (whole y here) 0 y [] s n)))
   same_one h p o u a b c l here at (Repeats e nb x) s n = same_again h p o u b c l here 0 at e x s n
   same_one h p o u a b c l here at (Groups g) s n = refl
-  same_one h p o u a b c l here at (Splits gs nb x) s n = same_splits h p o u a here gs (branch (watches p o) b here here x) (branch (flows p u) c here here x)
-      (λ t m. same_left h x (many (watches p o) b here (whole x here) 0 x [] t m) (many (flows p u) c here (whole x here) 0 x [] t (carry h m))
-      (same_many h p o u a b c l here (whole x here) 0 x [] t m)) s n
-  same_one h p o u a b c l here at (Locks g number x) s n = same_locks h p o u a b c l here g number x (branch (watches p o) b here here x) (branch (flows p u) c here here x)
-      (λ t m. same_left h x (many (watches p o) b here (whole x here) 0 x [] t m) (many (flows p u) c here (whole x here) 0 x [] t (carry h m))
-      (same_many h p o u a b c l here (whole x here) 0 x [] t m)) s n
+  same_one h p o u a b c l here at (Splits gs nb x) s n = same_splits h p o u a here gs (branch (watches p o) b (splitting gs here) (splitting gs here) x) (branch (flows p u) c (splitting gs here) (splitting gs here) x)
+      (λ t m. same_left h (splitting gs here).context (many (watches p o) b (splitting gs here) (whole x (splitting gs here)) 0 x [] t m) (many (flows p u) c (splitting gs here) (whole x (splitting gs here)) 0 x [] t (carry h m))
+      (same_many h p o u a b c l (splitting gs here) (whole x (splitting gs here)) 0 x [] t m)) s n
+  same_one h p o u a b c l here at (Locks g number x) s n = same_locks h p o u a b c l here at g number x (branch (watches p o) b (locking g here) (locking g here) x) (branch (flows p u) c (locking g here) (locking g here) x)
+      (λ t m. same_left h (locking g here).context (many (watches p o) b (locking g here) (whole x (locking g here)) 0 x [] t m) (many (flows p u) c (locking g here) (whole x (locking g here)) 0 x [] t (carry h m))
+      (same_many h p o u a b c l (locking g here) (whole x (locking g here)) 0 x [] t m)) s n
   same_one h p o u a b c l here at (Freezes x) s n = same_does h at n (frozen x.name s)
   same_one h p o u a b c l here at (Shares x g) s n = same_does h at n (shared x.name g.name s)
   same_one h p o u a b c l here at (Prints e) s n = same_given h (value p s e >>= printed) at n (λ bytes. prints here bytes s n) (λ bytes. prints here bytes s (carry h n)) (λ bytes. refl)
   same_one h p o u a b c l here at (PrintsText text) s n = refl
   same_one h p o u a b c l here at (Asserts e) s n = same_given h (truth_of p s e) at n (λ test. asserts at test s n) (λ test. asserts at test s (carry h n)) (λ test. same_asserts h at test s n)
-  same_one h p o u a b c l here at (Returns e) s n = same_does h at n (returns p here.known e s)
+  same_one h p o u a b c l here at (Returns e) s n = same_does h at n (returns p here.method e s)
 
   same_many : (h : Trail → ⊤) (p : Code) (o : Observer Trail) (u : Observer ⊤) → Answers h o u → (b : Option (Below Trail)) (c : Option (Below ⊤)) → BothAlike h b c
-      → (here : Where) (all : Whole) (j : ℕ) (x : Lines) (barred : List ℕ) → Steady h (many (watches p o) b here all j x barred) (many (flows p u) c here all j x barred)
+      → (here : Where) (all : Scene) (j : ℕ) (x : Lines) (barred : List ℕ) → Steady h (many (watches p o) b here all j x barred) (many (flows p u) c here all j x barred)
   same_many h p o u a b c l here all j End barred s n = same_close h barred s n
   same_many h p o u a b c l here all j (Next at x rest) barred s n = same_step h p here all j barred
       (begun (deeper j here) at (one (watches p o) b (deeper j here) at x)) (begun (deeper j here) at (one (flows p u) c (deeper j here) at x))
       (λ t m. same_one h p o u a b c l (deeper j here) at x t (marked (Ran (deeper j here).path at) m))
-      (many (watches p o) b (knowing (after p here.known x) here) all (suc j) rest) (many (flows p u) c (knowing (after p here.known x) here) all (suc j) rest)
-      (λ bars. same_many h p o u a b c l (knowing (after p here.known x) here) all (suc j) rest bars) s n
+      (many (watches p o) b (knowing (after p here.method at x here.context) here) all (suc j) rest) (many (flows p u) c (knowing (after p here.method at x here.context) here) all (suc j) rest)
+      (λ bars. same_many h p o u a b c l (knowing (after p here.method at x here.context) here) all (suc j) rest bars) s n
 
 pub same_block : (h : Trail → ⊤) (p : Code) (o : Observer Trail) (u : Observer ⊤) → Answers h o u → (b : Option (Below Trail)) (c : Option (Below ⊤)) → BothAlike h b c
     → (here : Where) (x : Lines) → Steady h (block (watches p o) b here x) (block (flows p u) c here x)
-same_block h p o u a b c l here x s n = same_left h x (many (watches p o) b here (whole x here) 0 x [] s n) (many (flows p u) c here (whole x here) 0 x [] s (carry h n))
+same_block h p o u a b c l here x s n = same_left h here.context (many (watches p o) b here (whole x here) 0 x [] s n) (many (flows p u) c here (whole x here) 0 x [] s (carry h n))
     (same_many h p o u a b c l here (whole x here) 0 x [] s n)
 
 pub same_below : (h : Trail → ⊤) (p : Code) (o : Observer Trail) (u : Observer ⊤) → Answers h o u → (f : ℕ) → BothAlike h (below (watches p o) f) (below (flows p u) f)

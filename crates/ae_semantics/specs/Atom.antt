@@ -1,13 +1,14 @@
 -- What an atomic block answers, and the meaning that goes on past what stopped.
+use Rattle.ae_code.specs.Edges.{Uses}
 use Rattle.std.specs.Prelude.{ℕ, nat_eq, ℤ, true, if◌then◌else◌, List, [], Option, None, Some, option_map, ⊤}
 use Rattle.ae_code.specs.Names.{io}
 use Rattle.ae_code.specs.Plain.{Lines, End, Next, Definition, Code}
 use Rattle.ae_code.specs.Plain.{Action, Chooses, ChoosesElse, Repeats, Splits, Locks}
-use Rattle.ae_semantics.specs.Fields.{given, method_at}
+use Rattle.ae_rules.specs.Verdict.{given}
+use Rattle.ae_rules.specs.Lookups.{method_at}
+use Rattle.ae_rules.specs.Blocks.{Scene, or_else, scene}
 use Rattle.ae_semantics.specs.Values.{Store}
 use Rattle.ae_semantics.specs.Places.{Here, State, members}
-use Rattle.ae_semantics.specs.Known.{Known, known_in, after}
-use Rattle.ae_semantics.specs.Uses.{Uses}
 use Rattle.ae_semantics.specs.Observations.{Piece, Image, OfStore, OfLog, Ask, Answer, Gave, Trapped, Spent, Seen, Query, Done, Trap, Fuel, Notes, Observer}
 use Rattle.ae_semantics.specs.Runs.{Run, Went, Ends, Stops, Where, Machine, flowing}
 use Rattle.ae_semantics.specs.Blocks.{else_uses, values_out}
@@ -16,32 +17,30 @@ use Rattle.ae_semantics.specs.Means.{Asking, asks_in, source_machine, run, Meant
 
 -- ---- where an atomic block stands
 
--- an atomic block: what is known at it, its group and its statements
-pub record Located : Type 0 where
-  pub known : Known
-  pub group : ℕ
-  pub lines : Lines
-
-abbrev pub or_else : {A : Type 0} → Option A → Option A → Option A
-or_else None other = other
-or_else (Some x) other = Some x
-
 abbrev mutual
-  -- the atomic block with this number in a statement, or in the statements of a block
-  pub block_in : Code → ℕ → Known → Action → Option Located
-  block_in p n k (Chooses e m b) = block_among p n k b
-  block_in p n k (ChoosesElse e m b o c) = or_else (block_among p n k b) (block_among p n k c)
-  block_in p n k (Repeats e m b) = block_among p n k b
-  block_in p n k (Splits gs m b) = block_among p n k b
-  block_in p n k (Locks g m b) = if nat_eq m n then Some (record { known = k; group = g.name; lines = b }) else block_among p n k b
-  block_in p n k _ = None
+  -- the group of the atomic block with this number in a statement, or in the statements of a block
+  pub locked_in : ℕ → Action → Option ℕ
+  locked_in n (Chooses e m b) = locked_among n b
+  locked_in n (ChoosesElse e m b o c) = or_else (locked_among n b) (locked_among n c)
+  locked_in n (Repeats e m b) = locked_among n b
+  locked_in n (Splits gs m b) = locked_among n b
+  locked_in n (Locks g m b) = if nat_eq n m then Some g.name else locked_among n b
+  locked_in n _ = None
 
-  pub block_among : Code → ℕ → Known → Lines → Option Located
-  block_among p n k End = None
-  block_among p n k (Next at a rest) = or_else (block_in p n k a) (block_among p n (after p k a) rest)
+  pub locked_among : ℕ → Lines → Option ℕ
+  locked_among n End = None
+  locked_among n (Next at a rest) = or_else (locked_in n a) (locked_among n rest)
+
+-- an atomic block: its group, and its statements with the context in which they begin
+pub record Located : Type 0 where
+  pub group : ℕ
+  pub block : Scene
+
+abbrev pub located_in : Code → ℕ → Definition → Option Located
+located_in p n m = given (locked_among n m.body) None (λ g. option_map (λ (b : Scene). record { group = g; block = b }) (scene p m n))
 
 abbrev pub located : Code → Ask → Option Located
-located p ask = given (method_at p ask.method) None (λ (m : Definition). block_among p ask.block (known_in p m) m.body)
+located p ask = given (method_at p ask.method) None (located_in p ask.block)
 
 -- ---- what a block answers
 
@@ -83,14 +82,14 @@ atomed u g image before (Ends (Fuel at) n) = record { out = Some (Spent at); ima
 atomed u g image before (Stops n) = record { out = None; image = image; asked = asks_in n.marks }
 
 abbrev pub block_here : Ask → Located → Where
-block_here ask x = record { method = ask.method; depth = ask.depth; path = ask.path; known = x.known; inside = true }
+block_here ask x = record { number = ask.method; method = x.block.method; depth = ask.depth; path = ask.path; context = x.block.start; inside = true }
 
 abbrev pub atom_at : Code → Ask → Image → List Seen → Located → Atomed
 atom_at p ask image inner x =
     let m : Machine (List Seen) = source_machine p in
     let before : State = begins_with x.group ask image in
-    atomed (else_uses p x.known x.group x.lines) x.group image before
-    (block m (below m ask.fuel) (block_here ask x) x.lines before (begins_after x.group image inner))
+    atomed (else_uses p x.group x.block) x.group image before
+    (block m (below m ask.fuel) (block_here ask x) x.block.lines before (begins_after x.group image inner))
 
 -- The statements of the asked block in source order, on the values in, on its group's image,
 -- and on the answers of blocks inside it of groups that are away: there are none in a program whose atomic blocks are not nested.

@@ -1,18 +1,27 @@
 -- Blocks of groups that are split: what goes away and comes back, what an atomic block asks, and what its answer changes.
-use Rattle.std.specs.Prelude.{ℕ, nat_eq, Bool, true, false, ◌&&◌, ◌||◌, not, if◌then◌else◌, List, [], ◌∷◌, ◌++◌, length, Option, None, Some, is_some, option_map}
+use Rattle.ae_code.specs.Edges.{Uses}
+use Rattle.std.specs.Prelude.{ℕ, nat_eq, Bool, true, false, ◌&&◌, ◌||◌, not, if◌then◌else◌, List, [], ◌∷◌, ◌++◌, Option, None, Some, is_some, option_map}
+use Rattle.ae_text.specs.declared.refusal.Spot.{Spot}
 use Rattle.ae_code.specs.declared.uses.Resource.TheVariants as resource
 use Rattle.ae_code.specs.declared.tree.NameAt.{NameAt}
 use Rattle.ae_code.specs.declared.form.Form.{Form}
 use Rattle.ae_code.specs.Names.{io}
 use Rattle.ae_code.specs.Plain.{Code, Lines, Locks}
-use Rattle.ae_semantics.specs.Fields as fields
-use Rattle.ae_semantics.specs.Fields.{same_form}
+use Rattle.ae_code.specs.declared.form.Perm.{Perm}
+use Rattle.ae_code.specs.declared.form.Perm.TheVariants as perm
+use Rattle.ae_code.specs.declared.form.Form.TheVariants as f
+use Rattle.ae_rules.specs.declared.held.Held.{Held}
+use Rattle.ae_rules.specs.declared.held.Held.TheVariants as held
+use Rattle.ae_rules.specs.Verdict as rules
+use Rattle.ae_rules.specs.Forms.{same_form}
+use Rattle.ae_rules.specs.Context.{Local, Context, each_name}
+use Rattle.ae_rules.specs.Uses.{outside, all_but, lines_use}
+use Rattle.ae_rules.specs.Blocks.{Scene}
 use Rattle.ae_semantics.specs.Values.{fits}
 use Rattle.ae_semantics.specs.Places.{CellName, Group, Here, Away, Bound, State, with_group, members}
-use Rattle.ae_semantics.specs.Known.{Known, after}
-use Rattle.ae_semantics.specs.Uses.{Uses, but_group, block_uses, shuts_out, numbers_below}
+use Rattle.ae_semantics.specs.Contexts.{after, shuts_out}
 use Rattle.ae_semantics.specs.Observations.{Piece, Image, OfStore, OfLog, Carried, Ask, Answer, Gave, Trapped, Spent, Seen, OfBlock, OfCell, AtBlock, AtEnd, Trap, Fuel, Entered, Asked, Used, Notes}
-use Rattle.ae_semantics.specs.Runs.{Run, Went, Ends, Stops, Act, and_then, marked, Where, Machine}
+use Rattle.ae_semantics.specs.Runs.{Run, Went, Ends, Stops, Act, and_then, marked, Where, locking, whole, Machine}
 
 -- ---- split blocks
 
@@ -33,7 +42,7 @@ to_cell here g image s n =
 
 -- a group goes away
 abbrev pub goes_away : {W : Type 0} → Where → ℕ → Act W
-goes_away here g s n = fields.given (image_of g s n) (Stops n) (λ image. to_cell here g image s n)
+goes_away here g s n = rules.given (image_of g s n) (Stops n) (λ image. to_cell here g image s n)
 
 abbrev pub all_go_away : {W : Type 0} → Where → List NameAt → Act W
 all_go_away here [] s n = Went s n
@@ -63,13 +72,13 @@ cell_back here g (OfCell image, w) s n = unless_stopped
     (if nat_eq io g then log_back image s (used here.path w n) else store_back g image s (used here.path w n)) n
 
 abbrev pub comes_back : {W : Type 0} → Machine W → Where → ℕ → Image → Act W
-comes_back m here g first s n = fields.given (m.observer n.watch (AtEnd (cell_of here g) first)) (Stops n) (λ seen. cell_back here g seen s n)
+comes_back m here g first s n = rules.given (m.observer n.watch (AtEnd (cell_of here g) first)) (Stops n) (λ seen. cell_back here g seen s n)
 
 -- the groups come back in written order; what each held at first is told to the observer
 abbrev pub all_come_back : {W : Type 0} → Machine W → Where → List NameAt → State → List Piece → Act W
 all_come_back m here [] before log s n = Went s n
 all_come_back m here (g ∷ gs) before log s n = and_then
-    (fields.given (image_of g.name before (record n { log = log })) (Stops n) (λ first. comes_back m here g.name first s n))
+    (rules.given (image_of g.name before (record n { log = log })) (Stops n) (λ first. comes_back m here g.name first s n))
     (all_come_back m here gs before log)
 
 -- ---- atomic blocks
@@ -84,8 +93,8 @@ abbrev pub cell_at : {W : Type 0} → ℕ → State → Notes W → Option CellN
 cell_at g s n = if nat_eq io g then n.cell else cell_in (s.groups g)
 
 -- what an atomic block of a group uses of all else
-abbrev pub else_uses : Code → Known → ℕ → Lines → Uses
-else_uses p k g b = but_group g (block_uses p k b)
+abbrev pub else_uses : Code → ℕ → Scene → Uses
+else_uses p g b = all_but (resource.Group g) (outside b.start (lines_use p b.method b.lines b.start))
 
 -- the values of what a block uses, without its own group and the log
 abbrev pub values_in : Uses → State → Carried
@@ -117,23 +126,36 @@ same_presence (Some x) (Some y) test = test x y
 abbrev pub fits_form : Code → Form → Bound → Bool
 fits_form p form b = same_form form b.form && fits p form b.value
 
--- what is wanted of a local that comes out: the form of what it holds after the block, where it holds something
-abbrev pub wanted : Uses → Known → ℕ → Option Form
-wanted u later x = if shuts_out (u (resource.Local x)) then later.now x else None
+-- the permission of an object of which this is held, where its name stands for it
+abbrev pub perm_held : Held → Option Perm
+perm_held held.Unique = Some perm.Unique
+perm_held held.Immutable = Some perm.Immutable
+perm_held held.Lent = Some perm.Lent
+perm_held (held.Shared g) = Some (perm.Shared g)
+perm_held _ = None
 
-abbrev pub name_fits : Code → Uses → Known → State → Carried → ℕ → Bool
+-- the form of what a local holds now, where it holds something
+abbrev pub form_now : Form → Held → Option Form
+form_now f.Int h = Some f.Int
+form_now f.Bool h = Some f.Bool
+form_now (f.Object q k) h = option_map (λ (r : Perm). f.Object r k) (perm_held h)
+
+abbrev pub holds_now : Context → ℕ → Option Form
+holds_now c x = rules.given (c.local x) None (λ (l : Local). form_now l.form l.held)
+
+-- what is wanted of a local that comes out: the form of what it holds after the block, where it holds something
+abbrev pub wanted : Uses → Context → ℕ → Option Form
+wanted u later x = if shuts_out (u (resource.Local x)) then holds_now later x else None
+
+abbrev pub name_fits : Code → Uses → Context → State → Carried → ℕ → Bool
 name_fits p u later before out x =
     same_presence (wanted u later x) (out.locals x) (fits_form p)
     && (if store_out u before x then is_some (out.stores x) else not (is_some (out.stores x)))
 
-abbrev pub every : (ℕ → Bool) → List ℕ → Bool
-every test [] = true
-every test (x ∷ xs) = test x && every test xs
-
 -- values out have the names and forms that the block's place asks for
-abbrev pub out_fits : Code → Uses → Known → State → Carried → Bool
+abbrev pub out_fits : Code → Uses → Context → State → Carried → Bool
 out_fits p u later before out =
-    every (name_fits p u later before out) (numbers_below (length p.names))
+    each_name p (name_fits p u later before out)
     && (if shuts_out (u (resource.Group io)) then is_some out.pieces else not (is_some out.pieces))
 
 -- the values out take the places of what the block changes
@@ -151,12 +173,12 @@ abbrev pub with_out : {W : Type 0} → Uses → Carried → Act W
 with_out u out s n = Went (with_values u out s) (record n { log = n.log ++ pieces_in out.pieces })
 
 -- a block's answer, where it fits: values out, or the ending
-abbrev pub answered : {W : Type 0} → Code → Uses → Known → Answer → Notes W → Act W
+abbrev pub answered : {W : Type 0} → Code → Uses → Context → Answer → Notes W → Act W
 answered p u later (Gave out) unused s n = if out_fits p u later s out then with_out u out s n else Stops unused
 answered p u later (Trapped code at) unused s n = Ends (Trap code at) n
 answered p u later (Spent at) unused s n = Ends (Fuel at) n
 
-abbrev pub block_back : {W : Type 0} → Code → Uses → Known → List ℕ → Seen × W → Act W
+abbrev pub block_back : {W : Type 0} → Code → Uses → Context → List ℕ → Seen × W → Act W
 block_back p u later path (OfCell image, w) s n = Stops n
 block_back p u later path (OfBlock a, w) s n = answered p u later a n s (used path w n)
 
@@ -164,19 +186,19 @@ block_back p u later path (OfBlock a, w) s n = answered p u later a n s (used pa
 abbrev pub ask_of : Where → ℕ → ℕ → Uses → State → Ask
 ask_of here number fuel u s = record {
   path = here.path;
-  method = here.method;
+  method = here.number;
   block = number;
   fuel = fuel;
   depth = here.depth;
   ins = values_in u s;
 }
 
-abbrev pub put_to : {W : Type 0} → Machine W → Ask → Uses → Known → Act W
-put_to m ask u later s n = fields.given (m.observer n.watch (AtBlock ask)) (Stops n) (λ seen. block_back m.code u later ask.path seen s n)
+abbrev pub put_to : {W : Type 0} → Machine W → Ask → Uses → Context → Act W
+put_to m ask u later s n = rules.given (m.observer n.watch (AtBlock ask)) (Stops n) (λ seen. block_back m.code u later ask.path seen s n)
 
 -- a block of a group that is away asks the observer
-abbrev pub asks : {W : Type 0} → Machine W → Where → CellName → NameAt → ℕ → Lines → ℕ → Act W
-asks m here cell g number b fuel s n =
-    let u : Uses = else_uses m.code here.known g.name b in
+abbrev pub asks : {W : Type 0} → Machine W → Where → Spot → CellName → NameAt → ℕ → Lines → ℕ → Act W
+asks m here at cell g number b fuel s n =
+    let u : Uses = else_uses m.code g.name (whole b (locking g here)) in
     let ask : Ask = ask_of here number fuel u s in
-    put_to m ask u (after m.code here.known (Locks g number b)) s (marked (Asked cell ask) n)
+    put_to m ask u (after m.code here.method at (Locks g number b) here.context) s (marked (Asked cell ask) n)

@@ -1,15 +1,18 @@
 -- A call in two halves: what goes into the method's body, and what comes back from it.
-use Rattle.std.specs.Prelude.{ℕ, ◌+◌, nat_eq, Bool, true, false, ◌&&◌, not, if◌then◌else◌, List, [], ◌∷◌, zip, Option, None, Some}
+use Rattle.std.specs.Prelude.{ℕ, ◌+◌, nat_eq, Bool, true, false, ◌&&◌, not, if◌then◌else◌, List, [], ◌∷◌, zip, filter_map, Option, None, Some}
 use Rattle.ae_code.specs.declared.tree.Need.{Need}
 use Rattle.ae_code.specs.declared.tree.Need.TheVariants as need
 use Rattle.ae_code.specs.declared.tree.GroupNeed.{GroupNeed}
-use Rattle.ae_code.specs.Plain.{Code, Expression, Read, Invocation}
-use Rattle.ae_semantics.specs.Fields as fields
-use Rattle.ae_semantics.specs.Fields.{is_unique}
+use Rattle.ae_code.specs.Plain.{Definition, Code, Expression, Read, Invocation}
+use Rattle.ae_rules.specs.Verdict as rules
+use Rattle.ae_rules.specs.Forms.{is_unique}
+use Rattle.ae_rules.specs.Into.{name_into}
+use Rattle.ae_rules.specs.Calls.{Callee, top_callee, callee_of, group_in, Slot, slots, givens}
+use Rattle.ae_rules.specs.Judges.{start}
+use Rattle.ae_rules.specs.Instances.{param_names}
 use Rattle.ae_semantics.specs.Values.{Val}
 use Rattle.ae_semantics.specs.Places.{Outcome, Fine, ◌>>=◌, there, Group, Bound, State, with_local, with_group, Address, walk, write}
 use Rattle.ae_semantics.specs.Expressions.{value}
-use Rattle.ae_semantics.specs.Known.{known_in, Taker, takers, Callee, top_callee, callee_of, arguments, moved_with}
 use Rattle.ae_semantics.specs.Runs.{Where}
 
 -- an argument's value, and the place that it was read from
@@ -28,44 +31,55 @@ each_argument p s (e ∷ es) = argument p s e >>= λ x. each_argument p s es >>=
 
 -- the method that is called on an object of the receiver's form, or one at the top
 abbrev pub called : Code → State → Invocation → Outcome Callee
-called p s i = fields.given i.on (there (top_callee p i)) (λ path. walk p s path >>= λ x. there (callee_of p i x.form))
+called p s i = rules.given i.on (there (top_callee p i.method.name)) (λ path. walk p s path >>= λ x. there (callee_of p x.form i.method.name))
+
+-- a parameter: its name, and its form in the method with whether the caller gets nothing back
+abbrev pub Taker : Type 0
+Taker = ℕ × Slot
+
+-- the receiver, where the method has one, and the parameters
+abbrev pub takers : Code → Definition → List Taker
+takers p m = zip (param_names m) (slots p (λ g. g) m)
 
 -- each parameter with its argument's value
 abbrev pub taken : List Taker → List Argument → ℕ → Option Bound
 taken [] xs y = None
 taken (t ∷ ts) [] y = None
-taken (t ∷ ts) (x ∷ xs) y = if nat_eq t.name y then Some (record { form = t.form; value = x.value }) else taken ts xs y
+taken (t ∷ ts) (x ∷ xs) y = if nat_eq t.0 y then Some (record { form = t.1.form; value = x.value }) else taken ts xs y
 
 -- each group of a need, as the caller has it
 abbrev pub needed : (ℕ → ℕ) → State → List GroupNeed → ℕ → Option Group
 needed groups s [] g = None
 needed groups s (n ∷ ns) g = if nat_eq n.group.name g then s.groups (groups g) else needed groups s ns g
 
--- a call that is entered: the method, where its body stands, what the body begins with, and the arguments
+-- a call that is entered: the method, the caller's groups for its own, where its body stands, what the body begins with, and the arguments
 pub record Frame : Type 0 where
   pub callee : Callee
+  pub groups : ℕ → ℕ
   pub takers : List Taker
   pub arguments : List Argument
   pub here : Where
   pub state : State
 
-abbrev pub frame : Code → Where → State → Callee → List Argument → Frame
-frame p here s c xs =
+abbrev pub frame : Code → Where → State → Callee → (ℕ → ℕ) → List Argument → Frame
+frame p here s c groups xs =
     let ts : List Taker = takers p c.method in
     record {
       callee = c;
+      groups = groups;
       takers = ts;
       arguments = xs;
-      here = record { method = c.number; depth = here.depth + 1; path = here.path; known = known_in p c.method; inside = here.inside };
-      state = record { locals = taken ts xs; groups = needed c.groups s c.method.needs; result = None };
+      here = record { number = c.number; method = c.method; depth = here.depth + 1; path = here.path; context = start p c.method; inside = here.inside };
+      state = record { locals = taken ts xs; groups = needed groups s c.method.needs; result = None };
     }
 
 -- the first half of a call
 abbrev pub enter : Code → Where → Invocation → State → Outcome Frame
-enter p here i s = called p s i >>= λ c. each_argument p s (arguments i) >>= λ xs. Fine (frame p here s c xs)
+enter p here i s = called p s i >>= λ c. each_argument p s (givens i) >>= λ xs. Fine (frame p here s c (group_in c i.groups) xs)
 
 -- ---- what comes back
 
+-- names that were moved have no value
 abbrev pub moved : List ℕ → State → State
 moved [] s = s
 moved (x ∷ xs) s = moved xs (with_local x None s)
@@ -81,19 +95,23 @@ groups_back groups [] after s = s
 groups_back groups (n ∷ ns) after s = groups_back groups ns after
     (if is_whole n.need then with_group (groups n.group.name) (after.groups n.group.name) s else s)
 
-abbrev pub comes_back : Taker → Bool
+abbrev pub comes_back : Slot → Bool
 comes_back t = is_unique t.form && not t.away
 
 abbrev pub put_back : Taker × Argument → State → State → Outcome State
-put_back x after s = if comes_back x.0
-    then fields.given x.1.from (Fine s) (λ at. there (after.locals x.0.name) >>= λ b. write s at b.value)
+put_back x after s = if comes_back x.0.1
+    then rules.given x.1.from (Fine s) (λ at. there (after.locals x.0.0) >>= λ b. write s at b.value)
     else Fine s
 
 abbrev pub values_back : List (Taker × Argument) → State → State → Outcome State
 values_back [] after s = Fine s
 values_back (x ∷ xs) after s = put_back x after s >>= values_back xs after
 
+-- the name that goes away with what a parameter is given
+abbrev pub given_away : Taker × Expression → Option ℕ
+given_away x = if x.0.1.away then name_into x.0.1.form x.1 else None
+
 -- The second half of a call: names that were given away have no value, and groups and unique values come back to their places.
 abbrev pub leave : Frame → Invocation → State → State → Outcome State
 leave f i before after = values_back (zip f.takers f.arguments) after
-    (groups_back f.callee.groups f.callee.method.needs after (moved (moved_with f.takers (arguments i)) before))
+    (groups_back f.groups f.callee.method.needs after (moved (filter_map given_away (zip f.takers (givens i))) before))

@@ -8,14 +8,15 @@ use Rattle.ae_code.specs.Form.{form}
 use Rattle.ae_code.specs.Plain.{Expression, Invocation, RightSide, Lines, End, Next, Action, Declares, Assigns, Stores, StoresAt, Calls, Chooses, ChoosesElse, Repeats, Groups, Splits, Locks, Freezes, Shares, Prints, PrintsText, Asserts, Returns}
 use Rattle.ae_semantics.specs.Places.{◌>>=◌, State, Here, with_group}
 use Rattle.ae_semantics.specs.Expressions.{value, truth_of}
-use Rattle.ae_semantics.specs.Known.{after}
+use Rattle.ae_rules.specs.Blocks.{Scene}
+use Rattle.ae_semantics.specs.Contexts.{after}
 use Rattle.ae_semantics.specs.Observations.{Notes}
-use Rattle.ae_semantics.specs.Runs.{Act, Went, given, chosen, Where, deeper, Whole, Machine, Below}
-use Rattle.ae_semantics.specs.Meaning.{sets, assigns, stored, stored_at, call, frozen, shared, printed, prints, asserts, returns, does, left, whole, again, splits, locks, begun, knowing, one, many, block, below}
+use Rattle.ae_semantics.specs.Runs.{Act, Went, given, chosen, Where, deeper, knowing, splitting, locking, whole, Machine, Below}
+use Rattle.ae_semantics.specs.Meaning.{sets, assigns, stored, stored_at, call, frozen, shared, printed, prints, asserts, returns, does, left, again, splits, locks, begun, one, many, block, below}
 
 -- a branch with its number
 abbrev pub branch : {W : Type 0} → Machine W → Option (Below W) → ℕ → Where → Lines → Act W
-branch m b i here x s n = left x (many m b (deeper i here) (whole x here) 0 x [] s n)
+branch m b i here x s n = left here.context (many m b (deeper i here) (whole x here) 0 x [] s n)
 
 pub one-Declares : {W : Type 0} (m : Machine W) (b : Option (Below W)) (here : Where) (at : Spot) (ty : Ty) (x : NameAt) (e : RightSide) (s : State) (n : Notes W)
     → one m b here at (Declares ty x e) s n ≡ sets m b here at x.name (form ty) e s n
@@ -28,7 +29,7 @@ unfolding one many
 one-Assigns m b here at x e s n = refl
 
 pub one-Stores : {W : Type 0} (m : Machine W) (b : Option (Below W)) (here : Where) (at : Spot) (path : Path) (e : Expression) (s : State) (n : Notes W)
-    → one m b here at (Stores path e) s n ≡ does at n (stored m.code here.known path e s)
+    → one m b here at (Stores path e) s n ≡ does at n (stored m.code path e s)
 unfolding one many
 one-Stores m b here at path e s n = refl
 
@@ -63,12 +64,12 @@ unfolding one many
 one-Groups m b here at g s n = refl
 
 pub one-Splits : {W : Type 0} (m : Machine W) (b : Option (Below W)) (here : Where) (at : Spot) (gs : List NameAt) (i : ℕ) (x : Lines) (s : State) (n : Notes W)
-    → one m b here at (Splits gs i x) s n ≡ splits m here gs (block m b here x) s n
+    → one m b here at (Splits gs i x) s n ≡ splits m here gs (block m b (splitting gs here) x) s n
 unfolding one many
 one-Splits m b here at gs i x s n = refl
 
 pub one-Locks : {W : Type 0} (m : Machine W) (b : Option (Below W)) (here : Where) (at : Spot) (g : NameAt) (i : ℕ) (x : Lines) (s : State) (n : Notes W)
-    → one m b here at (Locks g i x) s n ≡ locks m b here g i x (block m b here x) s n
+    → one m b here at (Locks g i x) s n ≡ locks m b here at g i x (block m b (locking g here) x) s n
 unfolding one many
 one-Locks m b here at g i x s n = refl
 
@@ -98,18 +99,18 @@ unfolding one many
 one-Asserts m b here at e s n = refl
 
 pub one-Returns : {W : Type 0} (m : Machine W) (b : Option (Below W)) (here : Where) (at : Spot) (e : Expression) (s : State) (n : Notes W)
-    → one m b here at (Returns e) s n ≡ does at n (returns m.code here.known e s)
+    → one m b here at (Returns e) s n ≡ does at n (returns m.code here.method e s)
 unfolding one many
 one-Returns m b here at e s n = refl
 
-pub many-End : {W : Type 0} (m : Machine W) (b : Option (Below W)) (here : Where) (all : Whole) (j : ℕ) (barred : List ℕ) (s : State) (n : Notes W)
+pub many-End : {W : Type 0} (m : Machine W) (b : Option (Below W)) (here : Where) (all : Scene) (j : ℕ) (barred : List ℕ) (s : State) (n : Notes W)
     → many m b here all j End barred s n ≡ m.order.close barred s n
 unfolding one many
 many-End m b here all j barred s n = refl
 
-pub many-Next : {W : Type 0} (m : Machine W) (b : Option (Below W)) (here : Where) (all : Whole) (j : ℕ) (at : Spot) (a : Action) (rest : Lines) (barred : List ℕ) (s : State) (n : Notes W)
+pub many-Next : {W : Type 0} (m : Machine W) (b : Option (Below W)) (here : Where) (all : Scene) (j : ℕ) (at : Spot) (a : Action) (rest : Lines) (barred : List ℕ) (s : State) (n : Notes W)
     → many m b here all j (Next at a rest) barred s n
-    ≡ m.order.step here all j barred (begun (deeper j here) at (one m b (deeper j here) at a)) (many m b (knowing (after m.code here.known a) here) all (suc j) rest) s n
+    ≡ m.order.step here all j barred (begun (deeper j here) at (one m b (deeper j here) at a)) (many m b (knowing (after m.code here.method at a here.context) here) all (suc j) rest) s n
 unfolding one many
 many-Next m b here all j at a rest barred s n = refl
 

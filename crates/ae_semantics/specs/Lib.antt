@@ -1,9 +1,7 @@
-pub mod Fields
 pub mod Values
 pub mod Places
 pub mod Expressions
-pub mod Known
-pub mod Uses
+pub mod Contexts
 pub mod Observations
 pub mod Runs
 pub mod Calls
@@ -12,7 +10,6 @@ pub mod Meaning
 pub mod Equations
 pub mod Means
 pub mod Atom
-pub mod Instances
 pub mod Report
 pub mod Gathering
 pub mod Unfolding

@@ -1,23 +1,31 @@
 -- What statements do, one after another.
-use Rattle.std.specs.Prelude.{ℕ, zero, suc, nat_eq, nat_lt, ℤ, pos, negsuc, Bool, true, false, if◌then◌else◌, List, [], ◌∷◌, ◌++◌, map, replicate, codes, Option, None, Some, option_map}
+use Rattle.std.specs.Prelude.{ℕ, zero, suc, nat_lt, ℤ, pos, negsuc, Bool, true, false, if◌then◌else◌, List, [], ◌∷◌, ◌++◌, map, zip, filter_map, replicate, codes, Option, None, Some}
 use Rattle.std.specs.Prelude as prelude
 use Rattle.std.specs.Fmt.{signed_decimal}
 use Rattle.ae_text.specs.declared.refusal.Spot.{Spot}
 use Rattle.ae_code.specs.declared.tree.NameAt.{NameAt}
 use Rattle.ae_code.specs.declared.tree.Path.{Path}
+use Rattle.ae_code.specs.declared.tree.Class.{Class}
+use Rattle.ae_code.specs.declared.uses.Resource.TheVariants as resource
+use Rattle.ae_code.specs.declared.form.Perm.{Perm}
 use Rattle.ae_code.specs.declared.form.Perm.TheVariants as perm
 use Rattle.ae_code.specs.declared.form.Form.{Form}
-use Rattle.ae_code.specs.Form.{form}
-use Rattle.ae_code.specs.Plain.{Expression, Invocation, RightSide, Value, Taken, Zeros, Made, Returned, Lines, End, Next, Code}
+use Rattle.ae_code.specs.declared.form.Form.TheVariants as f
+use Rattle.ae_code.specs.Form.{form, bare_names}
+use Rattle.ae_code.specs.Plain.{Expression, Invocation, RightSide, Value, Taken, Zeros, Made, Returned, Lines, End, Next, Definition, Code}
 use Rattle.ae_code.specs.Plain.{Action, Declares, Assigns, Stores, StoresAt, Calls, Chooses, ChoosesElse, Repeats, Groups, Splits, Locks, Freezes, Shares, Prints, PrintsText, Asserts, Returns}
-use Rattle.ae_semantics.specs.Fields as fields
-use Rattle.ae_semantics.specs.Fields.{class_called}
+use Rattle.ae_rules.specs.Verdict as rules
+use Rattle.ae_rules.specs.Lookups.{class_called, field_form}
+use Rattle.ae_rules.specs.Context.{Local, Context}
+use Rattle.ae_rules.specs.Into.{name_into}
+use Rattle.ae_rules.specs.Uses.{is_seen}
+use Rattle.ae_rules.specs.Blocks.{Scene}
 use Rattle.ae_semantics.specs.Values.{Val, OfInt, OfBool, Null, Owned, Member, Object, Array, Store, values}
 use Rattle.ae_semantics.specs.Places.{Outcome, Fine, Traps, Lacks, ◌>>=◌, there, Here, Bound, State, with_local, with_group, store_of, field_value, met, field_place, bind, write_field, write_tree, Slot, slot, reach}
 use Rattle.ae_semantics.specs.Expressions.{value, number_of, truth_of, numbers, index}
-use Rattle.ae_semantics.specs.Known.{Known, after, declared_in, moved_to, moved_right, names_of, path_form, with_perm}
+use Rattle.ae_semantics.specs.Contexts.{after}
 use Rattle.ae_semantics.specs.Observations.{Trap, Ran, Turned, Notes}
-use Rattle.ae_semantics.specs.Runs.{Run, Went, Ends, Act, and_then, given, paid, chosen, marked, logged, Where, deeper, Whole, Machine, Below, fuel_of}
+use Rattle.ae_semantics.specs.Runs.{Run, Went, Ends, Act, and_then, given, paid, chosen, marked, logged, Where, deeper, knowing, splitting, locking, whole, Machine, Below, fuel_of}
 use Rattle.ae_semantics.specs.Calls.{Frame, enter, leave, moved}
 use Rattle.ae_semantics.specs.Blocks.{cell_at, all_go_away, all_come_back, asks}
 
@@ -52,6 +60,22 @@ made p (Zeros e at) s = number_of p s e >>= λ n. zeros n >>= λ v. Fine (v, s)
 made p (Made c gs args at) s = each_value p s args >>= λ vs. Fine (Owned (Object c.name (values vs)), s)
 made p (Returned i) s = Lacks
 
+-- the name that moves with an expression into a form, as a list
+abbrev pub name_moved : Form → Expression → List ℕ
+name_moved form e = rules.given (name_into form e) [] (λ x. x ∷ [])
+
+-- the names that move with the arguments of a new object, each into its field
+abbrev pub fields_moved : List NameAt → List Expression → Class → List ℕ
+fields_moved gs args c = filter_map (λ (x : Form × Expression). name_into x.0 x.1) (zip (map (field_form c (bare_names gs)) c.fields) args)
+
+-- the names that move with what stands right of a =, but for a call
+abbrev pub right_moved : Code → Form → RightSide → List ℕ
+right_moved p form (Value e) = name_moved form e
+right_moved p form (Taken path at) = []
+right_moved p form (Zeros e at) = []
+right_moved p form (Made c gs args at) = rules.given (class_called p c.name) [] (fields_moved gs args)
+right_moved p form (Returned i) = []
+
 -- ---- calls
 
 -- the body of an entered call, and then what comes back; the result is handed on
@@ -81,18 +105,18 @@ result_to at x form r s n = given (there r) at n (λ v. assigned at x form v s n
 abbrev pub sets : {W : Type 0} → Machine W → Option (Below W) → Where → Spot → ℕ → Form → RightSide → Act W
 sets m below here at x form (Returned i) s n = call m below here at i s n (result_to at x form)
 sets m below here at x form e s n = given (made m.code e s) at n
-    (λ r. assigned at x form r.0 (moved (moved_right m.code here.known (Some form) e) r.1) n)
+    (λ r. assigned at x form r.0 (moved (right_moved m.code form e) r.1) n)
 
 abbrev pub assigns : {W : Type 0} → Machine W → Option (Below W) → Where → Spot → ℕ → RightSide → Act W
-assigns m below here at x e s n = given (there (here.known.declared x)) at n (λ form. sets m below here at x form e s n)
+assigns m below here at x e s n = given (there (here.context.local x)) at n (λ (l : Local). sets m below here at x l.form e s n)
 
--- `p.f = e`: the expression is evaluated before the path
-abbrev pub stored : Code → Known → Path → Expression → State → Outcome State
-stored p k path e s =
+-- `p.f = e`: the expression is evaluated before the path, and a name that moves into the field has no value then
+abbrev pub stored : Code → Path → Expression → State → Outcome State
+stored p path e s =
     value p s e >>= λ v.
     slot p s path >>= λ x.
     write_field s x.object x.part.number v >>= λ t.
-    Fine (moved (names_of (moved_to (path_form p k path) e ∷ [])) t)
+    Fine (moved (name_moved x.part.form e) t)
 
 -- `p[i] = e`: the index, the expression, the path, then null, then the index against the length
 abbrev pub stored_at : Code → Path → Expression → Expression → State → Outcome State
@@ -103,6 +127,12 @@ stored_at p path i e s =
     numbers o.tree >>= λ ns.
     index ns n >>= λ k.
     write_tree s o (Array (prelude.set ns k v))
+
+-- a form with another permission
+abbrev pub with_perm : Perm → Form → Form
+with_perm q f.Int = f.Int
+with_perm q f.Bool = f.Bool
+with_perm q (f.Object r k) = f.Object q k
 
 abbrev pub frozen : ℕ → State → Outcome State
 frozen x s = there (s.locals x) >>= λ b. Fine (with_local x (Some (record b { form = with_perm perm.Immutable b.form })) s)
@@ -134,8 +164,12 @@ abbrev pub asserts : {W : Type 0} → Spot → Bool → Act W
 asserts at true s n = Went s n
 asserts at false s n = Ends (Trap 5 at) n
 
-abbrev pub returns : Code → Known → Expression → State → Outcome State
-returns p k e s = value p s e >>= λ v. Fine (record (moved (names_of (moved_to k.result e ∷ [])) s) { result = Some v })
+-- the name that moves with a method's result
+abbrev pub result_moved : Definition → Expression → List ℕ
+result_moved m e = rules.given m.result [] (λ t. name_moved (form t) e)
+
+abbrev pub returns : Code → Definition → Expression → State → Outcome State
+returns p m e s = value p s e >>= λ v. Fine (record (moved (result_moved m e) s) { result = Some v })
 
 -- what changes the state alone
 abbrev pub does : {W : Type 0} → Spot → Notes W → Outcome State → Run W
@@ -143,18 +177,15 @@ does at n o = given o at n (λ s. Went s n)
 
 -- ---- blocks
 
--- a block's locals and groups end with it
-abbrev pub forgotten : Lines → State → State
-forgotten b s = record s {
-  locals = λ x. if declared_in b x then None else s.locals x;
-  groups = λ g. if declared_in b g then None else s.groups g;
+-- a block's locals and groups, which are not visible where it begins, end with it
+abbrev pub forgotten : Context → State → State
+forgotten c s = record s {
+  locals = λ x. if is_seen c (resource.Local x) then s.locals x else None;
+  groups = λ g. if is_seen c (resource.Group g) then s.groups g else None;
 }
 
-abbrev pub left : {W : Type 0} → Lines → Run W → Run W
-left b run = and_then run (λ s n. Went (forgotten b s) n)
-
-abbrev pub whole : Lines → Where → Whole
-whole b here = record { lines = b; known = here.known }
+abbrev pub left : {W : Type 0} → Context → Run W → Run W
+left c run = and_then run (λ s n. Went (forgotten c s) n)
 
 -- A loop from a turn on. A turn takes one of the fuel, and what follows it has that fuel too.
 abbrev pub again : {W : Type 0} → Machine W → Option (Below W) → Where → ℕ → Spot → Expression → Lines → Act W
@@ -174,52 +205,51 @@ abbrev pub splits : {W : Type 0} → Machine W → Where → List NameAt → Act
 splits m here gs inner s n = chosen here.inside (λ _. inner s n) (λ _. split_around m here gs inner s n)
 
 -- an atomic block of a group that is here is just its statements, and one of a group that is away asks
-abbrev pub locks : {W : Type 0} → Machine W → Option (Below W) → Where → NameAt → ℕ → Lines → Act W → Act W
-locks m below here g number b inner s n = fields.given (cell_at g.name s n) (inner s n) (λ cell. asks m here cell g number b (fuel_of below) s n)
+abbrev pub locks : {W : Type 0} → Machine W → Option (Below W) → Where → Spot → NameAt → ℕ → Lines → Act W → Act W
+locks m below here at g number b inner s n = rules.given (cell_at g.name s n) (inner s n) (λ cell. asks m here at cell g number b (fuel_of below) s n)
 
 -- a statement is marked as run where it begins
 abbrev pub begun : {W : Type 0} → Where → Spot → Act W → Act W
 begun here at act s n = act s (marked (Ran here.path at) n)
-
-abbrev pub knowing : Known → Where → Where
-knowing k here = record here { known = k }
 
 unfoldable mutual
   -- one statement, which stands here
   pub one : {W : Type 0} → Machine W → Option (Below W) → Where → Spot → Action → Act W
   one m below here at (Declares ty x e) s n = sets m below here at x.name (form ty) e s n
   one m below here at (Assigns x e) s n = assigns m below here at x.name e s n
-  one m below here at (Stores path e) s n = does at n (stored m.code here.known path e s)
+  one m below here at (Stores path e) s n = does at n (stored m.code path e s)
   one m below here at (StoresAt path i e) s n = does at n (stored_at m.code path i e s)
   one m below here at (Calls i) s n = call m below here at i s n (λ r t k. Went t k)
   one m below here at (Chooses e nb b) s n = given (truth_of m.code s e) at n (λ test. chosen test
-      (λ _. left b (many m below (deeper 0 here) (whole b here) 0 b [] s n))
+      (λ _. left here.context (many m below (deeper 0 here) (whole b here) 0 b [] s n))
       (λ _. Went s n))
   one m below here at (ChoosesElse e nb b nc c) s n = given (truth_of m.code s e) at n (λ test. chosen test
-      (λ _. left b (many m below (deeper 0 here) (whole b here) 0 b [] s n))
-      (λ _. left c (many m below (deeper 1 here) (whole c here) 0 c [] s n)))
+      (λ _. left here.context (many m below (deeper 0 here) (whole b here) 0 b [] s n))
+      (λ _. left here.context (many m below (deeper 1 here) (whole c here) 0 c [] s n)))
   one m below here at (Repeats e nb b) s n = again m below here 0 at e b s n
   one m below here at (Groups g) s n = Went (with_group g.name (Some (Here [])) s) n
-  one m below here at (Splits gs nb b) s n = splits m here gs (λ t k. left b (many m below here (whole b here) 0 b [] t k)) s n
-  one m below here at (Locks g number b) s n = locks m below here g number b (λ t k. left b (many m below here (whole b here) 0 b [] t k)) s n
+  one m below here at (Splits gs nb b) s n = splits m here gs
+      (λ t k. left (splitting gs here).context (many m below (splitting gs here) (whole b (splitting gs here)) 0 b [] t k)) s n
+  one m below here at (Locks g number b) s n = locks m below here at g number b
+      (λ t k. left (locking g here).context (many m below (locking g here) (whole b (locking g here)) 0 b [] t k)) s n
   one m below here at (Freezes x) s n = does at n (frozen x.name s)
   one m below here at (Shares x g) s n = does at n (shared x.name g.name s)
   one m below here at (Prints e) s n = given (value m.code s e >>= printed) at n (λ bytes. prints here bytes s n)
   one m below here at (PrintsText text) s n = prints here text s n
   one m below here at (Asserts e) s n = given (truth_of m.code s e) at n (λ test. asserts at test s n)
-  one m below here at (Returns e) s n = does at n (returns m.code here.known e s)
+  one m below here at (Returns e) s n = does at n (returns m.code here.method e s)
 
   -- the statements of a whole block from a number on, by the machine's way through blocks
-  pub many : {W : Type 0} → Machine W → Option (Below W) → Where → Whole → ℕ → Lines → List ℕ → Act W
+  pub many : {W : Type 0} → Machine W → Option (Below W) → Where → Scene → ℕ → Lines → List ℕ → Act W
   many m below here all j End barred s n = m.order.close barred s n
   many m below here all j (Next at a rest) barred s n = m.order.step here all j barred
       (begun (deeper j here) at (one m below (deeper j here) at a))
-      (many m below (knowing (after m.code here.known a) here) all (suc j) rest)
+      (many m below (knowing (after m.code here.method at a here.context) here) all (suc j) rest)
       s n
 
 -- a whole block
 abbrev pub block : {W : Type 0} → Machine W → Option (Below W) → Where → Lines → Act W
-block m below here b s n = left b (many m below here (whole b here) 0 b [] s n)
+block m below here b s n = left here.context (many m below here (whole b here) 0 b [] s n)
 
 -- with this fuel: what blocks and loops do with one less, if there is any
 unfoldable pub below : {W : Type 0} → Machine W → ℕ → Option (Below W)

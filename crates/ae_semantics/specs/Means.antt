@@ -3,13 +3,15 @@ use Rattle.std.specs.Prelude.{ℕ, ℤ, ◌+◌, false, List, [], ◌∷◌, ◌
 use Rattle.ae_text.specs.declared.refusal.Spot.{Spot}
 use Rattle.ae_code.specs.Names.{main}
 use Rattle.ae_code.specs.Plain.{Definition, Code}
-use Rattle.ae_semantics.specs.Fields.{given, method_at, top_number}
+use Rattle.ae_rules.specs.Verdict.{given}
+use Rattle.ae_rules.specs.Lookups.{method_at, top_number}
+use Rattle.ae_rules.specs.Judges as judges
+use Rattle.ae_rules.specs.Instances.{Instance}
 use Rattle.ae_semantics.specs.Values.{Owned, Array}
 use Rattle.ae_semantics.specs.Places.{CellName, State}
-use Rattle.ae_semantics.specs.Known.{known_in, takers}
-use Rattle.ae_semantics.specs.Observations.{Instance, Piece, Image, Ask, Seen, Ending, Done, Mark, Ran, Turned, Entered, Asked, Used, Stopped, Notes, Observer}
+use Rattle.ae_semantics.specs.Observations.{Piece, Image, Ask, Seen, Ending, Done, Mark, Ran, Turned, Entered, Asked, Used, Stopped, Notes, Observer}
 use Rattle.ae_semantics.specs.Runs.{Run, Went, Ends, Stops, Where, stopping, Machine}
-use Rattle.ae_semantics.specs.Calls.{taken}
+use Rattle.ae_semantics.specs.Calls.{takers, taken}
 use Rattle.ae_semantics.specs.Meaning.{block, below}
 
 -- ---- a whole run
@@ -21,7 +23,7 @@ pub record Start : Type 0 where
   pub state : State
 
 abbrev pub main_here : Code → ℕ → Definition → Where
-main_here p n m = record { method = n; depth = 1; path = []; known = known_in p m; inside = false }
+main_here p n m = record { number = n; method = m; depth = 1; path = []; context = judges.start p m; inside = false }
 
 -- the integers are the value of main's parameter, where it has one
 abbrev pub main_state : Code → Definition → List ℤ → State

@@ -1,12 +1,9 @@
 -- What is observed of blocks and cells, what a block asks, and what a run leaves beside its state.
 use Rattle.std.specs.Prelude.{ℕ, List, Option}
 use Rattle.ae_text.specs.declared.refusal.Spot.{Spot}
+use Rattle.ae_rules.specs.Instances.{Instance}
 use Rattle.ae_semantics.specs.Values.{Store}
 use Rattle.ae_semantics.specs.Places.{CellName, Bound}
-
--- a statement instance: its number in `main`, and then a number for each step into a call, a branch, a turn or a block
-abbrev pub Instance : Type 0
-Instance = List ℕ
 
 -- what was printed at once, with the path of its `print`
 pub record Piece : Type 0 where

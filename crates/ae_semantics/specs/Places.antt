@@ -1,15 +1,18 @@
 -- Where a path leads, and how what stands there is read and changed.
-use Rattle.std.specs.Prelude.{ℕ, nat_eq, nat_lt, Bool, true, false, if◌then◌else◌, List, [], ◌∷◌, ◌++◌, Option, None, Some, slice_get}
+use Rattle.std.specs.Prelude.{ℕ, nat_eq, nat_lt, Bool, true, false, if◌then◌else◌, List, [], ◌∷◌, ◌++◌, Option, None, Some, option_map, slice_get}
 use Rattle.std.specs.Prelude as prelude
 use Rattle.ae_code.specs.declared.tree.NameAt.{NameAt}
 use Rattle.ae_code.specs.declared.tree.Path.{Path}
+use Rattle.ae_code.specs.declared.tree.Class.{Class}
 use Rattle.ae_code.specs.declared.form.Perm.{Perm}
 use Rattle.ae_code.specs.declared.form.Perm.TheVariants as perm
 use Rattle.ae_code.specs.declared.form.Kind.{Kind}
 use Rattle.ae_code.specs.declared.form.Form.{Form}
 use Rattle.ae_code.specs.declared.form.Form.TheVariants as f
 use Rattle.ae_code.specs.Plain.{Code}
-use Rattle.ae_semantics.specs.Fields.{given, Part, part_of}
+use Rattle.ae_rules.specs.Verdict.{given}
+use Rattle.ae_rules.specs.Lookups.{class_of, field_number, field_of_kind}
+use Rattle.ae_rules.specs.Walks.{owner}
 use Rattle.ae_semantics.specs.Values.{Val, Owned, Member, Tree, Object, Array, Values, Store, height, is_of_kind, fits, value_at, put}
 
 -- ---- outcomes
@@ -125,6 +128,18 @@ open_form p s at (f.Object q k) v = open_value p s q k at v
 abbrev pub open_place : Code → State → Place → Outcome Opened
 open_place p s x = open_form p s x.at x.form x.value
 
+-- a field by its number and its form in an object
+pub record Part : Type 0 where
+  pub number : ℕ
+  pub form : Form
+
+abbrev pub part_at : Option Form → ℕ → Option Part
+part_at form n = option_map (λ (x : Form). record { number = n; form = x }) form
+
+-- the field with this name of an object of this kind
+abbrev pub part_of : Code → Kind → ℕ → Option Part
+part_of p k x = given (class_of p k) None (λ (c : Class). given (field_number c x) None (part_at (field_of_kind p k x)))
+
 -- the fields of an object
 abbrev pub object_values : Tree → Option Values
 object_values (Object c xs) = Some xs
@@ -201,19 +216,10 @@ write_tree s o t = write s o.at (Owned t)
 
 -- ---- paths whose last step is written
 
-abbrev pub without_last : {A : Type 0} → List A → List A
-without_last [] = []
-without_last (x ∷ []) = []
-without_last (x ∷ y ∷ xs) = x ∷ without_last (y ∷ xs)
-
 abbrev pub last_of : {A : Type 0} → List A → Option A
 last_of [] = None
 last_of (x ∷ []) = Some x
 last_of (x ∷ y ∷ xs) = last_of (y ∷ xs)
-
--- the path to the object that has the last field
-abbrev pub owner : Path → Path
-owner path = record path { steps = without_last path.steps }
 
 -- an object and one of its fields
 pub record Slot : Type 0 where

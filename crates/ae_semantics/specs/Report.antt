@@ -2,12 +2,13 @@
 use Rattle.std.specs.Prelude.{◌≡◌, ◌≢◌, ◌<◌, ◌⊎◌, ◌↔◌, ℕ, suc, ◌-◌, nat_eq, ℤ, Bool, true, false, ◌&&◌, not, if◌then◌else◌, List, [], ◌∷◌, ◌++◌, map, take, drop, length, slice_get, Option, None, Some, Contains}
 use Rattle.ae_text.specs.declared.refusal.Spot.{Spot}
 use Rattle.ae_code.specs.Plain.{Code}
-use Rattle.ae_semantics.specs.Fields.{given}
+use Rattle.ae_rules.specs.Verdict.{given}
+use Rattle.ae_rules.specs.Instances.{Instance, Ordered, Conflict}
+use Rattle.ae_rules.specs.Paths.{comes_before, begins, later_of, is_simple_at}
 use Rattle.ae_semantics.specs.Places.{CellName}
-use Rattle.ae_semantics.specs.Observations.{Instance, Piece, Image, OfLog, Ask, Answer, Seen, OfBlock, OfCell, Query, AtBlock, AtEnd, Ending, Done, Trap, Fuel}
+use Rattle.ae_semantics.specs.Observations.{Piece, Image, OfLog, Ask, Answer, Seen, OfBlock, OfCell, Query, AtBlock, AtEnd, Ending, Done, Trap, Fuel}
 use Rattle.ae_semantics.specs.Means.{At, Turn, First, Asking, Meant, mean, bytes}
 use Rattle.ae_semantics.specs.Atom.{atom, part}
-use Rattle.ae_semantics.specs.Instances.{comes_before, begins, is_simple_at, IsOrdered, IsConflict}
 
 -- ---- a report
 
@@ -157,15 +158,27 @@ pub record Legal (p : Code) (r : Report) : Type 0 where
   pub once : AllDiffer r.order
   pub rises : Rises r.events r.order
   pub leads : (i : ℕ) (c : Cell) → slice_get r.cells i ≡ Some c → Leads p (of_cell i (picked r.events r.order)) c.first c.last
-  pub ordered : (d e : Event) → Contains r.events d → Contains r.events e → IsOrdered p d.path e.path → d.stamp < e.stamp
+  pub ordered : (d e : Event) → Contains r.events d → Contains r.events e → Ordered p d.path e.path → d.stamp < e.stamp
 
 -- ---- explained
 
--- the last instance that a run began: the one that ended it
-abbrev pub last_ran : List At → Instance
-last_ran [] = []
-last_ran (x ∷ []) = x.path
-last_ran (x ∷ y ∷ xs) = last_ran (y ∷ xs)
+-- the path of a loop from a turn on
+abbrev pub turn_path : Turn → Instance
+turn_path x = x.path ++ (x.turn ∷ [])
+
+-- the last of these paths, if there is one
+abbrev pub last_path : List Instance → Instance
+last_path [] = []
+last_path (q ∷ []) = q
+last_path (q ∷ r ∷ qs) = last_path (r ∷ qs)
+
+-- what a run began: the statements that ran, and the turns whose condition it evaluated
+abbrev pub began : Meant → List Instance
+began m = map (λ (x : At). x.path) m.ran ++ map turn_path m.turns
+
+-- Where a run ended: at the last thing that it began, which is a statement, or the turn of a loop whose condition it evaluated.
+abbrev pub ended_at : Meant → Instance
+ended_at m = later_of (last_path (map (λ (x : At). x.path) m.ran)) (last_path (map turn_path m.turns))
 
 abbrev pub used_events : Report → List Event
 used_events r = take (length r.events - r.past) r.events
@@ -185,7 +198,7 @@ first_of c = record { cell = c.name; image = c.first }
 
 -- a past event lies in the split block of a cell, or is ordered after it
 abbrev pub Concerns : Code → CellName → Event → Type 0
-Concerns p c e = (begins c.path e.path ≡ true) ⊎ IsOrdered p c.path e.path
+Concerns p c e = (begins c.path e.path ≡ true) ⊎ Ordered p c.path e.path
 
 abbrev pub ConcernsSome : Code → Report → CellName → Type 0
 ConcernsSome p r c = (e : Event) × Contains (past_events r) e × Concerns p c e
@@ -230,7 +243,7 @@ pub record Explained (p : Code) (ints : List ℤ) (fuel : ℕ) (r : Report) : Ty
   pub events_used : map Some (mean_of p ints fuel r).asked ≡ event_askings r (used_events r)
   pub sorted : AllPairs (λ d e. comes_before d.path e.path ≡ true) r.events
   pub own_path : (e : Event) → Contains r.events e → e.ask.path ≡ e.path
-  pub past_later : (e : Event) → Contains (past_events r) e → comes_before (last_ran (mean_of p ints fuel r).ran) e.path ≡ true
+  pub past_later : (e : Event) → Contains (past_events r) e → comes_before (ended_at (mean_of p ints fuel r)) e.path ≡ true
   pub none_past : r.ending ≡ Done → r.past ≡ 0
   pub past_within : r.past < suc (length r.events)
   pub asked : (e : Event) (x : Asking) → Contains r.events e → asking_of r e ≡ Some x → Contains (part_of p ints fuel r).asked x
@@ -250,10 +263,6 @@ traced_part p ints fuel r = part p ints fuel (by_report_or_first r)
 abbrev pub InTurnsFrom : Turn → Instance → Type 0
 InTurnsFrom x q = (u : ℕ) × (rest : Instance) × (q ≡ x.path ++ (u ∷ rest)) × (x.turn < suc u)
 
--- the path of a loop from a turn on
-abbrev pub turn_path : Turn → Instance
-turn_path x = x.path ++ (x.turn ∷ [])
-
 -- a line covers what lies at its path or below it, and a loop from a turn on also what lies in later turns
 abbrev pub Covers : Meant → Line → Instance → Type 0
 Covers m l q = (begins l.path q ≡ true) ⊎ ((x : Turn) × Contains m.turns x × (l.path ≡ turn_path x) × InTurnsFrom x q)
@@ -266,8 +275,8 @@ IsOf m l = Contains m.ran (record { path = l.path; spot = l.at })
 -- the instance comes after the ending, which is not the end of the program
 abbrev pub IsLater : Meant → Ending → Instance → Type 0
 IsLater m Done q = ⊥
-IsLater m (Trap code at) q = comes_before (last_ran m.ran) q ≡ true
-IsLater m (Fuel at) q = comes_before (last_ran m.ran) q ≡ true
+IsLater m (Trap code at) q = comes_before (ended_at m) q ≡ true
+IsLater m (Fuel at) q = comes_before (ended_at m) q ≡ true
 
 abbrev pub line_stamps : List Line → List ℕ
 line_stamps [] = []
@@ -275,7 +284,7 @@ line_stamps (l ∷ ls) = l.began ∷ l.ended ∷ line_stamps ls
 
 -- the paths keep their order in time
 abbrev pub Keeps : Code → Line → Line → Type 0
-Keeps p l m = (IsOrdered p l.path m.path ⊎ IsConflict p l.path m.path) → l.ended < m.began
+Keeps p l m = (Ordered p l.path m.path ⊎ Conflict p l.path m.path) → l.ended < m.began
 
 pub record Traced (p : Code) (ints : List ℤ) (fuel : ℕ) (r : Report) : Type 0 where
   pub differ : AllDiffer (line_stamps r.trace ++ stamps r.events)

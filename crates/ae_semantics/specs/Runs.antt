@@ -1,12 +1,18 @@
 -- Runs, one after another, and the two ways through a block: up to the first ending, and past what stopped.
-use Rattle.std.specs.Prelude.{ℕ, suc, Bool, true, false, if◌then◌else◌, List, [], ◌∷◌, ◌++◌, Option, None, Some, ⊤}
+use Rattle.std.specs.Prelude.{ℕ, suc, Bool, true, false, if◌then◌else◌, List, [], ◌∷◌, ◌++◌, length, Option, None, Some, ⊤}
+use Rattle.std.specs.List.{list_any}
 use Rattle.ae_text.specs.declared.refusal.Spot.{Spot}
+use Rattle.ae_code.specs.declared.tree.NameAt.{NameAt}
 use Rattle.ae_code.specs.declared.uses.Resource.TheVariants as resource
-use Rattle.ae_code.specs.Plain.{Expression, Lines, Code}
+use Rattle.ae_code.specs.Plain.{Expression, Lines, Definition, Code}
+use Rattle.ae_rules.specs.Context.{Context}
+use Rattle.ae_rules.specs.Statements.{while_locked}
+use Rattle.ae_rules.specs.Edges.{is_edge}
+use Rattle.ae_rules.specs.Blocks.{Scene, scene_uses}
+use Rattle.ae_rules.specs.Instances.{Instance}
 use Rattle.ae_semantics.specs.Places.{Outcome, Fine, Traps, Lacks, State}
-use Rattle.ae_semantics.specs.Known.{Known}
-use Rattle.ae_semantics.specs.Uses.{shuts_out, use_at, is_edge, any}
-use Rattle.ae_semantics.specs.Observations.{Instance, Piece, Ending, Trap, Fuel, Mark, Stopped, Notes, Observer}
+use Rattle.ae_semantics.specs.Contexts.{in_split, shuts_out}
+use Rattle.ae_semantics.specs.Observations.{Piece, Ending, Trap, Fuel, Mark, Stopped, Notes, Observer}
 
 -- ---- runs
 
@@ -49,29 +55,41 @@ logged pieces n = record n { log = n.log ++ pieces }
 
 -- ---- where a statement stands
 
--- a method's number, the depth of its call, the path to the block or statement, what is known there, and whether an atomic block runs around it
+-- a method and its number, the depth of its call, the path to the block or statement, the context there, and whether an atomic block runs around it
 pub record Where : Type 0 where
-  pub method : ℕ
+  pub number : ℕ
+  pub method : Definition
   pub depth : ℕ
   pub path : Instance
-  pub known : Known
+  pub context : Context
   pub inside : Bool
 
 -- one number further in
 abbrev pub deeper : ℕ → Where → Where
 deeper i here = record here { path = here.path ++ (i ∷ []) }
 
+-- the same place in another context
+abbrev pub knowing : Context → Where → Where
+knowing c here = record here { context = c }
+
+-- where a split block begins
+abbrev pub splitting : List NameAt → Where → Where
+splitting gs here = knowing (in_split gs here.context) here
+
+-- where an atomic block begins
+abbrev pub locking : NameAt → Where → Where
+locking g here = knowing (while_locked g.name here.context) here
+
+-- a whole block that begins here
+abbrev pub whole : Lines → Where → Scene
+whole b here = record { method = here.method; lines = b; start = here.context }
+
 -- ---- the ways through a block
 
--- a whole block, and what is known where it begins
-pub record Whole : Type 0 where
-  pub lines : Lines
-  pub known : Known
-
--- How the statements of a block follow each other. `step` takes a statement's number, those that were barred so far,
+-- How the statements of a block follow each other. `step` takes the whole block, a statement's number, those that were barred so far,
 -- what the statement does, and what follows with the barred ones; `close` ends the block.
 pub record Order (W : Type 0) : Type 0 where
-  pub step : Where → Whole → ℕ → List ℕ → Act W → (List ℕ → Act W) → Act W
+  pub step : Where → Scene → ℕ → List ℕ → Act W → (List ℕ → Act W) → Act W
   pub close : List ℕ → Act W
 
 -- up to the first ending
@@ -82,10 +100,10 @@ stopping = record {
 }
 
 -- what a statement that did not go through uses by Write or GroupWhole is absent from then on
-abbrev pub absent : Code → Whole → ℕ → State → State
+abbrev pub absent : Code → Scene → ℕ → State → State
 absent p all j s = record s {
-  locals = λ x. if shuts_out (use_at p all.known all.lines j (resource.Local x)) then None else s.locals x;
-  groups = λ g. if shuts_out (use_at p all.known all.lines j (resource.Group g)) then None else s.groups g;
+  locals = λ x. if shuts_out (scene_uses p all j (resource.Local x)) then None else s.locals x;
+  groups = λ g. if shuts_out (scene_uses p all j (resource.Group g)) then None else s.groups g;
 }
 
 -- what follows a statement: where it did not go through, it is barred, and that is noted
@@ -95,10 +113,10 @@ gone_on (Ends ending n) path j barred kept next = next (j ∷ barred) kept (mark
 gone_on (Stops n) path j barred kept next = next (j ∷ barred) kept (marked (Stopped path None) n)
 
 -- an edge leads to the statement from a barred one; a statement that is left out is barred itself, so no chain is asked for
-abbrev pub is_left_out : Code → Whole → ℕ → List ℕ → Bool
-is_left_out p all j barred = any (λ i. is_edge p all.known all.lines i j) barred
+abbrev pub is_left_out : Code → Scene → ℕ → List ℕ → Bool
+is_left_out p all j barred = list_any (λ i. is_edge (length p.names) (scene_uses p all) i j) barred
 
-abbrev pub flow_step : {W : Type 0} → Code → Where → Whole → ℕ → List ℕ → Act W → (List ℕ → Act W) → Act W
+abbrev pub flow_step : {W : Type 0} → Code → Where → Scene → ℕ → List ℕ → Act W → (List ℕ → Act W) → Act W
 flow_step p here all j barred act next s n = chosen (is_left_out p all j barred)
     (λ _. next (j ∷ barred) (absent p all j s) n)
     (λ _. gone_on (act s n) (here.path ++ (j ∷ [])) j barred (absent p all j s) next)

@@ -1,4 +1,5 @@
 -- A run that is under way, as a tree of the blocks that were begun, and when such a tree stands for the meaning past what stopped.
+use Rattle.ae_code.specs.Edges.{Uses}
 use Rattle.std.specs.Prelude.{◌≡◌, ◌⊎◌, ℕ, zero, suc, nat_eq, nat_lt, ℤ, Bool, true, false, ◌&&◌, if◌then◌else◌, List, [], ◌∷◌, ◌++◌, map, Option, None, Some, is_some, option_map, Contains}
 use Rattle.ae_text.specs.declared.refusal.Spot.{Spot}
 use Rattle.ae_code.specs.declared.uses.Resource.TheVariants as resource
@@ -6,15 +7,18 @@ use Rattle.ae_code.specs.declared.uses.Mode.{Mode}
 use Rattle.ae_code.specs.Names.{io}
 use Rattle.ae_code.specs.Limits.{count}
 use Rattle.ae_code.specs.Plain.{Lines, End, Next, Code}
-use Rattle.ae_semantics.specs.Fields.{given}
+use Rattle.ae_rules.specs.Verdict.{given}
+use Rattle.ae_rules.specs.Uses.{lines_use}
+use Rattle.ae_rules.specs.Blocks.{Scene, scene_uses}
 use Rattle.ae_semantics.specs.Places.{State}
-use Rattle.ae_semantics.specs.Uses.{Uses, lines_uses, use_at, shuts_out}
-use Rattle.ae_semantics.specs.Observations.{Instance, Piece, Answer, Seen, OfBlock, OfCell, Query, AtBlock, AtEnd, Ending, Notes, Observer}
-use Rattle.ae_semantics.specs.Runs.{Run, Went, Ends, Stops, Act, Where, Whole, Order, flow_step, flow_close, Machine}
+use Rattle.ae_semantics.specs.Contexts.{shuts_out}
+use Rattle.ae_semantics.specs.Observations.{Piece, Answer, Seen, OfBlock, OfCell, Query, AtBlock, AtEnd, Ending, Notes, Observer}
+use Rattle.ae_semantics.specs.Runs.{Run, Went, Ends, Stops, Act, Where, Order, flow_step, flow_close, Machine}
+use Rattle.ae_rules.specs.Instances.{Instance, Ordered}
+use Rattle.ae_rules.specs.Paths.{begins}
 use Rattle.ae_semantics.specs.Meaning.{forgotten}
 use Rattle.ae_semantics.specs.Means.{Start, start, At, Turn, Asking, Stop, Meant, meant, run, notes_of}
 use Rattle.ae_semantics.specs.Atom.{part}
-use Rattle.ae_semantics.specs.Instances.{begins, IsOrdered}
 use Rattle.ae_semantics.specs.Report.{Cell, same_instance, last_in}
 
 -- ---- the tree
@@ -291,7 +295,7 @@ part_of p ints fuel tree = part p ints fuel (observed tree)
 -- the values before a statement or behind it: its path, its block and its number there
 pub record Passage : Type 0 where
   pub path : Instance
-  pub block : Whole
+  pub block : Scene
   pub number : ℕ
   pub moment : Moment
 
@@ -301,7 +305,7 @@ pub record Trail : Type 0 where
   pub left : List Passage
 
 -- the values at statement j of the block, as its path is there
-abbrev pub passage : {W : Type 0} → Where → Whole → ℕ → State → Notes W → Passage
+abbrev pub passage : {W : Type 0} → Where → Scene → ℕ → State → Notes W → Passage
 passage here all j s n = record { path = here.path ++ (j ∷ []); block = all; number = j; moment = record { state = s; log = n.log } }
 
 -- this was found
@@ -313,13 +317,13 @@ abbrev pub with_left : Passage → Notes Trail → Notes Trail
 with_left x n = record n { watch = record { found = n.watch.found; left = n.watch.left ++ (x ∷ []) } }
 
 -- a statement that went through has left the values that follow it
-abbrev pub behind : Where → Whole → ℕ → Run Trail → Run Trail
+abbrev pub behind : Where → Scene → ℕ → Run Trail → Run Trail
 behind here all j (Went s n) = Went s (with_left (passage here all j s n) n)
 behind here all j (Ends ending n) = Ends ending n
 behind here all j (Stops n) = Stops n
 
 -- a statement, with what it found and what it left noted
-abbrev pub watched : Where → Whole → ℕ → Act Trail → Act Trail
+abbrev pub watched : Where → Scene → ℕ → Act Trail → Act Trail
 watched here all j act s n = behind here all j (act s (with_found (passage here all j s n) n))
 
 -- the way past what stopped, which notes what each statement finds and leaves and changes nothing else
@@ -376,7 +380,7 @@ AgreesOnChanged u a b = Agrees shuts_out u a b
 
 -- the uses of the statement of a passage
 abbrev pub uses_of : Code → Passage → Uses
-uses_of p x = use_at p x.block.known x.block.lines x.number
+uses_of p x = scene_uses p x.block x.number
 
 -- ---- blocks and turns
 
@@ -384,7 +388,7 @@ uses_of p x = use_at p x.block.known x.block.lines x.number
 abbrev pub left_by : List Passage → Instance → Moment → Moment
 left_by [] q m = m
 left_by (x ∷ xs) q m = if same_instance x.path (q ++ (x.number ∷ []))
-    then left_by xs q (record { state = forgotten x.block.lines x.moment.state; log = x.moment.log })
+    then left_by xs q (record { state = forgotten x.block.start x.moment.state; log = x.moment.log })
     else left_by xs q m
 
 -- what there is before a turn of the loop that found this
@@ -403,7 +407,7 @@ abbrev pub IsEntered : Code → Trail → Instance → Frame → Type 0
 IsEntered p w q (Begun m NoMore) = Unit {0}
 IsEntered p w q (Begun m (Then stage rest)) = (x : Passage) × Contains w.found x × (x.path ≡ q ++ (0 ∷ []))
     × (count x.block.lines ≡ suc (how_many rest))
-    × AgreesOnUsed (lines_uses p x.block.known x.block.lines) m x.moment
+    × AgreesOnUsed (lines_use p x.block.method x.block.lines x.block.start) m x.moment
 
 -- ---- stands for
 
@@ -441,7 +445,7 @@ LiesIn places q = (x : Place) × Contains places x × (lies_in x q ≡ true)
 
 -- the instance keeps its place after one of the places
 abbrev pub IsAfter : Code → List Place → Instance → Type 0
-IsAfter p places q = (x : Place) × Contains places x × IsOrdered p (path_of x) q
+IsAfter p places q = (x : Place) × Contains places x × Ordered p (path_of x) q
 
 -- where a statement ended
 abbrev pub halt_place : Halt → Place

@@ -8,7 +8,8 @@ use Rattle.ae_code.specs.declared.form.Kind.TheVariants as kind
 use Rattle.ae_code.specs.declared.form.Form.{Form}
 use Rattle.ae_code.specs.declared.form.Form.TheVariants as f
 use Rattle.ae_code.specs.Plain.{Code}
-use Rattle.ae_semantics.specs.Fields.{given, class_called}
+use Rattle.ae_rules.specs.Verdict.{given}
+use Rattle.ae_rules.specs.Lookups.{class_called}
 
 mutual
   -- a number, a truth, null, an object that stands here, or the number of a member of a group

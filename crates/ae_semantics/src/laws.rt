@@ -1,7 +1,12 @@
 // Laws over the meaning alone.
 ghost use Rattle.ae_semantics.specs.Gathering.{GoesByItsAnswers};
-ghost use Rattle.ae_semantics.specs.Laws.{OneEnding, MoreChangesNothing};
+ghost use Rattle.ae_semantics.specs.Laws.{ContextsAreJudged, FreshStandsFor, OneEnding, MoreChangesNothing, NothingBegunIsAfter};
 ghost use Rattle.ae_semantics.specs.Unfolding.{WatchingChangesNothing};
+
+/// After a statement that is judged the meaning goes on in the context that the judgement comes to.
+pub fn contexts_are_judged()
+    ensures { ContextsAreJudged }
+{}
 
 /// A program has one ending at most, whatever is observed.
 pub fn program_has_one_ending()
@@ -21,4 +26,14 @@ pub fn run_goes_by_its_answers()
 /// The run that notes what each statement finds and leaves comes to what the meaning past what stopped comes to.
 pub fn watching_changes_nothing()
     ensures { WatchingChangesNothing }
+{}
+
+/// What a meaning began, statements and turns of loops alike, is not after where it ended.
+pub fn nothing_begun_is_after_the_ending()
+    ensures { NothingBegunIsAfter }
+{}
+
+/// In every program with a `main` the tree before anything ran is there, and stands for the meaning past what stopped.
+pub fn fresh_stands_for()
+    ensures { FreshStandsFor }
 {}

@@ -1,0 +1,28 @@
+-- The contexts of the judgement, where the meaning asks for them.
+use Rattle.std.specs.Prelude.{Bool, not, List, Option}
+use Rattle.ae_text.specs.declared.refusal.Spot.{Spot}
+use Rattle.ae_code.specs.declared.tree.NameAt.{NameAt}
+use Rattle.ae_code.specs.declared.uses.Mode.{Mode}
+use Rattle.ae_code.specs.Plain.{Action, Definition, Code}
+use Rattle.ae_rules.specs.Verdict.{Verdict, Holds, Broken}
+use Rattle.ae_rules.specs.Context.{Context}
+use Rattle.ae_rules.specs.Statements.{judge_statement}
+use Rattle.ae_rules.specs.Uses.{split_start}
+use Rattle.ae_rules.specs.Edges.{is_weak}
+
+-- the context that a verdict gives; where a rule is broken, the one before
+abbrev pub or_before : Verdict Context → Context → Context
+or_before (Holds c) before = c
+or_before (Broken rule at) before = before
+
+-- the context after a statement of a method
+abbrev pub after : Code → Definition → Spot → Action → Context → Context
+after p m at a c = or_before (judge_statement p m at a c) c
+
+-- the context in which a split block begins
+abbrev pub in_split : List NameAt → Context → Context
+in_split gs c = or_before (split_start c gs) c
+
+-- used so that nothing else uses it meanwhile
+abbrev pub shuts_out : Option Mode → Bool
+shuts_out o = not (is_weak o)
