@@ -11,7 +11,8 @@ use Rattle.ae_code.specs.declared.uses.Mode.TheVariants as mode
 use Rattle.ae_code.specs.declared.uses.Use.{Use}
 use Rattle.ae_code.specs.Plain.{Action, Prints}
 use Rattle.ae_code.specs.Names.{io}
-use Rattle.ae_code.specs.Uses.{use_of, local_mode, group_mode, IsRising}
+use Rattle.ae_code.specs.Uses.{use_of, local_mode, group_mode}
+use Rattle.ae_code.specs.Edges.{IsRising}
 use Rattle.ae_graph.specs.Rising.{IsRisingOf}
 use Rattle.ae_graph.specs.Footprint.{IsFootprint, AreInOrder, AreLocalUses, read_by, written_by, is_written, local_use, group_uses}
 use Rattle.ae_graph.proofs.Elements.{here, nowhere, uncons, in_map, from_map, has, has_from, from_has}

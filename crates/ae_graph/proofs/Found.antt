@@ -6,13 +6,10 @@ use Rattle.std.specs.Option.{option_copied, MatchOption}
 use Rattle.std.proofs.lemmas.Bool.Decides.{nat_tests}
 use Rattle.ae_code.specs.declared.tree.Method.{Method}
 use Rattle.ae_code.specs.declared.tree.Stmt.{Stmt}
-use Rattle.ae_code.specs.declared.tree.Block.{Block, out-Block, roll-out-Block}
+use Rattle.ae_code.specs.declared.tree.Block.{Block, out-Block}
 use Rattle.ae_code.specs.Plain.{Action, Lines}
-use Rattle.ae_code.specs.Shown.{action, braced, definition, lines_from, no-roll, lines-out}
+use Rattle.ae_code.specs.Shown.{action, braced, definition, lines_from, lines-out, no-out}
 use Rattle.ae_code.specs.Uses.{statement_at, block_in}
-
-pub no-out : (b : Block) → (braced b).no ≡ (out-Block b).no
-no-out b = ap (λ (x : Block). (braced x).no) (sym (roll-out-Block b)) ∙ no-roll (out-Block b)
 
 -- ---- a method's block
 

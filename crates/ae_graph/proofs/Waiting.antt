@@ -10,7 +10,8 @@ use Rattle.ae_code.specs.declared.uses.Resource.TheVariants.{Local, Group}
 use Rattle.ae_code.specs.declared.uses.Mode.{Mode}
 use Rattle.ae_code.specs.declared.uses.Use.{Use}
 use Rattle.ae_code.specs.Plain.{Action, Lines}
-use Rattle.ae_code.specs.Uses.{use_of, used_by, use_at, statement_at, are_compatible, is_strong, IsConflict, IsWeak, IsEdge, ArePreds}
+use Rattle.ae_code.specs.Uses.{use_of, used_by, use_at, statement_at, IsEdge, ArePreds}
+use Rattle.ae_code.specs.Edges.{are_compatible, is_strong, IsConflict, IsWeak}
 use Rattle.ae_graph.specs.declared.waits.Past.{Past}
 use Rattle.ae_graph.specs.Rising.{IsRisingOf}
 use Rattle.ae_graph.specs.Footprint.{IsFootprint, IsBelow, AreInOrder}

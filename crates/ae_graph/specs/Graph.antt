@@ -3,7 +3,8 @@ use Rattle.std.specs.Prelude.{◌≡◌, ◌<◌, ◌+◌, ◌++◌, ◌↔◌, 
 use Rattle.ae_text.specs.declared.refusal.Edge.{Edge}
 use Rattle.ae_code.specs.Plain.{Lines}
 use Rattle.ae_code.specs.Limits.{count}
-use Rattle.ae_code.specs.Uses.{ArePreds, IsRising}
+use Rattle.ae_code.specs.Uses.{ArePreds}
+use Rattle.ae_code.specs.Edges.{IsRising}
 
 abbrev pub Graph : Type 0
 Graph = List (List ℕ)

@@ -7,7 +7,8 @@ use Rattle.ae_code.specs.declared.uses.Resource.TheVariants.{Local, Group}
 use Rattle.ae_code.specs.declared.uses.Mode.{Mode}
 use Rattle.ae_code.specs.declared.uses.Use.{Use}
 use Rattle.ae_code.specs.Plain.{Lines}
-use Rattle.ae_code.specs.Uses.{use_at, are_compatible, is_strong}
+use Rattle.ae_code.specs.Uses.{use_at}
+use Rattle.ae_code.specs.Edges.{are_compatible, is_strong}
 use Rattle.ae_graph.specs.declared.waits.Past.{Past}
 use Rattle.ae_graph.specs.declared.waits.OpenUses.{OpenUses}
 

@@ -2,7 +2,8 @@
 ghost use Rattle.std.specs.Prelude.{◌≡◌, ◌++◌, IfOk, OnOk, IsSome, MatchOption, map, Some, None};
 ghost use Rattle.std.specs.Option.{option_to_list};
 ghost use Rattle.ae_code.specs.Shown.{expression, right_side, action, braced, code};
-ghost use Rattle.ae_code.specs.Uses.{are_compatible, block_of, statement_at};
+ghost use Rattle.ae_code.specs.Uses.{block_of, statement_at};
+ghost use Rattle.ae_code.specs.Edges.{are_compatible};
 ghost use Rattle.ae_graph.specs.Footprint.{HasFootprint, IsFootprint, statement_of, names_in, names_right, read_by, written_by, is_written, local_use, AreLocalUses, group_uses};
 
 use crate::rising::rising;

@@ -1,7 +1,7 @@
 // For which earlier statements the uses of a statement wait.
 ghost use Rattle.std.specs.Prelude.{◌≡◌, ◌++◌, ℕ, [], nat_eq, IfOk, OnOk, if◌then◌else◌};
 ghost use Rattle.ae_code.specs.declared.uses.Resource.{Resource};
-ghost use Rattle.ae_code.specs.Uses.{is_strong};
+ghost use Rattle.ae_code.specs.Edges.{is_strong};
 ghost use Rattle.ae_graph.specs.Rising.{IsRisingOf};
 ghost use Rattle.ae_graph.specs.Opened.{kept, kept_of, added, is_same, after_uses, waited, waited_by};
 

@@ -1,17 +1,20 @@
--- What a statement does, told by what it reads alone.
-use Rattle.std.proofs.Common.{◌≡◌, ℕ, ℤ, Bool, true, false, ◌||◌, nat_eq, List, [], ◌∷◌, ◌++◌, refl, ap, ◌∙◌, arith}
+-- What a statement does, told by what it uses alone.
+use Rattle.std.proofs.Common.{◌≡◌, ℕ, ℤ, Bool, true, false, ◌||◌, if◌then◌else◌, nat_eq, List, [], ◌∷◌, ◌++◌, Some, is_some, refl, ap, ◌∙◌, arith}
 use Rattle.std.specs.Prelude.{neg_ℤ}
 use Rattle.std.specs.Fmt.{signed_decimal}
 use Rattle.std.proofs.lemmas.Bool.Decides.{nat_tests}
 use Rattle.ae_text.specs.declared.refusal.Spot.{Spot}
 use Rattle.ae_code.specs.declared.tree.NameAt.{NameAt}
+use Rattle.ae_code.specs.declared.uses.Resource.TheVariants.{Local, Group}
+use Rattle.ae_code.specs.declared.uses.Mode.TheVariants.{Write, GroupWhole}
 use Rattle.ae_code.specs.Plain.{Expression, Number, Truth, Nothing, Read, Item, Length, Grouped, Negated, Minus, Binary, RightSide, Value, Taken, Zeros, Made, Returned}
 use Rattle.ae_code.specs.Plain.{Action, Declares, Assigns, Stores, StoresAt, Calls, Chooses, ChoosesElse, Repeats, Groups, Splits, Locks, Freezes, Shares, Prints, PrintsText, Asserts, Returns}
+use Rattle.ae_code.specs.Names.{io}
+use Rattle.ae_code.specs.Uses.{reads, reads_right, read_if, local_mode, use_of}
 use Rattle.ae_meaning.specs.declared.report.Ending.TheVariants.{Trap}
 use Rattle.ae_meaning.specs.Values.{Env, Outcome, Fine, Traps, Lacks, then_value, found, fitted, stepped, value}
 use Rattle.ae_meaning.specs.Meaning.{State, Run, Went, Ends, Stops, given, bound, printed, one}
 use Rattle.ae_meaning.specs.Running.{sought}
-use Rattle.ae_meaning.specs.Uses.{reads, right_reads, uses_by_read, uses_by_write, uses_log}
 use Rattle.ae_meaning.proofs.Rules.{right-given}
 
 pub or_left : (a b : Bool) → a ≡ true → (a || b) ≡ true
@@ -21,10 +24,6 @@ or_left false b h = absurd (cc)
 pub or_right : (a b : Bool) → b ≡ true → (a || b) ≡ true
 or_right true b h = refl
 or_right false b h = h
-
-pub not_both : (b : Bool) → b ≡ true → b ≡ false → ⊥
-not_both true p q = cc
-not_both false p q = cc
 
 pub one_of : (b : Bool) → (b ≡ true → ⊥) → b ≡ false
 one_of true h = absurd (h refl)
@@ -56,7 +55,7 @@ value_same (Binary op a b) e f h =
     let q : value b e ≡ value b f = value_same b e f (λ y r. h y (or_right (reads a y) (reads b y) r)) in
     rw (p, q) refl
 
-sought_same : (a : RightSide) (e f : Env) → SameOn (right_reads a) e f → sought a e ≡ sought a f
+sought_same : (a : RightSide) (e f : Env) → SameOn (reads_right a) e f → sought a e ≡ sought a f
 sought_same (Value a) e f h = value_same a e f h
 sought_same (Taken p at) e f h = refl
 sought_same (Zeros a at) e f h = refl
@@ -115,11 +114,19 @@ performs at (PrintsText text) s = refl
 performs at (Asserts e) s = refl
 performs at (Returns e) s = refl
 
--- the effect is told by what the statement reads
-pub effect_same : (a : Action) (e f : Env) → SameOn (uses_by_read a) e f → effect a e ≡ effect a f
-effect_same (Declares ty x r) e f h = ap (λ o. doing o (Binds x.name)) (sought_same r e f h)
-effect_same (Assigns x r) e f h = ap (λ o. doing o (Binds x.name)) (sought_same r e f h)
-effect_same (Prints a) e f h = ap (λ o. doing o (λ v. Adds (signed_decimal v ++ 10 ∷ []))) (value_same a e f h)
+read_used : (b : Bool) → b ≡ true → is_some (read_if b) ≡ true
+read_used true h = refl
+read_used false h = absurd (cc)
+
+either_used : (c b : Bool) → b ≡ true → is_some (if c then Some Write else read_if b) ≡ true
+either_used true b h = refl
+either_used false b h = read_used b h
+
+-- the effect is told by the locals that the statement uses
+pub effect_same : (a : Action) (e f : Env) → SameOn (λ y. is_some (local_mode a y)) e f → effect a e ≡ effect a f
+effect_same (Declares ty x r) e f h = ap (λ o. doing o (Binds x.name)) (sought_same r e f (λ y t. h y (either_used (nat_eq x.name y) (reads_right r y) t)))
+effect_same (Assigns x r) e f h = ap (λ o. doing o (Binds x.name)) (sought_same r e f (λ y t. h y (either_used (nat_eq x.name y) (reads_right r y) t)))
+effect_same (Prints a) e f h = ap (λ o. doing o (λ v. Adds (signed_decimal v ++ 10 ∷ []))) (value_same a e f (λ y t. h y (read_used (reads a y) t)))
 effect_same (Stores p a) e f h = refl
 effect_same (StoresAt p i a) e f h = refl
 effect_same (Calls c) e f h = refl
@@ -137,8 +144,8 @@ effect_same (Returns a) e f h = refl
 
 -- an effect that the statement's uses allow
 abbrev pub Allowed : Action → Effect → Type 0
-Allowed a (Binds x v) = (y : ℕ) → uses_by_write a y ≡ nat_eq x y
-Allowed a (Adds bytes) = uses_log a ≡ true
+Allowed a (Binds x v) = use_of a (Local x) ≡ Some Write
+Allowed a (Adds bytes) = use_of a (Group io) ≡ Some GroupWhole
 Allowed a (Fails code) = Unit {0}
 Allowed a Halts = Unit {0}
 
@@ -147,9 +154,12 @@ doing_allowed a (Fine v) does h = h v
 doing_allowed a (Traps code) does h = tt
 doing_allowed a Lacks does h = tt
 
+written : (x : ℕ) (e : RightSide) → (if nat_eq x x then Some Write else read_if (reads_right e x)) ≡ Some Write
+written x e = ap (λ b. if b then Some Write else read_if (reads_right e x)) (nat_eq_self x)
+
 pub allowed : (a : Action) (env : Env) → Allowed a (effect a env)
-allowed (Declares ty x e) env = doing_allowed (Declares ty x e) (sought e env) (Binds x.name) (λ v y. refl)
-allowed (Assigns x e) env = doing_allowed (Assigns x e) (sought e env) (Binds x.name) (λ v y. refl)
+allowed (Declares ty x e) env = doing_allowed (Declares ty x e) (sought e env) (Binds x.name) (λ v. written x.name e)
+allowed (Assigns x e) env = doing_allowed (Assigns x e) (sought e env) (Binds x.name) (λ v. written x.name e)
 allowed (Prints e) env = doing_allowed (Prints e) (value e env) (λ v. Adds (signed_decimal v ++ 10 ∷ [])) (λ v. refl)
 allowed (Stores p e) env = tt
 allowed (StoresAt p i e) env = tt

@@ -1,14 +1,20 @@
 -- The laws on what statements use, from their effects.
-use Rattle.std.proofs.Common.{◌≡◌, ℕ, ℤ, Bool, true, false, ◌&&◌, if◌then◌else◌, nat_eq, ◌++◌, Option, Some, refl, ap, sym, ◌∙◌, subst, arith}
+use Rattle.std.proofs.Common.{◌≡◌, ℕ, ℤ, Bool, true, false, if◌then◌else◌, nat_eq, List, [], ◌++◌, Option, Some, refl, ap, sym, ◌∙◌, subst, arith}
+use Rattle.std.proofs.lemmas.List.{append-nil}
 use Rattle.std.proofs.lemmas.Bool.Decides.{nat_tests}
 use Rattle.ae_text.specs.declared.refusal.Spot.{Spot}
+use Rattle.ae_code.specs.declared.uses.Resource.TheVariants.{Group}
+use Rattle.ae_code.specs.declared.uses.Mode.TheVariants.{GroupWhole}
 use Rattle.ae_code.specs.Plain.{Action}
+use Rattle.ae_code.specs.Names.{io}
+use Rattle.ae_code.specs.Uses.{use_of}
 use Rattle.ae_meaning.specs.Values.{Env, with}
-use Rattle.ae_meaning.specs.Meaning.{State, Run, Went, bound, one}
-use Rattle.ae_meaning.specs.Uses.{uses_by_read, uses_by_write, uses_log, uses, Apart}
-use Rattle.ae_meaning.specs.Frame.{View, Agree, AgreeAfter, ReadsItsUses, Keeps, ChangesItsWrites, Commute, ApartCommute}
+use Rattle.ae_meaning.specs.Meaning.{State, Run, Went, Ends, Stops, bound, one}
+use Rattle.ae_meaning.specs.declared.report.Ending.TheVariants.{Trap}
+use Rattle.ae_meaning.specs.Frame.{View, Agree, AgreeAfter, ReadsItsUses, Keeps, ChangesItsWrites, behind, AddsToTheLog, Apart, Commute, ApartCommute}
 use Rattle.ae_meaning.proofs.Names.{same}
-use Rattle.ae_meaning.proofs.Effects.{SameOn, Effect, Binds, Adds, Fails, Halts, added, perform, effect, performs, effect_same, Allowed, allowed, or_left, or_right, not_both, one_of, nat_eq_self}
+use Rattle.ae_meaning.proofs.Effects.{SameOn, Effect, Binds, Adds, Fails, Halts, added, perform, effect, performs, effect_same, Allowed, allowed}
+use Rattle.ae_meaning.proofs.Apart.{unwritten, apart-turned, two_names, both_print, not_weak, weak_name}
 
 -- one effect on two states that agree
 with_agrees : (u : ℕ → Bool) (x : ℕ) (v : ℤ) (e f : Env) → SameOn u e f → SameOn u (with x v e) (with x v f)
@@ -30,43 +36,32 @@ unchanged true v o h = cc
 unchanged false v o h = refl
 
 perform_keeps : (at : Spot) (a : Action) (k : Effect) → Allowed a k → (s : State) → Keeps a s (perform at k s)
-perform_keeps at a (Binds x v) w s = (λ y h. unchanged (nat_eq x y) v (s.env y) (sym (w y) ∙ h), λ h. refl)
-perform_keeps at a (Adds bytes) w s = (λ y h. refl, λ h. absurd (cc))
+perform_keeps at a (Binds x v) w s = (λ y h. unchanged (nat_eq x y) v (s.env y) (weak_name a x y w h), λ h. refl)
+perform_keeps at a (Adds bytes) w s = (λ y h. refl, λ h. absurd (not_weak GroupWhole refl (use_of a (Group io)) w h))
 perform_keeps at a (Fails code) w s = refl
 perform_keeps at a Halts w s = refl
 
 pub changes_its_writes : ChangesItsWrites
 changes_its_writes at a s = rw (performs at a s) (perform_keeps at a (effect a s.env) (allowed a s.env) s)
 
-flipped : (b c : Bool) → (b && c) ≡ false → (c && b) ≡ false
-flipped true true h = cc
-flipped true false h = refl
-flipped false true h = refl
-flipped false false h = refl
+-- an effect does the same whatever was printed before
+perform_adds : (at : Spot) (k : Effect) (env : Env) (log : List ℕ) → perform at k (record { env = env; log = log }) ≡ behind log (perform at k (record { env = env; log = [] }))
+perform_adds at (Binds x v) env log = ap (λ l. Went (record { env = with x v env; log = l })) (sym (append-nil log))
+perform_adds at (Adds bytes) env log = refl
+perform_adds at (Fails code) env log = ap (λ l. Ends (Trap code at) l) (sym (append-nil log))
+perform_adds at Halts env log = ap (λ l. Stops l) (sym (append-nil log))
 
-apart-flip : (a b : Action) → Apart a b → Apart b a
-apart-flip a b p = record { first = p.second; second = p.first; log = flipped (uses_log a) (uses_log b) p.log }
+pub adds_to_the_log : AddsToTheLog
+adds_to_the_log at a env log = rw (performs at a (record { env = env; log = log }), performs at a (record { env = env; log = [] })) (perform_adds at (effect a env) env log)
 
 -- a statement that went through leaves the other's effect as it was
 after_other : (at1 at2 : Spot) (a b : Action) → Apart a b → (s t : State) → one at1 a s ≡ Went t → one at2 b t ≡ perform at2 (effect b s.env) t
 after_other at1 at2 a b p s t e =
     let k : Keeps a s (Went t) = subst (λ (r : Run). Keeps a s r) e (changes_its_writes at1 a s) in
-    let unwritten : (y : ℕ) → uses_by_read b y ≡ true → uses_by_write a y ≡ false =
-    λ y r. one_of (uses_by_write a y) (λ w. not_both (uses b y) (or_left (uses_by_read b y) (uses_by_write b y) r) (p.first y w)) in
-    performs at2 b t ∙ ap (λ k. perform at2 k t) (effect_same b t.env s.env (λ y r. k.0 y (unwritten y r)))
+    performs at2 b t ∙ ap (λ k. perform at2 k t) (effect_same b t.env s.env (λ y r. k.0 y (unwritten a b p y r)))
 
 with_swaps : (x y : ℕ) (v w : ℤ) (e : Env) → nat_eq x y ≡ false → (z : ℕ) → with x v (with y w e) z ≡ with y w (with x v e) z
 with_swaps x y v w e h z = grind (arith, nat_tests)
-
-two_names : (a b : Action) → Apart a b → (x y : ℕ) → ((z : ℕ) → uses_by_write a z ≡ nat_eq x z) → ((z : ℕ) → uses_by_write b z ≡ nat_eq y z) → nat_eq x y ≡ false
-two_names a b p x y k l =
-    let w : uses_by_write b y ≡ true = l y ∙ nat_eq_self y in
-    sym (k y) ∙ one_of (uses_by_write a y) (λ t. not_both (uses a y) (or_right (uses_by_read a y) (uses_by_write a y) t) (p.second y w))
-
-both_logs : (b c : Bool) → b ≡ true → c ≡ true → (b && c) ≡ false → ⊥
-both_logs true true p q h = cc
-both_logs true false p q h = cc
-both_logs false c p q h = cc
 
 effects_commute : (at1 at2 : Spot) (a b : Action) → Apart a b → (k l : Effect) → Allowed a k → Allowed b l → (s : State) (f g : State → Run)
     → ((t : State) → perform at1 k s ≡ Went t → g t ≡ perform at2 l t) → ((t : State) → perform at2 l s ≡ Went t → f t ≡ perform at1 k t)
@@ -80,7 +75,7 @@ effects_commute at1 at2 a b p (Binds x v) (Adds more) k l s f g m n = (added mor
 effects_commute at1 at2 a b p (Binds x v) (Fails code) k l s f g m n = m (bound x v s) refl
 effects_commute at1 at2 a b p (Binds x v) Halts k l s f g m n = m (bound x v s) refl
 effects_commute at1 at2 a b p (Adds bytes) (Binds y w) k l s f g m n = (bound y w (added bytes s), m (added bytes s) refl, n (bound y w s) refl)
-effects_commute at1 at2 a b p (Adds bytes) (Adds more) k l s f g m n = absurd (both_logs (uses_log a) (uses_log b) k l p.log)
+effects_commute at1 at2 a b p (Adds bytes) (Adds more) k l s f g m n = absurd (both_print a b p k l)
 effects_commute at1 at2 a b p (Adds bytes) (Fails code) k l s f g m n = m (added bytes s) refl
 effects_commute at1 at2 a b p (Adds bytes) Halts k l s f g m n = m (added bytes s) refl
 effects_commute at1 at2 a b p (Fails c) (Binds y w) k l s f g m n = n (bound y w s) refl
@@ -99,4 +94,4 @@ apart_commute at1 at2 a b p s =
     rw (e, f)
     (effects_commute at1 at2 a b p (effect a s.env) (effect b s.env) (allowed a s.env) (allowed b s.env) s (one at1 a) (one at2 b)
     (λ t h. after_other at1 at2 a b p s t (e ∙ h))
-    (λ t h. after_other at2 at1 b a (apart-flip a b p) s t (f ∙ h)))
+    (λ t h. after_other at2 at1 b a (apart-turned a b p) s t (f ∙ h)))

@@ -1,9 +1,18 @@
--- A statement depends on what it reads and changes what it writes, and statements that do not conflict commute.
-use Rattle.std.specs.Prelude.{◌≡◌, ℕ, Bool, true, false}
+-- A statement depends on what it uses and changes what it uses by Write or GroupWhole, and statements that do not conflict commute.
+use Rattle.std.specs.Prelude.{◌≡◌, ℕ, Bool, true, List, [], ◌++◌, IsSome}
 use Rattle.ae_text.specs.declared.refusal.Spot.{Spot}
-use Rattle.ae_code.specs.Plain.{Action}
+use Rattle.ae_code.specs.declared.uses.Resource.{Resource}
+use Rattle.ae_code.specs.declared.uses.Resource.TheVariants.{Local, Group}
+use Rattle.ae_code.specs.Plain.{Expression, Action}
+use Rattle.ae_code.specs.Names.{io}
+use Rattle.ae_code.specs.Uses.{reads, use_of}
+use Rattle.ae_code.specs.Edges.{IsConflict, IsWeak}
+use Rattle.ae_meaning.specs.Values.{Env, value}
 use Rattle.ae_meaning.specs.Meaning.{State, Run, Went, Ends, Stops, one}
-use Rattle.ae_meaning.specs.Uses.{uses_by_read, uses_by_write, uses_log, Apart}
+
+-- an expression's value is told by the locals that it reads
+abbrev pub ValueIsRead : Type 0
+ValueIsRead = (a : Expression) (e f : Env) → ((y : ℕ) → reads a y ≡ true → e y ≡ f y) → value a e ≡ value a f
 
 -- what is looked at: some locals, and the log or not
 pub record View : Type 0 where
@@ -27,20 +36,34 @@ AgreeAfter v (Stops l) (Went t) = ⊥
 AgreeAfter v (Stops l) (Ends f m) = ⊥
 AgreeAfter v (Stops l) (Stops m) = v.log ≡ true → l ≡ m
 
--- a statement reads only what it uses: from states that agree on a view with all that it reads, its runs agree there
+-- a statement reads only what it uses: from states that agree on a view with all locals that it uses, its runs agree there
 abbrev pub ReadsItsUses : Type 0
-ReadsItsUses = (at : Spot) (a : Action) (v : View) → ((y : ℕ) → uses_by_read a y ≡ true → v.local y ≡ true)
+ReadsItsUses = (at : Spot) (a : Action) (v : View) → ((y : ℕ) → IsSome (use_of a (Local y)) → v.local y ≡ true)
     → (s t : State) → Agree v s t → AgreeAfter v (one at a s) (one at a t)
 
--- after a run, all that the statement does not write is as before
+-- after a run, all that the statement does not use by Write or GroupWhole is as before; the log is that of `io`
 abbrev pub Keeps : Action → State → Run → Type 0
-Keeps a s (Went t) = ((y : ℕ) → uses_by_write a y ≡ false → t.env y ≡ s.env y) × (uses_log a ≡ false → t.log ≡ s.log)
+Keeps a s (Went t) = ((y : ℕ) → IsWeak (use_of a (Local y)) → t.env y ≡ s.env y) × (IsWeak (use_of a (Group io)) → t.log ≡ s.log)
 Keeps a s (Ends e log) = log ≡ s.log
 Keeps a s (Stops log) = log ≡ s.log
 
--- a statement changes only what it uses by writing, and one that ends the run printed nothing
+-- a statement changes only what it uses by Write or GroupWhole, and one that ends the run printed nothing
 abbrev pub ChangesItsWrites : Type 0
 ChangesItsWrites = (at : Spot) (a : Action) (s : State) → Keeps a s (one at a s)
+
+-- a run that begins behind these bytes
+abbrev pub behind : List ℕ → Run → Run
+behind log (Went s) = Went (record { env = s.env; log = log ++ s.log })
+behind log (Ends e more) = Ends e (log ++ more)
+behind log (Stops more) = Stops (log ++ more)
+
+-- a statement only adds to the log: it does the same whatever was printed before
+abbrev pub AddsToTheLog : Type 0
+AddsToTheLog = (at : Spot) (a : Action) (env : Env) (log : List ℕ) → one at a (record { env = env; log = log }) ≡ behind log (one at a (record { env = env; log = [] }))
+
+-- two statements do not conflict: of no resource do both make uses that do not go together
+abbrev pub Apart : Action → Action → Type 0
+Apart a b = (r : Resource) → IsConflict (use_of a r) (use_of b r) → ⊥
 
 -- what two statements come to alone, and what they come to one after the other:
 -- where both go through, both orders lead to one state; an ending of the one is its ending after the other

@@ -3,7 +3,7 @@ use Rattle.std.specs.Prelude.{◌≡◌, ◌⊎◌}
 use Rattle.ae_text.specs.declared.refusal.Spot.{Spot}
 use Rattle.ae_code.specs.Plain.{Action, Lines, End, Next}
 use Rattle.ae_meaning.specs.Meaning.{State, Went, one, many, ended}
-use Rattle.ae_meaning.specs.Uses.{Apart}
+use Rattle.ae_meaning.specs.Frame.{Apart}
 
 -- a statement that conflicts with none before it is taken out of the lines, and the rest is left
 abbrev pub Takes : Lines → Spot → Action → Lines → Type 0

@@ -1,15 +1,26 @@
 // Laws over the meaning alone.
-ghost use Rattle.ae_meaning.specs.Frame.{ReadsItsUses, ChangesItsWrites, ApartCommute};
+ghost use Rattle.ae_meaning.specs.Frame.{ValueIsRead, ReadsItsUses, ChangesItsWrites, AddsToTheLog, ApartCommute};
 ghost use Rattle.ae_meaning.specs.Order.{OrderIsFree, TakingKeepsEnding};
+ghost use Rattle.ae_meaning.specs.Endings.{AcceptedEnd};
+
+/// An expression's value is told by what it reads.
+pub fn values_are_told_by_what_is_read()
+    ensures { ValueIsRead }
+{}
 
 /// A statement reads only what it uses.
 pub fn statements_read_what_they_use()
     ensures { ReadsItsUses }
 {}
 
-/// A statement changes only what it uses by writing.
+/// A statement changes only what it uses by Write or GroupWhole.
 pub fn statements_change_what_they_write()
     ensures { ChangesItsWrites }
+{}
+
+/// A statement does the same whatever was printed before it, and what it prints comes behind that.
+pub fn statements_add_to_the_log()
+    ensures { AddsToTheLog }
 {}
 
 /// Two statements that do not conflict can change places.
@@ -25,4 +36,9 @@ pub fn order_is_free()
 /// A statement that conflicts with none before it can be run first, and if it goes through the ending stays.
 pub fn taking_keeps_ending()
     ensures { TakingKeepsEnding }
+{}
+
+/// An accepted program has an ending.
+pub fn accepted_programs_end()
+    ensures { AcceptedEnd }
 {}

@@ -1,12 +1,12 @@
 -- Of what went through, all that it conflicts with before it went through.
-use Rattle.std.proofs.Common.{◌≡◌, ◌<◌, ◌≤◌, ◌+◌, ◌-◌, ℕ, zero, suc, Bool, true, false, Option, None, Some, refl, arith, subst}
+use Rattle.std.proofs.Common.{◌≡◌, ◌<◌, ◌≤◌, ◌+◌, ◌-◌, ℕ, zero, suc, Bool, true, false, Option, None, Some, IsSome, refl, arith, subst}
 use Rattle.ae_code.specs.declared.uses.Resource.{Resource}
 use Rattle.ae_code.specs.declared.uses.Mode.{Mode}
 use Rattle.ae_code.specs.declared.uses.Mode.TheVariants.{Read, Write, GroupShared, GroupWhole}
 use Rattle.ae_code.specs.Plain.{Lines}
-use Rattle.ae_code.specs.Uses.{use_at, is_strong, are_compatible, IsConflict, IsWeak}
-use Rattle.ae_run.specs.Flow.{is_write, IsClosed}
-use Rattle.ae_run.proofs.Effects.{is_use}
+use Rattle.ae_code.specs.Uses.{use_at}
+use Rattle.ae_code.specs.Edges.{is_strong, are_compatible, IsConflict, IsWeak}
+use Rattle.ae_run.specs.Flow.{is_strong_use, IsClosed}
 
 -- the least number below n that passes a test, or none
 pub data Sought (q : ℕ → Bool) (n : ℕ) : Type 0 where
@@ -26,14 +26,6 @@ seek q zero = Nowhere (λ k l. absurd (omega arith))
 seek q (suc n) = sought_more q n (seek q n) (q n) refl
 
 -- ---- uses
-
-abbrev is_strong_use : Option Mode → Bool
-is_strong_use None = false
-is_strong_use (Some m) = is_strong m
-
-weak_from : (o : Option Mode) → is_strong_use o ≡ false → IsWeak o
-weak_from None h = tt
-weak_from (Some m) h = h
 
 strong_first : (m n : Mode) → is_strong m ≡ true → are_compatible m n ≡ false
 strong_first Read n h = absurd (cc)
@@ -72,25 +64,23 @@ between_first (Some m) None q h c = absurd c
 between_first (Some m) (Some n) None h c = absurd (cc)
 between_first (Some m) (Some n) (Some k) h c = strong_first k n h
 
-write_strong : (m : Mode) → is_write (Some m) ≡ true → is_strong m ≡ true
-write_strong Read h = absurd (cc)
-write_strong Write h = refl
-write_strong GroupShared h = absurd (cc)
-write_strong GroupWhole h = absurd (cc)
-
-pub write_then_use : (o p : Option Mode) → is_write o ≡ true → is_use p ≡ true → IsConflict o p
+pub write_then_use : (o p : Option Mode) → is_strong_use o ≡ true → IsSome p → IsConflict o p
 write_then_use None p h u = absurd (cc)
 write_then_use (Some m) None h u = absurd (cc)
-write_then_use (Some m) (Some n) h u = strong_first m n (write_strong m h)
+write_then_use (Some m) (Some n) h u = strong_first m n h
 
-pub use_then_write : (o p : Option Mode) → is_use o ≡ true → is_write p ≡ true → IsConflict o p
+pub use_then_write : (o p : Option Mode) → IsSome o → is_strong_use p ≡ true → IsConflict o p
 use_then_write None p u h = absurd (cc)
 use_then_write (Some m) None u h = absurd (cc)
-use_then_write (Some m) (Some n) u h = strong_second m n (write_strong n h)
+use_then_write (Some m) (Some n) u h = strong_second m n h
 
-pub write_is_use : (o : Option Mode) → is_write o ≡ true → is_use o ≡ true
+pub write_is_use : (o : Option Mode) → is_strong_use o ≡ true → IsSome o
 write_is_use None h = absurd (cc)
 write_is_use (Some m) h = refl
+
+pub weak_from : (o : Option Mode) → is_strong_use o ≡ false → IsWeak o
+weak_from None h = tt
+weak_from (Some m) h = h
 
 -- ---- chains of edges
 

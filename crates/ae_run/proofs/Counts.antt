@@ -3,7 +3,8 @@ use Rattle.std.proofs.Common.{◌≡◌, ◌≢◌, ◌<◌, ◌≤◌, ◌+◌,
 use Rattle.std.proofs.lemmas.List.Sums.{sum_by-cons, get_or-le-sum_by}
 use Rattle.std.proofs.lemmas.Bool.{cases_eq}
 use Rattle.ae_code.specs.Plain.{Lines}
-use Rattle.ae_code.specs.Uses.{IsRising, ArePreds}
+use Rattle.ae_code.specs.Uses.{ArePreds}
+use Rattle.ae_code.specs.Edges.{IsRising}
 use Rattle.ae_graph.specs.Graph.{Graph, preds_in, AreSuccs}
 use Rattle.ae_run.specs.Queue.{times}
 use Rattle.ae_run.proofs.Lists.{same_number, other_number}

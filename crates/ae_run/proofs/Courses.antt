@@ -9,14 +9,17 @@ use Rattle.ae_code.specs.declared.tree.Stmt.{Stmt}
 use Rattle.ae_meaning.specs.declared.report.Ending.{Ending}
 use Rattle.ae_meaning.specs.Values.{Env, empty}
 use Rattle.ae_meaning.specs.Meaning.{State, Went, Ends, Stops, one}
-use Rattle.ae_meaning.proofs.Names.{same}
+use Rattle.ae_meaning.specs.Frame.{ChangesItsWrites}
 use Rattle.ae_run.specs.declared.course.Fate.{Fate}
 use Rattle.ae_run.specs.declared.course.Fate.TheVariants as fate
 use Rattle.ae_run.specs.declared.course.First.{First}
 use Rattle.ae_run.specs.Flow.{alone, turn, IsClosed, HasValues, IsReady}
 use Rattle.ae_run.specs.Course.{is_went, is_taken, fate_at, went, taken, IsBehind, IsAtOrBehind, IsFate, IsFirst, IsRight, Settles}
 use Rattle.ae_run.proofs.Deeds.{unprinted}
-use Rattle.ae_run.proofs.Flow.{IsWith, Stands, not_both as clash, closed_with, went_values, went_prints, ended_turn, stopped_turn, values_begin}
+use Rattle.ae_run.proofs.Flow.{IsWith, Stands, Laws, not_both as clash, closed_with, went_values, went_prints, ended_turn, stopped_turn, values_begin}
+
+same : {A B : Type 0} (f g : A → B) → ((x : A) → f x ≡ g x) → f ≡ g
+same f g h = λ i. λ x. h x i
 
 -- ---- one fate is set
 
@@ -92,23 +95,23 @@ state_is s e = ap (λ l. record { env = s.env; log = l }) (sym e)
 stands : (b : Lines) (fs : List Fate) (known : Option First) (s : State) (j : ℕ) → Before b fs known s j → Stands b (went fs) j s.env
 stands b fs known s j h = record { closed = h.0.closed; ready = h.1; values = h.0.values }
 
-pub lacking : (b : Lines) (fs : List Fate) (known : Option First) (s t : State) (j : ℕ) → Before b fs known s j → alone b j s.env ≡ Stops t.log → t.env ≡ s.env → IsRight b (set fs j fate.Stopped) known t
-lacking b fs known s t j h e f =
-    let p = stopped_turn b (went fs) j s.env (stands b fs known s j h) t.log e in
+pub lacking : Laws → (b : Lines) (fs : List Fate) (known : Option First) (s t : State) (j : ℕ) → Before b fs known s j → alone b j s.env ≡ Stops t.log → t.env ≡ s.env → IsRight b (set fs j fate.Stopped) known t
+lacking laws b fs known s t j h e f =
+    let p = stopped_turn laws b (went fs) j s.env (stands b fs known s j h) t.log e in
     let q : s ≡ t = ap (λ (v : Env). record { env = v; log = s.log }) (sym f) ∙ ap (λ l. record { env = t.env; log = l }) (h.0.log ∙ sym p.1) in
     subst (λ (u : State). IsRight b (set fs j fate.Stopped) known u) q (stop_right b fs known s j h (inr p.0))
 
-pub gone : (b : Lines) (fs : List Fate) (known : Option First) (s t : State) (j : ℕ) (piece : List ℕ) → Before b fs known s j
+pub gone : Laws → (b : Lines) (fs : List Fate) (known : Option First) (s t : State) (j : ℕ) (piece : List ℕ) → Before b fs known s j
     → alone b j s.env ≡ Went (record { env = t.env; log = piece }) → t.log ≡ [] → IsRight b (set fs j (fate.Went piece)) known t
-gone b fs known s t j piece h e l =
+gone laws b fs known s t j piece h e l =
     let w = went-went fs j piece h.3 in
     let st = stands b fs known s j h in
     record {
       size = length-set fs j (fate.Went piece) ∙ h.0.size;
       log = l;
       closed = closed_with b (went fs) (went (set fs j (fate.Went piece))) j h.0.closed h.1 w;
-      values = went_values b (went fs) (went (set fs j (fate.Went piece))) j s.env st w (record { env = t.env; log = piece }) e;
-      fates = λ k. fates_at (IsFate b known) fs j (fate.Went piece) h.3 (went_prints b (went fs) j s.env st (record { env = t.env; log = piece }) e) h.0.fates k (cases_eq k j);
+      values = went_values laws b (went fs) (went (set fs j (fate.Went piece))) j s.env st w (record { env = t.env; log = piece }) e;
+      fates = λ k. fates_at (IsFate b known) fs j (fate.Went piece) h.3 (went_prints laws b (went fs) j s.env st (record { env = t.env; log = piece }) e) h.0.fates k (cases_eq k j);
       first = first_kept b fs j (fate.Went piece) known h.2 h.0.first;
     }
 
@@ -122,10 +125,10 @@ fate_earlier b known j ending n k (fate.Went piece) h = h
 fate_earlier b known j ending n k fate.Stopped (inl l) = inl (at_earlier known j k n l)
 fate_earlier b known j ending n k fate.Stopped (inr e) = inr e
 
-pub ended_here : (b : Lines) (fs : List Fate) (known : Option First) (s t : State) (j : ℕ) (ending : Ending) → Before b fs known s j → (IsBehind known j → ⊥)
+pub ended_here : Laws → (b : Lines) (fs : List Fate) (known : Option First) (s t : State) (j : ℕ) (ending : Ending) → Before b fs known s j → (IsBehind known j → ⊥)
     → alone b j s.env ≡ Ends ending t.log → t.env ≡ s.env → IsRight b (set fs j fate.Stopped) (Some (record { at = j; ending = ending })) t
-ended_here b fs known s t j ending h n e f =
-    let p = ended_turn b (went fs) j s.env (stands b fs known s j h) ending t.log e in
+ended_here laws b fs known s t j ending h n e f =
+    let p = ended_turn laws b (went fs) j s.env (stands b fs known s j h) ending t.log e in
     let w = went-stopped fs j h.3 h.2 in
     let now : Option First = Some (record { at = j; ending = ending }) in
     let here : j ≤ j = omega arith in
@@ -153,14 +156,14 @@ settled fs gs j f t e = record { fate = f; is = e; taken = t; went = refl }
 
 -- ---- before anything was run
 
-pub fresh : (b : Lines) (fs : List Fate) (s : State) → length fs ≡ count b → ((j : ℕ) → fate_at fs j ≡ fate.Waiting) → s.env ≡ empty → s.log ≡ [] → IsRight b fs None s
-fresh b fs s n w e l =
+pub fresh : ChangesItsWrites → (b : Lines) (fs : List Fate) (s : State) → length fs ≡ count b → ((j : ℕ) → fate_at fs j ≡ fate.Waiting) → s.env ≡ empty → s.log ≡ [] → IsRight b fs None s
+fresh changes b fs s n w e l =
     let none : (k : ℕ) → went fs k ≡ false = λ k. ap is_went (w k) in
     record {
       size = n;
       log = l;
       closed = λ i j edge h. absurd (clash (went fs j) h (none j));
-      values = subst (λ (v : Env). HasValues b (went fs) v) (sym e) (values_begin b (went fs) none);
+      values = subst (λ (v : Env). HasValues b (went fs) v) (sym e) (values_begin changes b (went fs) none);
       fates = λ j. subst (IsFate b None j) (sym (w j)) tt;
       first = tt;
     }

@@ -1,22 +1,20 @@
 -- A run that is over has the ending and the output of the run in source order.
 use Rattle.std.proofs.Common.{◌≡◌, ◌<◌, ◌+◌, ◌⊎◌, inl, inr, ℕ, zero, suc, Bool, true, false, not, List, [], ◌∷◌, ◌++◌, length, take, append_assoc, Option, None, Some, IsSome, refl, ap, sym, ◌∙◌, arith, subst}
 use Rattle.std.proofs.lemmas.Bool.{cases_order}
-use Rattle.ae_text.specs.declared.refusal.Spot.{Spot}
 use Rattle.ae_code.specs.Plain.{Lines, End, Next}
 use Rattle.ae_code.specs.Limits.{count}
 use Rattle.ae_code.specs.Uses.{IsEdge}
 use Rattle.ae_graph.specs.Graph.{Graph, IsGraph}
 use Rattle.ae_meaning.specs.declared.report.Ending.{Ending}
-use Rattle.ae_meaning.specs.declared.report.Ending.TheVariants.{Trap}
-use Rattle.ae_meaning.specs.Values.{Env, empty, with}
+use Rattle.ae_meaning.specs.Values.{Env, empty}
 use Rattle.ae_meaning.specs.Meaning.{State, Run, Went, Ends, Stops, and_then, one, many, begin, ended}
+use Rattle.ae_meaning.specs.Frame.{behind, AddsToTheLog}
 use Rattle.ae_run.specs.declared.course.Fate.{Fate}
 use Rattle.ae_run.specs.declared.course.Fate.TheVariants as fate
 use Rattle.ae_run.specs.declared.course.First.{First}
 use Rattle.ae_run.specs.Flow.{alone, locals_after, found_from, turn, Prints}
 use Rattle.ae_run.specs.Course.{is_went, is_taken, fate_at, went, taken, piece_of, pieces, IsAtOrBehind, IsFate, IsFirst, IsRight, IsOver, ending_of, end_of}
-use Rattle.ae_run.proofs.Effects.{Effect, Binds, Adds, Fails, Halts, effect, perform, performs, moved}
-use Rattle.ae_run.proofs.Deeds.{unprinted, after-perform}
+use Rattle.ae_run.proofs.Deeds.{unprinted}
 use Rattle.ae_run.proofs.Closed.{Sought, Least, Nowhere, seek}
 use Rattle.ae_run.proofs.Pieces.{append_nil}
 
@@ -35,61 +33,42 @@ rest_from (suc j) (Next at a rest) = rest_from j rest
 abbrev state : Env → List ℕ → State
 state env log = record { env = env; log = log }
 
-perform_prints : (at : Spot) (k : Effect) (env : Env) (log : List ℕ) (f : Fate) → PrintsFate (perform at k (unprinted env)) f
-    → perform at k (state env log) ≡ Went (state (moved k env) (log ++ piece_of f))
-perform_prints at k env log fate.Waiting h = absurd h
-perform_prints at k env log fate.Stopped h = absurd h
-perform_prints at (Binds x v) env log (fate.Went piece) h = ap (λ l. Went (state (with x v env) l)) (sym (append_nil log) ∙ ap (λ p. log ++ p) h)
-perform_prints at (Adds bytes) env log (fate.Went piece) h = ap (λ p. Went (state env (log ++ p))) h
-perform_prints at (Fails code) env log (fate.Went piece) h = absurd h
-perform_prints at Halts env log (fate.Went piece) h = absurd h
+prints_behind : (r : Run) (env : Env) (log : List ℕ) (f : Fate) → PrintsFate r f → behind log r ≡ Went (state (locals_after r env) (log ++ piece_of f))
+prints_behind r env log fate.Waiting h = absurd h
+prints_behind r env log fate.Stopped h = absurd h
+prints_behind (Went s) env log (fate.Went piece) h = ap (λ p. Went (state s.env (log ++ p))) h
+prints_behind (Ends ending more) env log (fate.Went piece) h = absurd h
+prints_behind (Stops more) env log (fate.Went piece) h = absurd h
 
 no_fate : (f : Fate) → PrintsFate (Stops []) f → ⊥
 no_fate fate.Waiting h = h
 no_fate (fate.Went piece) h = h
 no_fate fate.Stopped h = h
 
-many_prefix : (b : Lines) (env : Env) (log : List ℕ) (fs : List Fate) (j : ℕ) → ((k : ℕ) → k < j → PrintsFate (alone b k (found_from env b k)) (fate_at fs k))
+many_prefix : AddsToTheLog → (b : Lines) (env : Env) (log : List ℕ) (fs : List Fate) (j : ℕ) → ((k : ℕ) → k < j → PrintsFate (alone b k (found_from env b k)) (fate_at fs k))
     → many b (state env log) ≡ many (rest_from j b) (state (found_from env b j) (log ++ pieces (take j fs)))
-many_prefix b env log fs zero h = ap (λ l. many b (state env l)) (sym (append_nil log))
-many_prefix End env log fs (suc j) h = absurd (no_fate (fate_at fs 0) (h 0 (omega arith)))
-many_prefix (Next at a rest) env log [] (suc j) h = absurd (h 0 (omega arith))
-many_prefix (Next at a rest) env log (f ∷ fs) (suc j) h =
-    let k = effect a env in
-    let p : PrintsFate (perform at k (unprinted env)) f = subst (λ (r : Run). PrintsFate r f) (performs at a (unprinted env)) (h 0 (omega arith)) in
-    let w : one at a (state env log) ≡ Went (state (moved k env) (log ++ piece_of f)) = performs at a (state env log) ∙ perform_prints at k env log f p in
-    let m : locals_after (one at a (unprinted env)) env ≡ moved k env = ap (λ r. locals_after r env) (performs at a (unprinted env)) ∙ after-perform at k env in
-    let inner : (i : ℕ) → i < j → PrintsFate (alone rest i (found_from (moved k env) rest i)) (fate_at fs i) =
-    λ i l. subst (λ (e : Env). PrintsFate (alone rest i (found_from e rest i)) (fate_at fs i)) m (h (suc i) (omega arith)) in
+many_prefix adds b env log fs zero h = ap (λ l. many b (state env l)) (sym (append_nil log))
+many_prefix adds End env log fs (suc j) h = absurd (no_fate (fate_at fs 0) (h 0 (omega arith)))
+many_prefix adds (Next at a rest) env log [] (suc j) h = absurd (h 0 (omega arith))
+many_prefix adds (Next at a rest) env log (f ∷ fs) (suc j) h =
+    let r = one at a (unprinted env) in
+    let w : one at a (state env log) ≡ Went (state (locals_after r env) (log ++ piece_of f)) = adds at a env log ∙ prints_behind r env log f (h 0 (omega arith)) in
     ap (λ (x : Run). and_then x (many rest)) w
-    ∙ many_prefix rest (moved k env) (log ++ piece_of f) fs j inner
-    ∙ ap (λ l. many (rest_from j rest) (state (found_from (moved k env) rest j) l)) (append_assoc log (piece_of f) (pieces (take j fs)))
-    ∙ ap (λ (e : Env). many (rest_from j rest) (state (found_from e rest j) (log ++ (piece_of f ++ pieces (take j fs))))) (sym m)
+    ∙ many_prefix adds rest (locals_after r env) (log ++ piece_of f) fs j (λ i l. h (suc i) (omega arith))
+    ∙ ap (λ l. many (rest_from j rest) (state (found_from (locals_after r env) rest j) l)) (append_assoc log (piece_of f) (pieces (take j fs)))
 
-perform_ends : (at : Spot) (k : Effect) (env : Env) (log : List ℕ) (ending : Ending) → perform at k (unprinted env) ≡ Ends ending [] → perform at k (state env log) ≡ Ends ending log
-perform_ends at (Binds x v) env log ending h = absurd (cc)
-perform_ends at (Adds bytes) env log ending h = absurd (cc)
-perform_ends at (Fails code) env log ending h = let e : Trap code at ≡ ending = cc in ap (λ x. Ends x log) e
-perform_ends at Halts env log ending h = absurd (cc)
+rest_ends : AddsToTheLog → (b : Lines) (j : ℕ) (env : Env) (log : List ℕ) (ending : Ending) → alone b j env ≡ Ends ending [] → many (rest_from j b) (state env log) ≡ Ends ending log
+rest_ends adds End zero env log ending h = absurd (cc)
+rest_ends adds End (suc j) env log ending h = absurd (cc)
+rest_ends adds (Next at a rest) zero env log ending h =
+    ap (λ (x : Run). and_then x (many rest)) (adds at a env log ∙ ap (behind log) h ∙ ap (λ l. Ends ending l) (append_nil log))
+rest_ends adds (Next at a rest) (suc j) env log ending h = rest_ends adds rest j env log ending h
 
-perform_stops : (at : Spot) (k : Effect) (env : Env) (log : List ℕ) → perform at k (unprinted env) ≡ Stops [] → perform at k (state env log) ≡ Stops log
-perform_stops at (Binds x v) env log h = absurd (cc)
-perform_stops at (Adds bytes) env log h = absurd (cc)
-perform_stops at (Fails code) env log h = absurd (cc)
-perform_stops at Halts env log h = refl
-
-rest_ends : (b : Lines) (j : ℕ) (env : Env) (log : List ℕ) (ending : Ending) → alone b j env ≡ Ends ending [] → many (rest_from j b) (state env log) ≡ Ends ending log
-rest_ends End zero env log ending h = absurd (cc)
-rest_ends End (suc j) env log ending h = absurd (cc)
-rest_ends (Next at a rest) zero env log ending h =
-    ap (λ (x : Run). and_then x (many rest)) (performs at a (state env log) ∙ perform_ends at (effect a env) env log ending (sym (performs at a (unprinted env)) ∙ h))
-rest_ends (Next at a rest) (suc j) env log ending h = rest_ends rest j env log ending h
-
-rest_stops : (b : Lines) (j : ℕ) (env : Env) (log : List ℕ) → j < count b → alone b j env ≡ Stops [] → many (rest_from j b) (state env log) ≡ Stops log
-rest_stops End j env log l h = absurd (omega arith)
-rest_stops (Next at a rest) zero env log l h =
-    ap (λ (x : Run). and_then x (many rest)) (performs at a (state env log) ∙ perform_stops at (effect a env) env log (sym (performs at a (unprinted env)) ∙ h))
-rest_stops (Next at a rest) (suc j) env log l h = rest_stops rest j env log (omega arith) h
+rest_stops : AddsToTheLog → (b : Lines) (j : ℕ) (env : Env) (log : List ℕ) → j < count b → alone b j env ≡ Stops [] → many (rest_from j b) (state env log) ≡ Stops log
+rest_stops adds End j env log l h = absurd (omega arith)
+rest_stops adds (Next at a rest) zero env log l h =
+    ap (λ (x : Run). and_then x (many rest)) (adds at a env log ∙ ap (behind log) h ∙ ap (λ m. Stops m) (append_nil log))
+rest_stops adds (Next at a rest) (suc j) env log l h = rest_stops adds rest j env log (omega arith) h
 
 rest_over : (b : Lines) → rest_from (count b) b ≡ End
 rest_over End = refl
@@ -114,9 +93,9 @@ clash : (t : Bool) → t ≡ true → t ≡ false → ⊥
 clash true p q = cc
 clash false p q = cc
 
-before_end : (b : Lines) (fs : List Fate) (known : Option First) (s : State) → IsRight b fs known s → (j : ℕ) → ((k : ℕ) → k < j → not (went fs k) ≡ false)
+before_end : AddsToTheLog → (b : Lines) (fs : List Fate) (known : Option First) (s : State) → IsRight b fs known s → (j : ℕ) → ((k : ℕ) → k < j → not (went fs k) ≡ false)
     → many b begin ≡ many (rest_from j b) (state (found_from empty b j) (pieces (take j fs)))
-before_end b fs known s r j all = many_prefix b empty [] fs j (λ k l. went_fate b known k (fate_at fs k) (from_not (went fs k) (all k l)) (r.fates k))
+before_end adds b fs known s r j all = many_prefix adds b empty [] fs j (λ k l. went_fate b known k (fate_at fs k) (from_not (went fs k) (all k l)) (r.fates k))
 
 -- a run's answer is its ending and its output in source order
 abbrev pub Answered : Lines → List Fate → Option First → Type 0
@@ -125,19 +104,19 @@ Answered b fs known = (Some (ending_of known) ≡ (ended (many b begin)).ending)
 stopped_not_went : (fs : List Fate) (i : ℕ) → fate_at fs i ≡ fate.Stopped → went fs i ≡ false
 stopped_not_went fs i e = ap is_went e
 
-all_went : (b : Lines) (fs : List Fate) (known : Option First) (s : State) → IsRight b fs known s → IsFirst b fs known → ((k : ℕ) → k < length fs → not (went fs k) ≡ false) → Answered b fs known
-all_went b fs None s r f all =
+all_went : AddsToTheLog → (b : Lines) (fs : List Fate) (known : Option First) (s : State) → IsRight b fs known s → IsFirst b fs known → ((k : ℕ) → k < length fs → not (went fs k) ≡ false) → Answered b fs known
+all_went adds b fs None s r f all =
     let e : rest_from (length fs) b ≡ End = ap (λ n. rest_from n b) r.size ∙ rest_over b in
     let m : many b begin ≡ Went (state (found_from empty b (length fs)) (pieces (take (length fs) fs))) =
-    before_end b fs None s r (length fs) all ∙ ap (λ (x : Lines). many x (state (found_from empty b (length fs)) (pieces (take (length fs) fs)))) e in
+    before_end adds b fs None s r (length fs) all ∙ ap (λ (x : Lines). many x (state (found_from empty b (length fs)) (pieces (take (length fs) fs)))) e in
     (ap (λ x. (ended x).ending) (sym m), ap (λ x. (ended x).out) (sym m))
-all_went b fs (Some first) s r f all = absurd (clash (went fs first.at) (from_not (went fs first.at) (all first.at f.0)) (stopped_not_went fs first.at f.1))
+all_went adds b fs (Some first) s r f all = absurd (clash (went fs first.at) (from_not (went fs first.at) (all first.at f.0)) (stopped_not_went fs first.at f.1))
 
-stopped_least : (b : Lines) (fs : List Fate) (known : Option First) (s : State) → IsRight b fs known s → IsFirst b fs known → (d : ℕ) → d < length fs
+stopped_least : AddsToTheLog → (b : Lines) (fs : List Fate) (known : Option First) (s : State) → IsRight b fs known s → IsFirst b fs known → (d : ℕ) → d < length fs
     → ((k : ℕ) → k < d → not (went fs k) ≡ false) → IsSome (ended (many b begin)).ending
     → IsAtOrBehind known d ⊎ (turn b d ≡ Stops []) → Answered b fs known
-stopped_least b fs None s r f d l all some (inl h) = absurd h
-stopped_least b fs (Some first) s r f d l all some (inl h) =
+stopped_least adds b fs None s r f d l all some (inl h) = absurd h
+stopped_least adds b fs (Some first) s r f d l all some (inl h) =
     let e : first.at ≡ d = elim (cases_order first.at d) [
       | inl q ↦ q
       | inr o ↦ elim o [
@@ -147,29 +126,29 @@ stopped_least b fs (Some first) s r f d l all some (inl h) =
     ] in
     let n = first.at in
     let same : (k : ℕ) → k < n → not (went fs k) ≡ false = λ k m. all k (omega arith) in
-    let m : many b begin ≡ Ends first.ending (pieces (take n fs)) = before_end b fs (Some first) s r n same ∙ rest_ends b n (found_from empty b n) (pieces (take n fs)) first.ending f.2 in
+    let m : many b begin ≡ Ends first.ending (pieces (take n fs)) = before_end adds b fs (Some first) s r n same ∙ rest_ends adds b n (found_from empty b n) (pieces (take n fs)) first.ending f.2 in
     (ap (λ x. (ended x).ending) (sym m), ap (λ x. (ended x).out) (sym m))
-stopped_least b fs known s r f d l all some (inr h) =
+stopped_least adds b fs known s r f d l all some (inr h) =
     let c : d < count b = subst (λ n. d < n) r.size l in
-    let m : many b begin ≡ Stops (pieces (take d fs)) = before_end b fs known s r d all ∙ rest_stops b d (found_from empty b d) (pieces (take d fs)) c h in
+    let m : many b begin ≡ Stops (pieces (take d fs)) = before_end adds b fs known s r d all ∙ rest_stops adds b d (found_from empty b d) (pieces (take d fs)) c h in
     let none : IsSome (ended (Stops (pieces (take d fs)))).ending = subst (λ (x : Run). IsSome (ended x).ending) m some in
     absurd (cc)
 
-at_least : (b : Lines) (fs : List Fate) (known : Option First) (s : State) → IsRight b fs known s → (d : ℕ) → d < length fs
+at_least : AddsToTheLog → (b : Lines) (fs : List Fate) (known : Option First) (s : State) → IsRight b fs known s → (d : ℕ) → d < length fs
     → ((k : ℕ) → k < d → not (went fs k) ≡ false) → IsSome (ended (many b begin)).ending
     → (f : Fate) → is_taken f ≡ true → is_went f ≡ false → IsFate b known d f → Answered b fs known
-at_least b fs known s r d l all some fate.Waiting t w h = absurd (cc)
-at_least b fs known s r d l all some (fate.Went piece) t w h = absurd (cc)
-at_least b fs known s r d l all some fate.Stopped t w h = stopped_least b fs known s r r.first d l all some h
+at_least adds b fs known s r d l all some fate.Waiting t w h = absurd (cc)
+at_least adds b fs known s r d l all some (fate.Went piece) t w h = absurd (cc)
+at_least adds b fs known s r d l all some fate.Stopped t w h = stopped_least adds b fs known s r r.first d l all some h
 
-finish_at : (b : Lines) (g : Graph) → IsGraph (Some b) g → (fs : List Fate) (known : Option First) (s : State) → IsRight b fs known s → IsOver g fs → IsSome (ended (many b begin)).ending
+finish_at : AddsToTheLog → (b : Lines) (g : Graph) → IsGraph (Some b) g → (fs : List Fate) (known : Option First) (s : State) → IsRight b fs known s → IsOver g fs → IsSome (ended (many b begin)).ending
     → Sought (λ j. not (went fs j)) (length fs) → Answered b fs known
-finish_at b g graph fs known s r over some (Nowhere all) = all_went b fs known s r r.first all
-finish_at b g graph fs known s r over some (Least d l h all) =
+finish_at adds b g graph fs known s r over some (Nowhere all) = all_went adds b fs known s r r.first all
+finish_at adds b g graph fs known s r over some (Least d l h all) =
     let m : d < length g = subst (λ n. d < n) (r.size ∙ sym graph.0) l in
     let t : taken fs d ≡ true = over d m (λ i c. let e : IsEdge b i d = ((graph.1 d m).exact i).0 c in from_not (went fs i) (all i e.before)) in
-    at_least b fs known s r d l all some (fate_at fs d) t (to_not (went fs d) h) (r.fates d)
+    at_least adds b fs known s r d l all some (fate_at fs d) t (to_not (went fs d) h) (r.fates d)
 
 -- what a run that is over has is what the run in source order has
-pub finish : (b : Lines) (g : Graph) → IsGraph (Some b) g → (fs : List Fate) (known : Option First) (s : State) → IsRight b fs known s → IsOver g fs → IsSome (ended (many b begin)).ending → Answered b fs known
-finish b g graph fs known s r over some = finish_at b g graph fs known s r over some (seek (λ j. not (went fs j)) (length fs))
+pub finish : AddsToTheLog → (b : Lines) (g : Graph) → IsGraph (Some b) g → (fs : List Fate) (known : Option First) (s : State) → IsRight b fs known s → IsOver g fs → IsSome (ended (many b begin)).ending → Answered b fs known
+finish adds b g graph fs known s r over some = finish_at adds b g graph fs known s r over some (seek (λ j. not (went fs j)) (length fs))

@@ -1,18 +1,16 @@
 -- A statement all of whose predecessors went through finds what it finds in source order.
-use Rattle.std.proofs.Common.{◌≡◌, ◌≢◌, ◌<◌, ◌≤◌, ◌+◌, ◌-◌, ◌⊎◌, inl, inr, ℕ, ℤ, suc, Bool, true, false, ◌||◌, if◌then◌else◌, nat_eq, List, [], ◌++◌, Option, Some, refl, ap, sym, ◌∙◌, arith, subst}
+use Rattle.std.proofs.Common.{◌≡◌, ◌≢◌, ◌<◌, ◌≤◌, ◌+◌, ◌-◌, ◌⊎◌, inl, inr, ℕ, suc, Bool, true, false, ◌||◌, nat_eq, List, [], IsSome, refl, ap, sym, ◌∙◌, arith, subst}
 use Rattle.std.proofs.lemmas.Bool.{cases_eq, cases_order}
 use Rattle.std.proofs.lemmas.Bool.Decides.{nat_tests}
-use Rattle.ae_text.specs.declared.refusal.Spot.{Spot}
 use Rattle.ae_code.specs.declared.uses.Resource.TheVariants.{Local}
 use Rattle.ae_code.specs.Plain.{Lines}
 use Rattle.ae_code.specs.Uses.{use_at, IsEdge}
 use Rattle.ae_meaning.specs.declared.report.Ending.{Ending}
-use Rattle.ae_meaning.specs.declared.report.Ending.TheVariants.{Trap}
-use Rattle.ae_meaning.specs.Values.{Env, empty, with}
+use Rattle.ae_meaning.specs.Values.{Env, empty}
 use Rattle.ae_meaning.specs.Meaning.{State, Run, Went, Ends, Stops}
-use Rattle.ae_run.specs.Flow.{alone, found_by, turn, writes, IsClosed, HasValues, IsReady, Prints}
-use Rattle.ae_run.proofs.Effects.{Effect, Binds, Adds, Fails, Halts, SameOn, perform, is_use, Allowed, moved}
-use Rattle.ae_run.proofs.Deeds.{deed, place, unprinted, alone-performs, deed-same, deed-allowed, found-next, found-unwritten}
+use Rattle.ae_meaning.specs.Frame.{View, AgreeAfter, ReadsItsUses, ChangesItsWrites}
+use Rattle.ae_run.specs.Flow.{alone, locals_after, found_by, turn, writes, IsClosed, HasValues, IsReady, Prints}
+use Rattle.ae_run.proofs.Deeds.{seen, alone-agrees, Kept, alone-kept, found-next, found-unwritten}
 use Rattle.ae_run.proofs.Closed.{conflicts_closed, write_then_use, use_then_write, write_is_use}
 
 pub not_both : (t : Bool) → t ≡ true → t ≡ false → ⊥
@@ -57,7 +55,7 @@ also_others went j k n = grind (arith, nat_tests)
 
 -- what a ready statement uses is as it finds it in source order
 pub agrees : (b : Lines) (went : ℕ → Bool) (j : ℕ) (env : Env) → IsClosed b went → IsReady b went j → HasValues b went env
-    → SameOn (λ y. is_use (use_at b j (Local y))) env (found_by b j)
+    → (y : ℕ) → IsSome (use_at b j (Local y)) → env y ≡ found_by b j y
 agrees b went j env c r v = λ y u.
     v y j
     (λ k l w.
@@ -79,76 +77,17 @@ unwritten_at b went later j env w v y m n p q =
     v y m (λ k l t. sym (w.others k (apart k t)) ∙ p k l t) (λ k l t. sym (w.others k (apart k t)) ∙ q k l t)
 
 -- a local that statement j writes: none between j and m writes it
-written_at : (b : Lines) (went later : ℕ → Bool) (j : ℕ) → IsClosed b went → IsReady b went j → IsWith went later j
+written_at : ChangesItsWrites → (b : Lines) (went later : ℕ → Bool) (j : ℕ) → IsClosed b went → IsReady b went j → IsWith went later j
     → (y m : ℕ) → writes b j y ≡ true → ((k : ℕ) → k < m → writes b k y ≡ true → later k ≡ true) → j < m
-    → found_by b m y ≡ moved (deed b j (found_by b j)) (found_by b j) y
-written_at b went later j c r w y m t p l =
+    → found_by b m y ≡ locals_after (turn b j) (found_by b j) y
+written_at changes b went later j c r w y m t p l =
     let e : suc j + (m - suc j) ≡ m = omega arith in
     let none : (k : ℕ) → suc j ≤ k → k < suc j + (m - suc j) → writes b k y ≡ false = λ k above under.
     one_of (writes b k y) (λ s.
     let n : k ≢ j = λ (q : k ≡ j). omega arith in
     let past : went k ≡ true = sym (w.others k n) ∙ p k (omega arith) s in
     not_both (went j) (conflicts_closed b went c (Local y) j k (omega arith) (use_then_write (use_at b j (Local y)) (use_at b k (Local y)) (write_is_use (use_at b j (Local y)) t) s) past) r.left) in
-    ap (λ n. found_by b n y) (sym e) ∙ found-unwritten b y (suc j) (m - suc j) none ∙ ap (λ (f : Env). f y) (found-next empty b j)
-
-hit : (t : Bool) (v : ℤ) (o p : Option ℤ) → t ≡ true → (if t then Some v else o) ≡ (if t then Some v else p)
-hit true v o p h = refl
-hit false v o p h = absurd (cc)
-
-miss : (t : Bool) (v : ℤ) (o : Option ℤ) → t ≡ false → (if t then Some v else o) ≡ o
-miss true v o h = absurd (cc)
-miss false v o h = refl
-
-bound_at : (b : Lines) (went later : ℕ → Bool) (j : ℕ) (env : Env) → IsClosed b went → IsReady b went j → IsWith went later j → HasValues b went env
-    → (x : ℕ) (v : ℤ) → deed b j (found_by b j) ≡ Binds x v
-    → (y m : ℕ) → ((k : ℕ) → k < m → writes b k y ≡ true → later k ≡ true) → ((k : ℕ) → m ≤ k → writes b k y ≡ true → later k ≡ false)
-    → (t : Bool) → writes b j y ≡ t → writes b j y ≡ nat_eq x y → (m ≤ j) ⊎ (j < m) → with x v env y ≡ found_by b m y
-bound_at b went later j env c r w h x v d y m p q true s a (inl l) = absurd (not_both (later j) w.here (q j l s))
-bound_at b went later j env c r w h x v d y m p q true s a (inr l) =
-    hit (nat_eq x y) v (env y) (found_by b j y) (sym a ∙ s)
-    ∙ sym (written_at b went later j c r w y m s p l ∙ ap (λ k. moved k (found_by b j) y) d)
-bound_at b went later j env c r w h x v d y m p q false s a o =
-    miss (nat_eq x y) v (env y) (sym a ∙ s) ∙ unwritten_at b went later j env w h y m s p q
-
--- what a statement that goes through does to the locals keeps the values
-values_after : (b : Lines) (went later : ℕ → Bool) (j : ℕ) (env : Env) → IsClosed b went → IsReady b went j → IsWith went later j → HasValues b went env
-    → (k : Effect) → Allowed (writes b j) k → deed b j (found_by b j) ≡ k → (at : Spot) (s : State) → perform at k (unprinted env) ≡ Went s → HasValues b later s.env
-values_after b went later j env c r w h (Binds x v) a d at s e =
-    let f : with x v env ≡ s.env = cc in
-    subst (λ (z : Env). HasValues b later z) f (λ y m p q. bound_at b went later j env c r w h x v d y m p q (writes b j y) refl (a y) (le_or_more m j))
-values_after b went later j env c r w h (Adds bytes) a d at s e =
-    let f : env ≡ s.env = cc in
-    subst (λ (z : Env). HasValues b later z) f (λ y m p q. unwritten_at b went later j env w h y m (a y) p q)
-values_after b went later j env c r w h (Fails code) a d at s e = absurd (cc)
-values_after b went later j env c r w h Halts a d at s e = absurd (cc)
-
--- a ready statement does what it does in source order
-pub deed_ready : (b : Lines) (went : ℕ → Bool) (j : ℕ) (env : Env) → IsClosed b went → IsReady b went j → HasValues b went env
-    → deed b j (found_by b j) ≡ deed b j env
-deed_ready b went j env c r v = sym (deed-same b j env (found_by b j) (agrees b went j env c r v))
-
-prints_same : (k : Effect) (at : Spot) (e f : Env) (s : State) → perform at k (unprinted e) ≡ Went s → Prints (perform at k (unprinted f)) s.log
-prints_same (Binds x v) at e f s h = let l : [] ≡ s.log = cc in l
-prints_same (Adds bytes) at e f s h = let l : [] ++ bytes ≡ s.log = cc in l
-prints_same (Fails code) at e f s h = absurd (cc)
-prints_same Halts at e f s h = absurd (cc)
-
-ends_same : (k : Effect) (at : Spot) (e f : Env) (ending : Ending) (log : List ℕ) → perform at k (unprinted e) ≡ Ends ending log
-    → (perform at k (unprinted f) ≡ Ends ending []) × (log ≡ [])
-ends_same (Binds x v) at e f ending log h = absurd (cc)
-ends_same (Adds bytes) at e f ending log h = absurd (cc)
-ends_same (Fails code) at e f ending log h =
-    let p : Trap code at ≡ ending = cc in
-    let q : log ≡ [] = cc in
-    (ap (λ z. Ends z []) p, q)
-ends_same Halts at e f ending log h = absurd (cc)
-
-stops_same : (k : Effect) (at : Spot) (e f : Env) (log : List ℕ) → perform at k (unprinted e) ≡ Stops log
-    → (perform at k (unprinted f) ≡ Stops []) × (log ≡ [])
-stops_same (Binds x v) at e f log h = absurd (cc)
-stops_same (Adds bytes) at e f log h = absurd (cc)
-stops_same (Fails code) at e f log h = absurd (cc)
-stops_same Halts at e f log h = let q : log ≡ [] = cc in (refl, q)
+    ap (λ n. found_by b n y) (sym e) ∙ found-unwritten changes b y (suc j) (m - suc j) none ∙ ap (λ (f : Env). f y) (found-next empty b j)
 
 -- what statements that went through leave, and a ready statement beside them
 pub record Stands (b : Lines) (went : ℕ → Bool) (j : ℕ) (env : Env) : Type 0 where
@@ -156,34 +95,72 @@ pub record Stands (b : Lines) (went : ℕ → Bool) (j : ℕ) (env : Env) : Type
   pub ready : IsReady b went j
   pub values : HasValues b went env
 
-pub went_values : (b : Lines) (went later : ℕ → Bool) (j : ℕ) (env : Env) → Stands b went j env → IsWith went later j
+-- what the laws of the meaning say of single statements
+pub record Laws : Type 0 where
+  pub reads : ReadsItsUses
+  pub changes : ChangesItsWrites
+
+-- a ready statement does what it does in source order
+turn-agrees : Laws → (b : Lines) (went : ℕ → Bool) (j : ℕ) (env : Env) → Stands b went j env → AgreeAfter (seen b j) (alone b j env) (turn b j)
+turn-agrees laws b went j env h = alone-agrees laws.reads b j env (found_by b j) (agrees b went j env h.closed h.ready h.values)
+
+went_local : (v : View) (s : State) (r : Run) (env : Env) (y : ℕ) → AgreeAfter v (Went s) r → v.local y ≡ true → s.env y ≡ locals_after r env y
+went_local v s (Went t) env y h u = h.local y u
+went_local v s (Ends ending log) env y h u = absurd h
+went_local v s (Stops log) env y h u = absurd h
+
+-- after a ready statement a local is as source order has it, whether the statement writes it or not
+value_at : Laws → (b : Lines) (went later : ℕ → Bool) (j : ℕ) (env : Env) → Stands b went j env → IsWith went later j
+    → (s : State) → AgreeAfter (seen b j) (Went s) (turn b j) → Kept (writes b j) env (Went s)
+    → (y m : ℕ) → ((k : ℕ) → k < m → writes b k y ≡ true → later k ≡ true) → ((k : ℕ) → m ≤ k → writes b k y ≡ true → later k ≡ false)
+    → (t : Bool) → writes b j y ≡ t → (m ≤ j) ⊎ (j < m) → s.env y ≡ found_by b m y
+value_at laws b went later j env h w s a k y m p q true t (inl l) = absurd (not_both (later j) w.here (q j l t))
+value_at laws b went later j env h w s a k y m p q true t (inr l) =
+    went_local (seen b j) s (turn b j) (found_by b j) y a (write_is_use (use_at b j (Local y)) t)
+    ∙ sym (written_at laws.changes b went later j h.closed h.ready w y m t p l)
+value_at laws b went later j env h w s a k y m p q false t o = k y t ∙ unwritten_at b went later j env w h.values y m t p q
+
+-- what a statement that goes through does to the locals keeps the values
+pub went_values : Laws → (b : Lines) (went later : ℕ → Bool) (j : ℕ) (env : Env) → Stands b went j env → IsWith went later j
     → (s : State) → alone b j env ≡ Went s → HasValues b later s.env
-went_values b went later j env h w s e =
-    let d : deed b j (found_by b j) ≡ deed b j env = deed_ready b went j env h.closed h.ready h.values in
-    values_after b went later j env h.closed h.ready w h.values (deed b j env) (deed-allowed b j env) d (place b j) s (sym (alone-performs b j env) ∙ e)
+went_values laws b went later j env h w s e =
+    let a : AgreeAfter (seen b j) (Went s) (turn b j) = subst (λ (r : Run). AgreeAfter (seen b j) r (turn b j)) e (turn-agrees laws b went j env h) in
+    let k : Kept (writes b j) env (Went s) = subst (λ (r : Run). Kept (writes b j) env r) e (alone-kept laws.changes b j env) in
+    λ y m p q. value_at laws b went later j env h w s a k y m p q (writes b j y) refl (le_or_more m j)
 
-turn_is : (b : Lines) (went : ℕ → Bool) (j : ℕ) (env : Env) → Stands b went j env → turn b j ≡ perform (place b j) (deed b j env) (unprinted (found_by b j))
-turn_is b went j env h = alone-performs b j (found_by b j) ∙ ap (λ k. perform (place b j) k (unprinted (found_by b j))) (deed_ready b went j env h.closed h.ready h.values)
+prints_alike : (v : View) (s : State) (r : Run) → v.log ≡ true → AgreeAfter v (Went s) r → Prints r s.log
+prints_alike v s (Went t) l h = sym (h.log l)
+prints_alike v s (Ends ending log) l h = absurd h
+prints_alike v s (Stops log) l h = absurd h
 
-pub went_prints : (b : Lines) (went : ℕ → Bool) (j : ℕ) (env : Env) → Stands b went j env → (s : State) → alone b j env ≡ Went s → Prints (turn b j) s.log
-went_prints b went j env h s e =
-    subst (λ (r : Run). Prints r s.log) (sym (turn_is b went j env h))
-    (prints_same (deed b j env) (place b j) env (found_by b j) s (sym (alone-performs b j env) ∙ e))
+pub went_prints : Laws → (b : Lines) (went : ℕ → Bool) (j : ℕ) (env : Env) → Stands b went j env → (s : State) → alone b j env ≡ Went s → Prints (turn b j) s.log
+went_prints laws b went j env h s e =
+    prints_alike (seen b j) s (turn b j) refl (subst (λ (r : Run). AgreeAfter (seen b j) r (turn b j)) e (turn-agrees laws b went j env h))
 
-pub ended_turn : (b : Lines) (went : ℕ → Bool) (j : ℕ) (env : Env) → Stands b went j env → (ending : Ending) (log : List ℕ) → alone b j env ≡ Ends ending log
+ends_alike : (v : View) (ending : Ending) (log : List ℕ) (r : Run) → v.log ≡ true → AgreeAfter v (Ends ending log) r → log ≡ [] → r ≡ Ends ending []
+ends_alike v ending log (Went t) l h n = absurd h
+ends_alike v ending log (Ends other more) l h n = ap (λ e. Ends e more) (sym h.0) ∙ ap (λ m. Ends ending m) (sym (h.1 l) ∙ n)
+ends_alike v ending log (Stops more) l h n = absurd h
+
+pub ended_turn : Laws → (b : Lines) (went : ℕ → Bool) (j : ℕ) (env : Env) → Stands b went j env → (ending : Ending) (log : List ℕ) → alone b j env ≡ Ends ending log
     → (turn b j ≡ Ends ending []) × (log ≡ [])
-ended_turn b went j env h ending log e =
-    let p = ends_same (deed b j env) (place b j) env (found_by b j) ending log (sym (alone-performs b j env) ∙ e) in
-    (turn_is b went j env h ∙ p.0, p.1)
+ended_turn laws b went j env h ending log e =
+    let n : log ≡ [] = subst (λ (r : Run). Kept (writes b j) env r) e (alone-kept laws.changes b j env) in
+    (ends_alike (seen b j) ending log (turn b j) refl (subst (λ (r : Run). AgreeAfter (seen b j) r (turn b j)) e (turn-agrees laws b went j env h)) n, n)
 
-pub stopped_turn : (b : Lines) (went : ℕ → Bool) (j : ℕ) (env : Env) → Stands b went j env → (log : List ℕ) → alone b j env ≡ Stops log
+stops_alike : (v : View) (log : List ℕ) (r : Run) → v.log ≡ true → AgreeAfter v (Stops log) r → log ≡ [] → r ≡ Stops []
+stops_alike v log (Went t) l h n = absurd h
+stops_alike v log (Ends ending more) l h n = absurd h
+stops_alike v log (Stops more) l h n = ap (λ m. Stops m) (sym (h l) ∙ n)
+
+pub stopped_turn : Laws → (b : Lines) (went : ℕ → Bool) (j : ℕ) (env : Env) → Stands b went j env → (log : List ℕ) → alone b j env ≡ Stops log
     → (turn b j ≡ Stops []) × (log ≡ [])
-stopped_turn b went j env h log e =
-    let p = stops_same (deed b j env) (place b j) env (found_by b j) log (sym (alone-performs b j env) ∙ e) in
-    (turn_is b went j env h ∙ p.0, p.1)
+stopped_turn laws b went j env h log e =
+    let n : log ≡ [] = subst (λ (r : Run). Kept (writes b j) env r) e (alone-kept laws.changes b j env) in
+    (stops_alike (seen b j) log (turn b j) refl (subst (λ (r : Run). AgreeAfter (seen b j) r (turn b j)) e (turn-agrees laws b went j env h)) n, n)
 
 -- before anything went through
-pub values_begin : (b : Lines) (went : ℕ → Bool) → ((k : ℕ) → went k ≡ false) → HasValues b went empty
-values_begin b went n = λ y m p q.
+pub values_begin : ChangesItsWrites → (b : Lines) (went : ℕ → Bool) → ((k : ℕ) → went k ≡ false) → HasValues b went empty
+values_begin changes b went n = λ y m p q.
     let e : 0 + m ≡ m = omega arith in
-    sym (ap (λ x. found_by b x y) (sym e) ∙ found-unwritten b y 0 m (λ k l u. one_of (writes b k y) (λ t. not_both (went k) (p k (omega arith) t) (n k))))
+    sym (ap (λ x. found_by b x y) (sym e) ∙ found-unwritten changes b y 0 m (λ k l u. one_of (writes b k y) (λ t. not_both (went k) (p k (omega arith) t) (n k))))

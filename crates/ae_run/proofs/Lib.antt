@@ -1,4 +1,3 @@
-pub mod Effects
 pub mod Deeds
 pub mod Closed
 pub mod Flow

@@ -10,7 +10,6 @@ use Rattle.ae_code.specs.Shown.{lines_from, lines-out, definition, code}
 use Rattle.ae_code.specs.Judgement.{Accepted}
 use Rattle.ae_code.specs.Uses.{block_in, block_of}
 use Rattle.ae_meaning.specs.Meaning.{many, begin, ended, main_body, seq}
-use Rattle.ae_meaning.proofs.Rules.{seq-ended}
 
 block_here : (m : Definition) → m.no ≡ 0 → block_in (m ∷ []) 0 0 ≡ Some m.body
 block_here m e = ap (λ n. if nat_eq n 0 then Some m.body else None) e
@@ -27,9 +26,13 @@ some_is o x e = subst IsSome (sym e) refl
 pub has_block : (p : Code) → Accepted p → IsSome (block_of p 0 0)
 has_block p a = some_is (block_of p 0 0) a.0.method.body (block_is p a)
 
+seq_ended : (p : Code) (ints : List ℤ) (fuel : ℕ) → seq p ints fuel ≡ ended (many (main_body p.methods) begin)
+unfolding seq
+seq_ended p ints fuel = refl
+
 seq_is : (p : Code) (a : Accepted p) (ints : List ℤ) (fuel : ℕ) → seq p ints fuel ≡ ended (many a.0.method.body begin)
 seq_is p a ints fuel =
-    seq-ended p ints fuel ∙ ap (λ (b : Lines). ended (many b begin)) (ap main_body a.0.methods ∙ main_here a.0.method a.0.is_main.class a.0.is_main.is_named)
+    seq_ended p ints fuel ∙ ap (λ (b : Lines). ended (many b begin)) (ap main_body a.0.methods ∙ main_here a.0.method a.0.is_main.class a.0.is_main.is_named)
 
 some_method : (ms : List Method) (m : Definition) → map definition ms ≡ m ∷ [] → 0 < length ms
 some_method [] m e = absurd (cc)

@@ -2,9 +2,9 @@
 use Rattle.std.specs.Prelude.{◌≡◌, ◌<◌, ◌≤◌, ℕ, zero, suc, Bool, true, false, List, [], Option, None, Some}
 use Rattle.ae_code.specs.declared.uses.Resource.TheVariants.{Local}
 use Rattle.ae_code.specs.declared.uses.Mode.{Mode}
-use Rattle.ae_code.specs.declared.uses.Mode.TheVariants.{Read, Write, GroupShared, GroupWhole}
 use Rattle.ae_code.specs.Plain.{Lines, End, Next}
 use Rattle.ae_code.specs.Uses.{use_at, IsEdge}
+use Rattle.ae_code.specs.Edges.{is_strong}
 use Rattle.ae_meaning.specs.Values.{Env, empty}
 use Rattle.ae_meaning.specs.Meaning.{Run, Went, Ends, Stops, one}
 
@@ -34,16 +34,14 @@ found_by b j = found_from empty b j
 abbrev pub turn : Lines → ℕ → Run
 turn b j = alone b j (found_by b j)
 
-abbrev pub is_write : Option Mode → Bool
-is_write None = false
-is_write (Some Read) = false
-is_write (Some Write) = true
-is_write (Some GroupShared) = false
-is_write (Some GroupWhole) = false
+-- a use by Write or GroupWhole
+abbrev pub is_strong_use : Option Mode → Bool
+is_strong_use None = false
+is_strong_use (Some m) = is_strong m
 
 -- a statement writes this local
 abbrev pub writes : Lines → ℕ → ℕ → Bool
-writes b k y = is_write (use_at b k (Local y))
+writes b k y = is_strong_use (use_at b k (Local y))
 
 -- what a statement that went through waits for went through
 abbrev pub IsClosed : Lines → (ℕ → Bool) → Type 0

@@ -1,4 +1,4 @@
-// What became of the statements of a block.
+// What became of the statements of a block. A law of the meaning is called where a proof takes it from there; the call does nothing.
 ghost use Rattle.std.specs.Prelude.{◌≡◌, ◌<◌, ◌≤◌, ◌↔◌, ℕ, false, [], length, take, IfOk, OnOk, IsTrue, slice_set};
 ghost use Rattle.ae_code.specs.Shown.{action, lines_from};
 ghost use Rattle.ae_meaning.specs.Values.{empty};
@@ -8,7 +8,10 @@ ghost use Rattle.ae_run.specs.Flow.{IsReady};
 ghost use Rattle.ae_run.specs.Course.{went, taken, fate_at, Gives, IsOnCourse, IsBehind, Settles, piece_of, pieces, ending_of, end_of};
 
 use ae_code::Stmt;
-use ae_meaning::{Ending, Locals, RunReport, Running, Stop, run_stmt};
+use ae_meaning::{
+    Ending, Locals, RunReport, Running, Stop, run_stmt, statements_change_what_they_write,
+    statements_read_what_they_use,
+};
 use ae_text::Items;
 use std::alloc::{AllocError, Global};
 use std::mem;
@@ -145,6 +148,8 @@ impl Course {
             self.set(j, Fate::Stopped);
             return Ok(false);
         }
+        statements_read_what_they_use();
+        statements_change_what_they_write();
         match run_alone(alloc, &stmts[j as usize], &mut self.state)? {
             Outcome::Went(piece) => {
                 self.set(j, Fate::Went(piece));

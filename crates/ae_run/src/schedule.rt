@@ -1,4 +1,4 @@
-// Runs a block from a list of ready statements.
+// Runs a block from a list of ready statements. A law of the meaning is called where a proof takes it from there; the call does nothing.
 ghost use Rattle.std.specs.Prelude.{◌≡◌, ◌<◌, ◌≤◌, ℕ, length, IfOk, Some, IsSome};
 ghost use Rattle.ae_code.specs.Shown.{code, lines_from};
 ghost use Rattle.ae_code.specs.Judgement.{Accepted};
@@ -10,7 +10,9 @@ use crate::course::Course;
 use crate::queue::Queue;
 use ae_code::{Program, Stmt};
 use ae_graph::BlockGraph;
-use ae_meaning::RunReport;
+use ae_meaning::{
+    RunReport, accepted_programs_end, statements_add_to_the_log, statements_change_what_they_write,
+};
 use ae_text::{Gate, Memory};
 use std::alloc::{AllocError, Global};
 use std::thread::Threads;
@@ -27,6 +29,7 @@ fn run_block(
     ensures course { IfOk result (IsOnCourse (lines_from stmts.now)) }
     ensures over { IfOk result (λ c. IsOver graph.now c.fates.items) }
 {
+    statements_change_what_they_write();
     let mut queue = Queue::new(alloc, graph, count)?;
     let mut course = Course::new(alloc, count)?;
     while let Some(j) = queue.take() {
@@ -51,6 +54,7 @@ fn run_main(
     ensures ending { IfOk result (λ r. Some r.ending ≡ (ended (many (lines_from stmts.now) begin)).ending) }
     ensures out { IfOk result (λ r. r.out ≡ (ended (many (lines_from stmts.now) begin)).out) }
 {
+    statements_add_to_the_log();
     let course = run_block(alloc, stmts, graph, count)?;
     course.report(alloc)
 }
@@ -82,5 +86,6 @@ pub fn run<G: Gate>(
     let graph = BlockGraph::of(alloc, program, 0, 0)?;
     let count = u32::try_from(graph.len()).map_err(|_| Memory)?;
     let stmts = program.methods.as_slice()[0].body.stmts.as_slice();
+    accepted_programs_end();
     run_main(alloc, stmts, &graph, count).map_err(|_| Memory)
 }

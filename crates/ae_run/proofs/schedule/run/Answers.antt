@@ -4,7 +4,6 @@ use Rattle.ae_code.specs.Shown.{code, lines_from}
 use Rattle.ae_graph.specs.Graph.{IsGraph}
 use Rattle.ae_meaning.specs.Meaning.{Meaning, many, begin, ended, seq}
 use Rattle.ae_meaning.specs.declared.report.RunReport.{RunReport}
-use Rattle.ae_meaning.proofs.Fits.{program_ends}
 use Rattle.ae_run.proofs.Programs.{block_lines, seq_lines}
 use Rattle.ae_run.proofs.Reports.{handed, weaker}
 use Rattle.ae_run.proofs.schedule.run.Goals as goal
@@ -19,7 +18,7 @@ pub run_main-requires-clause-ends : goal.run_main-requires-clause-ends
 run_main-requires-clause-ends g c =
     subst (λ (m : Meaning). IsSome m.ending)
     (seq_lines c.args.program.now c.requires.accepted c.as_slice.result.now c.as_slice.ensures c.index-as_slice-0.result c.as_slice-stmts.result.now c.as_slice-stmts.ensures c.args.ints.now c.args.fuel)
-    (program_ends (code c.args.program.now) c.requires.accepted c.args.ints.now c.args.fuel)
+    (c.accepted_programs_end.ensures (code c.args.program.now) c.requires.accepted c.args.ints.now c.args.fuel)
 
 pub returns-clause-ending : goal.returns-clause-ending
 returns-clause-ending g c =

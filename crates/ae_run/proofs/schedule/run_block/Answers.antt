@@ -66,7 +66,7 @@ loop-j-init c =
     let s = held c.in_ok-course.course.state in
     let n : length fs ≡ count b = c.in_ok-course.ensures.size ∙ sym c.requires.size ∙ c.requires.graph.0 in
     record {
-      course = subst (λ (k : Option First). IsRight b fs k s) (sym c.in_ok-course.ensures.first) (fresh b fs s n c.in_ok-course.ensures.fates c.in_ok-course.ensures.locals c.in_ok-course.ensures.log);
+      course = subst (λ (k : Option First). IsRight b fs k s) (sym c.in_ok-course.ensures.first) (fresh c.statements_change_what_they_write.ensures b fs s n c.in_ok-course.ensures.fates c.in_ok-course.ensures.locals c.in_ok-course.ensures.log);
       waits = fresh_waits c.args.graph.now fs c.in_ok-queue.queue.waits.items (c.in_ok-queue.ensures.size ∙ sym c.requires.size) c.in_ok-course.ensures.fates
           (λ j l. c.in_ok-queue.ensures.waits j (subst (λ m. j < m) c.requires.size l));
       ready = fresh_ready fs c.in_ok-queue.queue.waits.items (heap_items c.in_ok-queue.queue.ready) c.in_ok-course.ensures.fates c.in_ok-queue.ensures.ready;

@@ -22,7 +22,7 @@ returns-in-Went-clause-course c =
     let b = lines_from c.args.stmts.now in
     let given = rw c.in-Went.is at c.in_ok-piece.ensures in
     rw (c.set-in-Went.ensures.fates, c.set-in-Went.ensures.first, c.set-in-Went.ensures.state)
-    (gone b s.fates.items s.first (held s.state) (held c.run_alone.new.state) c.args.j c.in-Went.piece (c.requires.course, c.requires.ready, c.requires.untaken, c.requires.counted)
+    (gone (record { reads = c.statements_read_what_they_use.ensures; changes = c.statements_change_what_they_write.ensures }) b s.fates.items s.first (held s.state) (held c.run_alone.new.state) c.args.j c.in-Went.piece (c.requires.course, c.requires.ready, c.requires.untaken, c.requires.counted)
     (alone-here c.args.stmts.now c.args.j c.index-stmts-j.result (held s.state) c.requires.within c.index-stmts-j.is c.requires.course.log ∙ given.0) given.1)
 
 pub returns-in-Went-clause-fates : goal.returns-in-Went-clause-fates
@@ -35,7 +35,7 @@ returns-in-Ended-clause-course c =
     let given = rw c.in-Ended.is at c.in_ok-piece.ensures in
     let ahead : IsBehind s.first c.args.j → ⊥ = λ h. let t : c.is_behind.result ≡ true = c.is_behind.ensures.1 h in let f : c.is_behind.result ≡ false = c.if-is_behind.false in cc in
     rw (c.set-in-Ended.ensures.fates, c.set-in-Ended.ensures.state)
-    (ended_here b s.fates.items s.first (held s.state) (held c.run_alone.new.state) c.args.j c.in-Ended.ending (c.requires.course, c.requires.ready, c.requires.untaken, c.requires.counted) ahead
+    (ended_here (record { reads = c.statements_read_what_they_use.ensures; changes = c.statements_change_what_they_write.ensures }) b s.fates.items s.first (held s.state) (held c.run_alone.new.state) c.args.j c.in-Ended.ending (c.requires.course, c.requires.ready, c.requires.untaken, c.requires.counted) ahead
     (alone-here c.args.stmts.now c.args.j c.index-stmts-j.result (held s.state) c.requires.within c.index-stmts-j.is c.requires.course.log ∙ given.0) given.1)
 
 pub returns-in-Ended-clause-fates : goal.returns-in-Ended-clause-fates
@@ -47,7 +47,7 @@ returns-in-Lacks-clause-course c =
     let b = lines_from c.args.stmts.now in
     let given = rw c.in-Lacks.is at c.in_ok-piece.ensures in
     rw (c.set-in-Lacks.ensures.fates, c.set-in-Lacks.ensures.first, c.set-in-Lacks.ensures.state)
-    (lacking b s.fates.items s.first (held s.state) (held c.run_alone.new.state) c.args.j (c.requires.course, c.requires.ready, c.requires.untaken, c.requires.counted)
+    (lacking (record { reads = c.statements_read_what_they_use.ensures; changes = c.statements_change_what_they_write.ensures }) b s.fates.items s.first (held s.state) (held c.run_alone.new.state) c.args.j (c.requires.course, c.requires.ready, c.requires.untaken, c.requires.counted)
     (alone-here c.args.stmts.now c.args.j c.index-stmts-j.result (held s.state) c.requires.within c.index-stmts-j.is c.requires.course.log ∙ given.0) given.1)
 
 pub returns-in-Lacks-clause-fates : goal.returns-in-Lacks-clause-fates

@@ -1,0 +1,9 @@
+-- Which programs have an ending.
+use Rattle.std.specs.Prelude.{ℕ, ℤ, List, IsSome}
+use Rattle.ae_code.specs.Plain.{Code}
+use Rattle.ae_code.specs.Judgement.{Accepted}
+use Rattle.ae_meaning.specs.Meaning.{seq}
+
+-- an accepted program has an ending
+abbrev pub AcceptedEnd : Type 0
+AcceptedEnd = (p : Code) → Accepted p → (ints : List ℤ) (fuel : ℕ) → IsSome (seq p ints fuel).ending
