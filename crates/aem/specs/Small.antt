@@ -12,3 +12,7 @@ pub record IsSource (text : List ℕ) (program : Code) : Type 0 where
   pub lexes : Lexes text tokens
   pub derives : Derives tokens program
   pub within : Within program
+
+-- some text is a source of this program
+abbrev pub HasSource : Code → Type 0
+HasSource program = (text : List ℕ) × IsSource text program

@@ -1,5 +1,5 @@
 -- What the top call answers, and why.
-use Rattle.std.specs.Prelude.{◌≡◌, ℕ, ◌+◌, ◌≤◌, List, [], ◌∷◌, length, take, Option, None, Some, Result, Ok, Err}
+use Rattle.std.specs.Prelude.{◌≡◌, ℕ, ◌+◌, ◌≤◌, List, [], ◌∷◌, length, take, Option, None, Some, IsSome, Result, Ok, Err}
 use Rattle.std.specs.Io.KnownBytes.{Consumes, IsAtEnd, Appends}
 use Rattle.ae_text.specs.declared.refusal.Spot.{Spot}
 use Rattle.ae_text.specs.declared.refusal.Rule.{Rule}
@@ -10,15 +10,16 @@ use Rattle.ae_text.specs.declared.refusal.Deny.TheVariants as d
 use Rattle.ae_code.specs.Plain.{Code, Definition, Lines}
 use Rattle.ae_code.specs.Refused.{IsRefused}
 use Rattle.ae_code.specs.Built.{Built}
-use Rattle.ae_code.specs.Judgement.{Accepted, Breaks}
+use Rattle.ae_rules.specs.Judges.{Accepts, FirstBroken}
 use Rattle.ae_meaning.specs.declared.report.RunReport.{RunReport}
-use Rattle.ae_meaning.specs.Meaning.{seq}
+use Rattle.ae_semantics.specs.Means.{seq, bytes}
+use Rattle.ae_cases.specs.Laws.{as_whole}
 use Rattle.aem.specs.declared.answer.What.{What}
 use Rattle.aem.specs.declared.answer.What.TheVariants as w
 use Rattle.ae_text.specs.declared.token.Token.{Token}
 use Rattle.ae_text.specs.Tokens.{Lexes, LexFault, place}
 use Rattle.aem.specs.Small.{IsSource}
-use Rattle.ae_graph.specs.GraphText.{IsGraphText}
+use Rattle.aem.specs.Graphs.{graph_text}
 use Rattle.aem.specs.declared.answer.Command.{Command}
 use Rattle.aem.specs.declared.answer.Command.TheVariants.{Graph, Run}
 use Rattle.aem.specs.declared.answer.UsageKind.{UsageKind}
@@ -39,9 +40,9 @@ IsFaultAt rule at text = (offset : ℕ) × LexFault text rule offset × (at ≡ 
 abbrev pub IsTokenAt : Rule → Spot → List ℕ → Type 0
 IsTokenAt rule at text = (tokens : List Token) × Lexes text tokens × IsRefused tokens rule at
 
--- the text is a source of forms that run today, and a name in it breaks this rule first
+-- the text is a source of forms that run today, and this is the rule that it breaks first
 abbrev pub IsNameAt : Rule → Spot → List ℕ → Type 0
-IsNameAt rule at text = (program : Code) × IsSource text program × Built program × Breaks program rule at
+IsNameAt rule at text = (program : Code) × IsSource text program × Built program × FirstBroken program rule at
 
 -- why a rule is the first that a whole text breaks, and where
 abbrev pub IsBroken : Rule → Spot → List ℕ → Type 0
@@ -72,16 +73,17 @@ abbrev pub IsUnread : List ℕ → Deny → Type 0
 IsUnread text (d.Refused r) = IsBroken r.rule r.at text
 IsUnread text d.Memory = Unit {0}
 
--- the report is that of the source's meaning, with no integers and a fuel of 100,000
+-- The report has the ending and the bytes of the program's meaning, with no integers and a fuel of 100,000.
+-- No form that runs today splits `io`, so no pieces of a cell come behind the log.
 abbrev pub IsMeant : RunReport → Code → Type 0
-IsMeant report program = (Some report.ending ≡ (seq program [] 100000).ending) × (report.out ≡ (seq program [] 100000).out)
+IsMeant report program = (Some (as_whole report.ending) ≡ (seq program [] 100000).ending) × (report.out ≡ bytes (seq program [] 100000) [])
 
--- what an accepted program comes to
+-- what an accepted program comes to: the text of its graphs, or the report of its run
 abbrev pub IsDoneFor : Command → Code → What → Type 0
 IsDoneFor command program (w.Usage kind) = ⊥
 IsDoneFor command program w.ReadFault = ⊥
 IsDoneFor command program (w.Refused r) = ⊥
-IsDoneFor command program (w.Graph graph) = (command ≡ Graph) × IsGraphText program graph
+IsDoneFor command program (w.Graph graph) = (command ≡ Graph) × (graph ≡ graph_text program)
 IsDoneFor command program (w.Ran report) = (command ≡ Run) × IsMeant report program
 IsDoneFor command program w.Memory = Unit {0}
 
@@ -90,8 +92,8 @@ abbrev pub IsAnswer : Command → List ℕ → What → Type 0
 IsAnswer command text (w.Usage kind) = ⊥
 IsAnswer command text w.ReadFault = ⊥
 IsAnswer command text (w.Refused r) = IsBroken r.rule r.at text
-IsAnswer command text (w.Graph graph) = (command ≡ Graph) × ((program : Code) × IsSource text program × Accepted program × IsGraphText program graph)
-IsAnswer command text (w.Ran report) = (command ≡ Run) × ((program : Code) × IsSource text program × Accepted program × IsMeant report program)
+IsAnswer command text (w.Graph graph) = (command ≡ Graph) × ((program : Code) × IsSource text program × Built program × Accepts program × (graph ≡ graph_text program))
+IsAnswer command text (w.Ran report) = (command ≡ Run) × ((program : Code) × IsSource text program × Built program × Accepts program × IsMeant report program)
 IsAnswer command text w.Memory = Unit {0}
 
 -- why this is the answer to a command, where these bytes were taken and this is left
@@ -115,6 +117,20 @@ Caused words taken left what = ByCommand (command_of words) taken left what
 -- some bytes were taken, and the answer has its cause in them
 abbrev pub Answers : List (List ℕ) → Option (List ℕ) → Option (List ℕ) → What → Type 0
 Answers words before after what = (taken : List ℕ) × Consumes before after taken × Caused words taken after what
+
+-- the words and the bytes tell this answer: it is neither a failed read nor want of memory
+abbrev pub IsTold : What → Type 0
+IsTold w.ReadFault = ⊥
+IsTold w.Memory = ⊥
+IsTold _ = Unit {0}
+
+-- two answers that the words and the bytes tell are one, where both have their cause in them
+abbrev pub IsOneAnswer : Type 0
+IsOneAnswer = (words : List (List ℕ)) (taken : List ℕ) (left : Option (List ℕ)) (a b : What) → IsTold a → IsTold b → Caused words taken left a → Caused words taken left b → a ≡ b
+
+-- of the answers that words and known bytes tell, no other one has a cause
+abbrev pub IsOnlyAnswer : List (List ℕ) → Option (List ℕ) → Option (List ℕ) → What → Type 0
+IsOnlyAnswer words before after what = IsSome before → IsTold what → (other : What) → IsTold other → Answers words before after other → other ≡ what
 
 -- the sink took the whole text, or its first bytes where the answer was cut
 abbrev pub Wrote : Option (List ℕ) → Option (List ℕ) → List ℕ → Option ℕ → Type 0

@@ -4,6 +4,8 @@
 mod answer;
 mod built;
 #[cfg(test)]
+mod calls_tests;
+#[cfg(test)]
 mod layout_tests;
 mod names;
 #[cfg(test)]

@@ -1,24 +1,33 @@
-// Everything that the program does.
+// Everything that the program does. A law is called where a proof takes it from the crates below; the call does nothing.
 ghost use Rattle.std.specs.Prelude.{◌≡◌, ◌≤◌, ◌↔◌, map, string_bytes, None, Some, IfSome, IfOk, IfErr, length};
 ghost use Rattle.ae_text.specs.Causes.{Rose};
 ghost use Rattle.ae_code.specs.Plain.{Code};
 ghost use Rattle.ae_code.specs.Shown.{code, lines_from};
-ghost use Rattle.ae_code.specs.Judgement.{Accepted};
 ghost use Rattle.ae_code.specs.Built.{Built};
-ghost use Rattle.aem.specs.Small.{IsSource};
+ghost use Rattle.ae_rules.specs.Judges.{Accepts};
+ghost use Rattle.aem.specs.Small.{IsSource, HasSource};
 ghost use Rattle.aem.specs.Texts.{output, whole_status, status_of};
-ghost use Rattle.aem.specs.Top.{HasBody, IsUnread, IsDoneFor, IsAnswer, Answers, Wrote, IsUsage};
+ghost use Rattle.aem.specs.Top.{HasBody, IsUnread, IsDoneFor, IsAnswer, Answers, IsOneAnswer, IsOnlyAnswer, Wrote, IsUsage};
 
 use crate::answer::{Answer, Command, What};
 use crate::built::is_built;
 use crate::names::first_broken;
 use crate::texts::{status, text_of};
 use crate::words::command;
+use ae_cases::today_is_a_case;
 use ae_code::{Program, Stmt};
+use ae_grammar::tokens_stand_for_one_program;
 use ae_graph::graph_text;
-use ae_parser::parse;
+use ae_parser::{parse, programs_are_not_refused, refusals_are_unique};
+use ae_rules::{
+    a_built_program_declares_one_method, first_broken_rule_is_one, preds_are_edges,
+    programs_are_never_both, todays_judgement_is_a_case, todays_uses_are_a_case,
+};
 use ae_run::run;
-use ae_text::{Deny, Gate, ReadEnd, Refusal, Rule, Sink, Source, Spot, lex, read_all, write_all};
+use ae_text::{
+    Deny, Gate, ReadEnd, Refusal, Rule, Sink, Source, Spot, faults_are_unique, lex, read_all,
+    tokens_are_unique, write_all,
+};
 use std::alloc::Global;
 use std::thread::Threads;
 
@@ -36,7 +45,7 @@ fn first_refused(rule: Rule) -> What
 }
 
 // The statements of the one method.
-fn body_of(program: &Program) -> &[Stmt]
+pub fn body_of(program: &Program) -> &[Stmt]
     requires { Built (code program.now) }
     ensures { HasBody (code program.now) (lines_from result.now) }
 {
@@ -47,7 +56,7 @@ fn body_of(program: &Program) -> &[Stmt]
 }
 
 // The program that a text is, or why it is none.
-fn read_program(alloc: Global, text: &[u8]) -> Result<Program, Deny>
+pub fn read_program(alloc: Global, text: &[u8]) -> Result<Program, Deny>
     requires { length text.now ≤ 1048576 }
     ensures ok { IfOk result (λ p. IsSource text.now (code p)) }
     ensures refused { IfErr result (IsUnread text.now) }
@@ -70,9 +79,16 @@ fn done<G: Gate>(
     program: &Program,
     gate: &G,
 ) -> What
-    requires { Accepted (code program.now) }
+    requires built { Built (code program.now) }
+    requires source { HasSource (code program.now) }
+    requires accepted { Accepts (code program.now) }
     ensures { IsDoneFor command (code program.now) result }
 {
+    a_built_program_declares_one_method();
+    todays_judgement_is_a_case();
+    todays_uses_are_a_case();
+    preds_are_edges();
+    today_is_a_case();
     match command {
         Command::Graph => match graph_text(alloc, program) {
             Ok(text) => What::Graph(text),
@@ -96,6 +112,8 @@ fn answer_to<G: Gate>(
     requires { length text.now ≤ 1048576 }
     ensures { IsAnswer command text.now result }
 {
+    a_built_program_declares_one_method();
+    todays_judgement_is_a_case();
     let program = match read_program(alloc, text) {
         Ok(program) => program,
         Err(Deny::Refused(refusal)) => return What::Refused(refusal),
@@ -112,7 +130,7 @@ fn answer_to<G: Gate>(
 }
 
 // What the words and the source come to, before anything is written.
-fn decide<S: Source, G: Gate>(
+fn find_answer<S: Source, G: Gate>(
     rt: &(impl Threads + Sync),
     alloc: Global,
     words: &[String],
@@ -136,6 +154,37 @@ fn decide<S: Source, G: Gate>(
     }
 }
 
+/// The same words and bytes have one answer, but for a failed read and want of memory.
+pub fn answers_are_unique()
+    ensures { IsOneAnswer }
+{
+    tokens_are_unique();
+    faults_are_unique();
+    refusals_are_unique();
+    programs_are_not_refused();
+    tokens_stand_for_one_program();
+    programs_are_never_both();
+    first_broken_rule_is_one();
+}
+
+// The same, with the promise that no other answer has a cause there.
+fn decide<S: Source, G: Gate>(
+    rt: &(impl Threads + Sync),
+    alloc: Global,
+    words: &[String],
+    source: &mut S,
+    gate: &G,
+) -> What
+    ensures answer { Answers (map string_bytes words.now) (S.left source.old) (S.left source.new) result }
+    ensures only { IsOnlyAnswer (map string_bytes words.now) (S.left source.old) (S.left source.new) result }
+    ensures later { S.faults source.old ≤ S.faults source.new }
+    ensures fault { result ≡ What.ReadFault → Rose (S.faults source.old) (S.faults source.new) }
+    ensures unread { IsUsage result → source.new ≡ source.old }
+{
+    answers_are_unique();
+    find_answer(rt, alloc, words, source, gate)
+}
+
 /// Reads the words and the source, does what they ask for and writes its text. It waits for nobody.
 ///
 /// `Memory` comes only before the first write.
@@ -148,6 +197,7 @@ pub fn aeminium<S: Source, K: Sink, G: Gate>(
     gate: &G,
 ) -> Answer
     ensures answer { Answers (map string_bytes words.now) (S.left source.old) (S.left source.new) result.what }
+    ensures only { IsOnlyAnswer (map string_bytes words.now) (S.left source.old) (S.left source.new) result.what }
     ensures unread { IsUsage result.what → source.new ≡ source.old }
     ensures source_faults { S.faults source.old ≤ S.faults source.new }
     ensures read_fault { result.what ≡ What.ReadFault → Rose (S.faults source.old) (S.faults source.new) }

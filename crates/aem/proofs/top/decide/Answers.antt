@@ -1,13 +1,8 @@
-use Rattle.std.proofs.Common.{List, ℕ, map, string_bytes, subst, sym, ◌∙◌}
-use Rattle.aem.specs.Top.{IsAnswer}
-use Rattle.aem.proofs.Reading.{caused}
+use Rattle.std.proofs.Common.{map, string_bytes}
+use Rattle.aem.proofs.OneAnswer.{only_answer}
 use Rattle.aem.proofs.top.decide.Goals as goal
 
-pub returns-in-Ok-read_all-clause-answer : goal.returns-in-Ok-read_all-clause-answer
-returns-in-Ok-read_all-clause-answer g c =
-    let b = c.in-Ok-read_all.ensures.bytes in (
-      b.0,
-      b.1,
-      caused (map string_bytes c.args.words.now) c.in-Ok.command b.0 (g.S.Source.left c.read_all.new.src) c.answer_to.result (sym c.in-Ok.ensures) (b.2.1, b.2.2)
-          (subst (λ (l : List ℕ). IsAnswer c.in-Ok.command l c.answer_to.result) (c.as_slice.ensures ∙ b.2.0) c.answer_to.ensures),
-    )
+pub returns-clause-only : goal.returns-clause-only
+returns-clause-only g c =
+    only_answer c.answers_are_unique.ensures (map string_bytes c.args.words.now) (g.S.Source.left c.args.source.now) (g.S.Source.left c.find_answer.new.source) c.find_answer.result
+    c.find_answer.ensures.answer

@@ -1,0 +1,166 @@
+-- The text of the graphs of a program that runs today.
+use mathlib.Core.Path.{fun_ext}
+use Rattle.std.proofs.Common.{arith, ◌≡◌, ◌<◌, ◌⊎◌, inl, inr, refl, sym, ap, ap₂, ◌∙◌, subst, ℕ, zero, suc, ◌++◌, nat_eq, Bool, true, false, List, [], ◌∷◌, length, slice_index_or, Option, None, Some, append-nil}
+use Rattle.std.specs.Prelude.{codes, if◌then◌else◌}
+use Rattle.std.specs.List.{Contains, flat_map}
+use Rattle.std.proofs.lemmas.List.{ext_get_or, get_or_append_left, get_or_push, length-append, length-map, get_or-map}
+use Rattle.std.proofs.lemmas.Bool.Decides.{nat_tests}
+use Rattle.std.proofs.lemmas.Bool.{cases_order}
+use Rattle.ae_code.specs.Plain.{Action, Declares, Assigns, Stores, StoresAt, Calls, Chooses, ChoosesElse, Repeats, Groups, Splits, Locks, Freezes, Shares, Prints, PrintsText, Asserts, Returns, Lines, End, Next, Definition, Code}
+use Rattle.ae_code.specs.Limits.{count}
+use Rattle.ae_code.specs.Edges.{BlockUses, IsRising, Preds}
+use Rattle.ae_code.specs.Uses.{use_at}
+use Rattle.ae_code.specs.Built.{IsBuiltAction, AreBuilt, Built}
+use Rattle.ae_code.specs.Judgement.{Accepted}
+use Rattle.ae_code.specs.declared.tree.Class.{Class}
+use Rattle.ae_rules.specs.Verdict.{given}
+use Rattle.ae_rules.specs.Lookups.{class_at}
+use Rattle.ae_rules.specs.Judges.{start}
+use Rattle.ae_rules.specs.Edges.{preds, graph, those_below}
+use Rattle.ae_rules.specs.EdgeLaws.{NamesBelow, PredsAreEdges}
+use Rattle.ae_rules.specs.Blocks.{Scene, scene, scene_among, scene_uses, scene_graph}
+use Rattle.ae_rules.specs.Cases.{DeclaresOne, TodaysUsesAreACase}
+use Rattle.ae_graph.specs.Graph.{Graph, IsGraph, preds_in}
+use Rattle.ae_graph.specs.GraphText.{spelling, block_text, method_text, AreMethodTexts, IsGraphText}
+use Rattle.ae_graph.proofs.Elements.{here, there, nowhere, uncons}
+use Rattle.aem.specs.Graphs.{blocks_in, blocks_among, text_of_block, text_of_method, graph_text}
+
+-- ---- rising lists
+
+rising_tail : (x : ℕ) (xs : List ℕ) → IsRising (x ∷ xs) → IsRising xs
+rising_tail x [] r = tt
+rising_tail x (y ∷ xs) r = r.1
+
+above_first : (x : ℕ) (xs : List ℕ) → IsRising (x ∷ xs) → (z : ℕ) → Contains xs z → x < z
+above_first x [] r z h = absurd (nowhere z h)
+above_first x (y ∷ xs) r z h = elim (uncons y xs z h) [
+  | inl e ↦ subst (λ w. x < w) e r.0
+  | inr k ↦ let l : y < z = above_first y xs r.1 z k in let m : x < y = r.0 in omega (arith, l, m)
+]
+
+-- each element of the one is in the other
+abbrev Within : List ℕ → List ℕ → Type 0
+Within xs ys = (z : ℕ) → Contains xs z → Contains ys z
+
+first_same : (x y : ℕ) (xs ys : List ℕ) → IsRising (x ∷ xs) → IsRising (y ∷ ys) → Within (x ∷ xs) (y ∷ ys) → Within (y ∷ ys) (x ∷ xs) → x ≡ y
+first_same x y xs ys r s f g = elim (uncons y ys x (f x (here x xs))) [
+  | inl e ↦ sym e
+  | inr k ↦ elim (uncons x xs y (g y (here y ys))) [
+    | inl e ↦ e
+    | inr l ↦ let a : y < x = above_first y ys s x k in let b : x < y = above_first x xs r y l in absurd (omega (arith, a, b))
+  ]
+]
+
+tail_within : (x y : ℕ) (xs ys : List ℕ) → x ≡ y → IsRising (x ∷ xs) → Within (x ∷ xs) (y ∷ ys) → Within xs ys
+tail_within x y xs ys e r f z h = elim (uncons y ys z (f z (there x xs z h))) [
+  | inl q ↦ let l : x < z = above_first x xs r z h in absurd (omega (arith, l, e, q))
+  | inr k ↦ k
+]
+
+-- two rising lists of the same numbers are one list
+same_rising : (xs ys : List ℕ) → IsRising xs → IsRising ys → Within xs ys → Within ys xs → xs ≡ ys
+same_rising [] [] r s f g = refl
+same_rising [] (y ∷ ys) r s f g = absurd (nowhere y (g y (here y ys)))
+same_rising (x ∷ xs) [] r s f g = absurd (nowhere x (f x (here x xs)))
+same_rising (x ∷ xs) (y ∷ ys) r s f g =
+    let e : x ≡ y = first_same x y xs ys r s f g in
+    ap₂ (λ (a : ℕ) (b : List ℕ). a ∷ b) e
+    (same_rising xs ys (rising_tail x xs r) (rising_tail y ys s) (tail_within x y xs ys e r f) (tail_within y x ys xs (sym e) s g))
+
+same_preds : (uses : BlockUses) (j : ℕ) (xs ys : List ℕ) → Preds uses j xs → Preds uses j ys → xs ≡ ys
+same_preds uses j xs ys p q = same_rising xs ys p.rising q.rising (λ z h. (q.exact z).1 ((p.exact z).0 h)) (λ z h. (p.exact z).1 ((q.exact z).0 h))
+
+-- ---- graphs as lists
+
+abbrev all_below : ℕ → List ℕ
+all_below n = those_below n (λ j. true)
+
+length_below : (n : ℕ) → length (all_below n) ≡ n
+length_below zero = refl
+length_below (suc n) = omega (arith, length-append (all_below n) (n ∷ []), length_below n)
+
+number_below : (n j : ℕ) → j < n → slice_index_or (all_below n) j 0 ≡ j
+number_below zero j l = absurd (omega (arith, l))
+number_below (suc n) j l = elim (last_or_below j n l) [
+  | inl m ↦ get_or_append_left (all_below n) (n ∷ []) 0 j (omega (arith, m, length_below n)) ∙ number_below n j m
+  | inr e ↦ get_or_push (all_below n) n 0 j (omega (arith, e, length_below n)) ∙ sym e
+]
+  where
+    last_or_below : (i n : ℕ) → i < suc n → (i < n) ⊎ (i ≡ n)
+    last_or_below i n l = elim (cases_order i n) [ inl e ↦ inr (omega (arith, e)) | inr o ↦ elim o [ inl m ↦ inl (omega (arith, m)) | inr m ↦ absurd (omega (arith, l, m)) ] ]
+
+-- a list with exactly the rows that the rules give is their graph
+graph_is : (exact : PredsAreEdges) (n : ℕ) (uses : BlockUses) → NamesBelow n uses → (g : Graph) (k : ℕ) → length g ≡ k
+    → ((j : ℕ) → j < length g → Preds uses j (preds_in g j)) → g ≡ graph n uses k
+graph_is exact n uses below g k e rows = ext_get_or [] g (graph n uses k)
+    (omega (arith, e, length-map (all_below k) (preds n uses), length_below k))
+    (λ j l. same_preds uses j (preds_in g j) (preds n uses j) (rows j l) (exact n uses below j)
+    ∙ sym (get_or-map (preds n uses) (all_below k) j 0 [] (omega (arith, e, l, length_below k)) ∙ ap (preds n uses) (number_below k j (omega (arith, e, l)))))
+
+-- ---- the one block
+
+no_blocks_in : (a : Action) → IsBuiltAction a → blocks_in a ≡ []
+no_blocks_in (Declares t x e) b = refl
+no_blocks_in (Assigns x e) b = refl
+no_blocks_in (Stores p e) b = absurd b
+no_blocks_in (StoresAt p j e) b = absurd b
+no_blocks_in (Calls c) b = absurd b
+no_blocks_in (Chooses e j c) b = absurd b
+no_blocks_in (ChoosesElse e j c k f) b = absurd b
+no_blocks_in (Repeats e j c) b = absurd b
+no_blocks_in (Groups g) b = absurd b
+no_blocks_in (Splits gs j c) b = absurd b
+no_blocks_in (Locks g j c) b = absurd b
+no_blocks_in (Freezes x) b = absurd b
+no_blocks_in (Shares x g) b = absurd b
+no_blocks_in (Prints e) b = refl
+no_blocks_in (PrintsText s) b = absurd b
+no_blocks_in (Asserts e) b = absurd b
+no_blocks_in (Returns e) b = absurd b
+
+no_blocks : (b : Lines) → AreBuilt b → blocks_among b ≡ []
+no_blocks End h = refl
+no_blocks (Next at a rest) h = ap₂ (λ (x y : List ℕ). x ++ y) (no_blocks_in a h.0) (no_blocks rest h.1)
+
+is_itself : (n : ℕ) → nat_eq n n ≡ true
+is_itself n = grind (arith, nat_tests)
+
+abbrev body_scene : Code → Definition → Scene
+body_scene p m = record { method = m; lines = m.body; start = start p m }
+
+pub own_scene : (p : Code) (m : Definition) → scene p m m.no ≡ Some (body_scene p m)
+own_scene p m = by (nat_eq m.no m.no) (is_itself m.no)
+  where
+    by : (b : Bool) → b ≡ true → (if b then Some (body_scene p m) else scene_among p m m.no m.body (start p m)) ≡ Some (body_scene p m)
+    by true e = refl
+    by false e = absurd (cc)
+
+graph_of_body : (p : Code) → TodaysUsesAreACase → PredsAreEdges → Accepted p → DeclaresOne p → (m : Definition) → p.methods ≡ m ∷ []
+    → NamesBelow (length p.names) (use_at m.body) → (g : Graph) → IsGraph (Some m.body) g → g ≡ scene_graph p (body_scene p m)
+graph_of_body p uses exact a d m e below g h =
+    let same : use_at m.body ≡ scene_uses p (body_scene p m) = fun_ext (λ i. fun_ext (λ r. sym (uses p a d m e (body_scene p m) (own_scene p m) i r))) in
+    graph_is exact (length p.names) (use_at m.body) below g (count m.body) h.0 h.1 ∙ ap (λ u. graph (length p.names) u (count m.body)) same
+
+text_of_body : (p : Code) (m : Definition) → AreBuilt m.body → (g : Graph) → g ≡ scene_graph p (body_scene p m)
+    → flat_map (text_of_block p m) (m.no ∷ blocks_among m.body) ≡ block_text m.no g
+text_of_body p m b g e =
+    ap (λ (ns : List ℕ). flat_map (text_of_block p m) (m.no ∷ ns)) (no_blocks m.body b)
+    ∙ append-nil (text_of_block p m m.no)
+    ∙ ap (λ (o : Option Scene). given o [] (λ (s : Scene). block_text m.no (scene_graph p s))) (own_scene p m)
+    ∙ ap (block_text m.no) (sym e)
+
+text_of_one : (p : Code) (m : Definition) → m.class ≡ None → AreBuilt m.body → (g : Graph) → g ≡ scene_graph p (body_scene p m) → text_of_method p m ≡ method_text p.names m g
+text_of_one p m none b g e =
+    ap (λ (c : Option ℕ). codes "method " ++ given c [] (λ n. given (class_at p n) [] (λ (k : Class). spelling p.names k.name.name ++ codes ".")) ++ spelling p.names m.name.name ++ codes "\n" ++ flat_map (text_of_block p m) (m.no ∷ blocks_among m.body)) none
+    ∙ ap (λ (t : List ℕ). codes "method " ++ spelling p.names m.name.name ++ codes "\n" ++ t) (text_of_body p m b g e)
+
+-- what the graph text of today says is the text of the graphs of the program
+pub text_is : TodaysUsesAreACase → PredsAreEdges → (p : Code) → Accepted p → DeclaresOne p → (b : Built p) → NamesBelow (length p.names) (use_at b.method.body)
+    → (text : List ℕ) → IsGraphText p text → text ≡ graph_text p
+text_is uses exact p a d b below text h =
+    let one = subst (λ (ms : List Definition). AreMethodTexts p.names ms text) b.methods h in
+    let e = graph_of_body p uses exact a d b.method b.methods below one.0 one.2 in
+    one.4 ∙ ap (λ (t : List ℕ). method_text p.names b.method one.0 ++ t) one.3 ∙ append-nil (method_text p.names b.method one.0)
+    ∙ sym (text_of_one p b.method b.is_main.class b.body one.0 e)
+    ∙ sym (append-nil (text_of_method p b.method))
+    ∙ ap (flat_map (text_of_method p)) (sym b.methods)

@@ -1,0 +1,7 @@
+use Rattle.std.proofs.Common.{arith}
+use Rattle.ae_code.specs.Shown.{code}
+use Rattle.aem.proofs.Bodies.{has_statement}
+use Rattle.aem.proofs.calls_tests.uses_of.Goals as goal
+
+pub footprint-requires : goal.footprint-requires
+footprint-requires c = has_statement (code c.args.program.now) c.requires c.body_of.result.now c.body_of.ensures c.args.stmt (omega (arith, c.if-stmt-body_of.false))

@@ -1,0 +1,366 @@
+// Calls that no mode makes, and the graph of a block, on programs that were read.
+ghost use Rattle.ae_code.specs.Shown.{code};
+ghost use Rattle.ae_code.specs.Built.{Built};
+
+use crate::built::is_built;
+use crate::names::first_broken;
+use crate::top::{body_of, read_program};
+use ae_code::{Footprint, Form, Kind, Mode, Name, Perm, Program, Resource, StmtAt, Use, form_of};
+use ae_graph::{BlockGraph, footprint};
+use ae_meaning::{Ending, Meant, evaluate};
+use ae_text::{Deny, Edge, Items, Memory, Spot};
+use std::alloc::{AllocError, Global};
+use std::test::Fail;
+
+const MOST: usize = 1_048_576;
+
+// The program that a text is.
+fn program_of(alloc: Global, text: &[u8]) -> Result<Program, Deny> {
+    if text.len() > MOST {
+        return Err(Deny::Memory);
+    }
+    read_program(alloc, text)
+}
+
+// ---- forms of types
+
+const TYPES: &str = "class C {
+int x;
+bool y;
+unique Ints z;
+immutable Ints w;
+unique C u;
+}
+class D<g, h> {
+shared<g> Ints s;
+immutable D<h, g> i;
+shared<h> D<g, h> t;
+unique D<g, g> u;
+}
+method int f<k, g>(int p, bool q, lent Ints l, lent C c, lent D<g, k> d, shared<k> C s, immutable C i) {
+return p;
+}
+";
+
+// The forms of its fields and parameters, with the groups of a class behind it.
+const FORMS: &str = "int
+bool
+unique Ints
+immutable Ints
+unique C
+shared g Ints
+immutable D h g
+shared h D g h
+unique D g g
+int
+bool
+lent Ints
+lent C
+lent D g k
+shared k C
+immutable C
+";
+
+// The spelling of a name.
+fn put_name(names: &[Items<u8>], name: Name, text: &mut Vec<u8>) -> Result<(), AllocError> {
+    match names.get(name as usize) {
+        Some(spelling) => text.extend_from_slice(spelling.as_slice()),
+        None => text.extend_from_slice(b"?"),
+    }
+}
+
+// A permission, with its group.
+fn put_perm(names: &[Items<u8>], perm: Perm, text: &mut Vec<u8>) -> Result<(), AllocError> {
+    match perm {
+        Perm::Unique => text.extend_from_slice(b"unique "),
+        Perm::Immutable => text.extend_from_slice(b"immutable "),
+        Perm::Lent => text.extend_from_slice(b"lent "),
+        Perm::Shared(group) => {
+            text.extend_from_slice(b"shared ")?;
+            put_name(names, group, text)?;
+            text.extend_from_slice(b" ")
+        }
+    }
+}
+
+// Integers, or a class with its groups.
+fn put_kind(names: &[Items<u8>], kind: &Kind, text: &mut Vec<u8>) -> Result<(), AllocError> {
+    match kind {
+        Kind::Ints => text.extend_from_slice(b"Ints"),
+        Kind::Class(class, groups) => {
+            put_name(names, *class, text)?;
+            for group in groups.as_slice() {
+                text.extend_from_slice(b" ")?;
+                put_name(names, *group, text)?;
+            }
+            Ok(())
+        }
+    }
+}
+
+// A line with the form.
+fn put_form(names: &[Items<u8>], form: &Form, text: &mut Vec<u8>) -> Result<(), AllocError> {
+    match form {
+        Form::Int => text.extend_from_slice(b"int")?,
+        Form::Bool => text.extend_from_slice(b"bool")?,
+        Form::Object(perm, kind) => {
+            put_perm(names, *perm, text)?;
+            put_kind(names, kind, text)?;
+        }
+    }
+    text.extend_from_slice(b"\n")
+}
+
+// Each kind of type has its form.
+#[test]
+fn forms(rt: HostRuntime) -> Result<(), Fail> {
+    let alloc = rt.alloc();
+    let program = program_of(alloc, TYPES.as_bytes())?;
+    let names = program.names.as_slice();
+    let mut text = Vec::new(alloc);
+    for class in program.classes.as_slice() {
+        for field in class.fields.as_slice() {
+            put_form(names, &form_of(alloc, &field.ty)?, &mut text)?;
+        }
+    }
+    for method in program.methods.as_slice() {
+        for param in method.params.as_slice() {
+            put_form(names, &form_of(alloc, &param.ty)?, &mut text)?;
+        }
+    }
+    assert_eq!(rt; text.as_slice(), FORMS.as_bytes());
+    Ok(())
+}
+
+// ---- uses and graphs
+
+const USES: &str = "method void main() with exclusive io {
+let int a = 2;
+let int b = a;
+print a + b;
+a = a * a;
+print 7;
+let int c = 7;
+}
+";
+
+const A: Name = 3;
+
+const B: Name = 4;
+
+const C: Name = 5;
+
+// A statement, what it uses, those for which it waits, and those that wait for it.
+struct Row {
+    stmt: u32,
+    uses: &'static [Use],
+    preds: &'static [u32],
+    succs: &'static [u32],
+}
+
+const A_READ: Use = Use {
+    what: Resource::Local(A),
+    mode: Mode::Read,
+};
+
+const A_WRITTEN: Use = Use {
+    what: Resource::Local(A),
+    mode: Mode::Write,
+};
+
+const B_READ: Use = Use {
+    what: Resource::Local(B),
+    mode: Mode::Read,
+};
+
+const B_WRITTEN: Use = Use {
+    what: Resource::Local(B),
+    mode: Mode::Write,
+};
+
+const C_WRITTEN: Use = Use {
+    what: Resource::Local(C),
+    mode: Mode::Write,
+};
+
+const IO_WHOLE: Use = Use {
+    what: Resource::Group(0),
+    mode: Mode::GroupWhole,
+};
+
+const ROWS: [Row; 6] = [
+    Row {
+        stmt: 0,
+        uses: &[A_WRITTEN],
+        preds: &[],
+        succs: &[1, 2, 3],
+    },
+    Row {
+        stmt: 1,
+        uses: &[A_READ, B_WRITTEN],
+        preds: &[0],
+        succs: &[2, 3],
+    },
+    Row {
+        stmt: 2,
+        uses: &[A_READ, B_READ, IO_WHOLE],
+        preds: &[0, 1],
+        succs: &[3, 4],
+    },
+    Row {
+        stmt: 3,
+        uses: &[A_WRITTEN],
+        preds: &[0, 1, 2],
+        succs: &[],
+    },
+    Row {
+        stmt: 4,
+        uses: &[IO_WHOLE],
+        preds: &[2],
+        succs: &[],
+    },
+    Row {
+        stmt: 5,
+        uses: &[C_WRITTEN],
+        preds: &[],
+        succs: &[],
+    },
+];
+
+const EDGES: [Edge; 7] = [
+    Edge { from: 0, to: 1 },
+    Edge { from: 0, to: 2 },
+    Edge { from: 1, to: 2 },
+    Edge { from: 0, to: 3 },
+    Edge { from: 1, to: 3 },
+    Edge { from: 2, to: 3 },
+    Edge { from: 2, to: 4 },
+];
+
+// What a statement of `main` uses.
+fn uses_of(alloc: Global, program: &Program, stmt: u32) -> Result<Footprint, Memory>
+    requires { Built (code program.now) }
+{
+    if stmt as usize >= body_of(program).len() {
+        return Err(Memory);
+    }
+    let at = StmtAt {
+        method: 0,
+        block: 0,
+        stmt,
+    };
+    footprint(alloc, program, &at)
+}
+
+// The graph of the body of `main`.
+fn graph_of(alloc: Global, program: &Program) -> Result<BlockGraph, Memory>
+    requires { Built (code program.now) }
+{
+    BlockGraph::of(alloc, program, 0, 0)
+}
+
+// Each statement has its uses, and the graph is theirs.
+#[test]
+fn uses_and_graph(rt: HostRuntime) -> Result<(), Fail> {
+    let alloc = rt.alloc();
+    let program = program_of(alloc, USES.as_bytes())?;
+    assert!(rt; is_built(&program));
+    let graph = graph_of(alloc, &program)?;
+    for row in &ROWS {
+        let footprint = uses_of(alloc, &program, row.stmt)?;
+        assert_eq!(rt; footprint.uses.as_slice(), row.uses, "uses of {}", row.stmt);
+        assert!(rt; (row.stmt as usize) < graph.len());
+        assert_eq!(rt; graph.preds(row.stmt), row.preds, "before {}", row.stmt);
+        assert_eq!(rt; graph.succs(row.stmt), row.succs, "after {}", row.stmt);
+    }
+    assert_eq!(rt; graph.len(), 6);
+    assert_eq!(rt; graph.edges(), EDGES.as_slice());
+    assert_eq!(rt; graph.wide(), 2);
+    Ok(())
+}
+
+// ---- meanings
+
+// A source, its ending, and what it prints up to there.
+struct Run {
+    source: &'static str,
+    ending: Ending,
+    out: &'static str,
+}
+
+const RUNS: [Run; 7] = [
+    Run {
+        source: "method void main() with exclusive io {\nlet int a = 2;\nlet int b = 3;\nprint a + b;\n}\n",
+        ending: Ending::Done,
+        out: "5\n",
+    },
+    Run {
+        source: "method void main() with exclusive io { }",
+        ending: Ending::Done,
+        out: "",
+    },
+    Run {
+        source: "method void main() with exclusive io {\nlet int a = -7;\nprint a / 2;\nprint a % 2;\na = a * a;\nprint a - (1 - 2);\n}\n",
+        ending: Ending::Done,
+        out: "-3\n-1\n50\n",
+    },
+    Run {
+        source: "method void main() with exclusive io {\nlet int a = 9223372036854775807;\nprint a;\nprint a + 1;\nprint 2;\n}\n",
+        ending: Ending::Trap {
+            code: 1,
+            at: Spot { line: 4, col: 1 },
+        },
+        out: "9223372036854775807\n",
+    },
+    Run {
+        source: "method void main() with exclusive io {\nlet int a = -9223372036854775807 - 1;\nprint a % -1;\nprint -a;\n}\n",
+        ending: Ending::Trap {
+            code: 1,
+            at: Spot { line: 4, col: 1 },
+        },
+        out: "0\n",
+    },
+    Run {
+        source: "method void main() with exclusive io {\nlet int a = 0;\nprint a - 7;\nlet int b = 1 / a;\nprint b;\n}\n",
+        ending: Ending::Trap {
+            code: 2,
+            at: Spot { line: 4, col: 1 },
+        },
+        out: "-7\n",
+    },
+    Run {
+        source: "method void main() with exclusive io {\nprint 1 % 0;\n}\n",
+        ending: Ending::Trap {
+            code: 2,
+            at: Spot { line: 2, col: 1 },
+        },
+        out: "",
+    },
+];
+
+const FUEL: u32 = 100_000;
+
+// The meaning of a program that breaks no rule.
+fn meant_by(alloc: Global, program: &Program) -> Result<Meant, Memory>
+    requires { Built (code program.now) }
+{
+    match first_broken(alloc, body_of(program)) {
+        Ok(None) => evaluate(alloc, program, &[], FUEL),
+        Ok(Some(_)) => Err(Memory),
+        Err(_) => Err(Memory),
+    }
+}
+
+// Each program has its ending, and printed this up to there.
+#[test]
+fn meanings(rt: HostRuntime) -> Result<(), Fail> {
+    let alloc = rt.alloc();
+    for run in &RUNS {
+        let program = program_of(alloc, run.source.as_bytes())?;
+        assert!(rt; is_built(&program));
+        let meant = meant_by(alloc, &program)?;
+        assert_eq!(rt; meant.ending, Some(run.ending), "{}", run.source);
+        assert_eq!(rt; meant.out.as_slice(), run.out.as_bytes(), "{}", run.source);
+    }
+    Ok(())
+}
