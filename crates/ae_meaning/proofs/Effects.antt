@@ -15,6 +15,7 @@ use Rattle.ae_meaning.specs.declared.report.Ending.TheVariants.{Trap}
 use Rattle.ae_meaning.specs.Values.{Env, Outcome, Fine, Traps, Lacks, then_value, found, fitted, stepped, value}
 use Rattle.ae_meaning.specs.Meaning.{State, Run, Went, Ends, Stops, given, bound, printed, one}
 use Rattle.ae_meaning.specs.Running.{sought}
+use Rattle.ae_meaning.specs.Frame.{is_read}
 use Rattle.ae_meaning.proofs.Rules.{right-given}
 
 pub or_left : (a b : Bool) → a ≡ true → (a || b) ≡ true
@@ -122,25 +123,49 @@ either_used : (c b : Bool) → b ≡ true → is_some (if c then Some Write else
 either_used true b h = refl
 either_used false b h = read_used b h
 
+-- the effect is told by the locals that the statement reads
+pub effect_read : (a : Action) (e f : Env) → SameOn (is_read a) e f → effect a e ≡ effect a f
+effect_read (Declares ty x r) e f h = ap (λ o. doing o (Binds x.name)) (sought_same r e f h)
+effect_read (Assigns x r) e f h = ap (λ o. doing o (Binds x.name)) (sought_same r e f h)
+effect_read (Prints a) e f h = ap (λ o. doing o (λ v. Adds (signed_decimal v ++ 10 ∷ []))) (value_same a e f h)
+effect_read (Stores p a) e f h = refl
+effect_read (StoresAt p i a) e f h = refl
+effect_read (Calls c) e f h = refl
+effect_read (Chooses a n b) e f h = refl
+effect_read (ChoosesElse a n b m c) e f h = refl
+effect_read (Repeats a n b) e f h = refl
+effect_read (Groups g) e f h = refl
+effect_read (Splits gs n b) e f h = refl
+effect_read (Locks g n b) e f h = refl
+effect_read (Freezes x) e f h = refl
+effect_read (Shares x g) e f h = refl
+effect_read (PrintsText text) e f h = refl
+effect_read (Asserts a) e f h = refl
+effect_read (Returns a) e f h = refl
+
+-- what a statement reads it uses
+read_is_used : (a : Action) (y : ℕ) → is_read a y ≡ true → is_some (local_mode a y) ≡ true
+read_is_used (Declares ty x r) y t = either_used (nat_eq x.name y) (reads_right r y) t
+read_is_used (Assigns x r) y t = either_used (nat_eq x.name y) (reads_right r y) t
+read_is_used (Prints a) y t = read_used (reads a y) t
+read_is_used (Stores p a) y t = absurd (cc)
+read_is_used (StoresAt p i a) y t = absurd (cc)
+read_is_used (Calls c) y t = absurd (cc)
+read_is_used (Chooses a n b) y t = absurd (cc)
+read_is_used (ChoosesElse a n b m c) y t = absurd (cc)
+read_is_used (Repeats a n b) y t = absurd (cc)
+read_is_used (Groups g) y t = absurd (cc)
+read_is_used (Splits gs n b) y t = absurd (cc)
+read_is_used (Locks g n b) y t = absurd (cc)
+read_is_used (Freezes x) y t = absurd (cc)
+read_is_used (Shares x g) y t = absurd (cc)
+read_is_used (PrintsText text) y t = absurd (cc)
+read_is_used (Asserts a) y t = absurd (cc)
+read_is_used (Returns a) y t = absurd (cc)
+
 -- the effect is told by the locals that the statement uses
 pub effect_same : (a : Action) (e f : Env) → SameOn (λ y. is_some (local_mode a y)) e f → effect a e ≡ effect a f
-effect_same (Declares ty x r) e f h = ap (λ o. doing o (Binds x.name)) (sought_same r e f (λ y t. h y (either_used (nat_eq x.name y) (reads_right r y) t)))
-effect_same (Assigns x r) e f h = ap (λ o. doing o (Binds x.name)) (sought_same r e f (λ y t. h y (either_used (nat_eq x.name y) (reads_right r y) t)))
-effect_same (Prints a) e f h = ap (λ o. doing o (λ v. Adds (signed_decimal v ++ 10 ∷ []))) (value_same a e f (λ y t. h y (read_used (reads a y) t)))
-effect_same (Stores p a) e f h = refl
-effect_same (StoresAt p i a) e f h = refl
-effect_same (Calls c) e f h = refl
-effect_same (Chooses a n b) e f h = refl
-effect_same (ChoosesElse a n b m c) e f h = refl
-effect_same (Repeats a n b) e f h = refl
-effect_same (Groups g) e f h = refl
-effect_same (Splits gs n b) e f h = refl
-effect_same (Locks g n b) e f h = refl
-effect_same (Freezes x) e f h = refl
-effect_same (Shares x g) e f h = refl
-effect_same (PrintsText text) e f h = refl
-effect_same (Asserts a) e f h = refl
-effect_same (Returns a) e f h = refl
+effect_same a e f h = effect_read a e f (λ y r. h y (read_is_used a y r))
 
 -- an effect that the statement's uses allow
 abbrev pub Allowed : Action → Effect → Type 0

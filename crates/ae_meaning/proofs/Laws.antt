@@ -11,9 +11,9 @@ use Rattle.ae_code.specs.Uses.{use_of}
 use Rattle.ae_meaning.specs.Values.{Env, with}
 use Rattle.ae_meaning.specs.Meaning.{State, Run, Went, Ends, Stops, bound, one}
 use Rattle.ae_meaning.specs.declared.report.Ending.TheVariants.{Trap}
-use Rattle.ae_meaning.specs.Frame.{View, Agree, AgreeAfter, ReadsItsUses, Keeps, ChangesItsWrites, behind, AddsToTheLog, Apart, Commute, ApartCommute}
+use Rattle.ae_meaning.specs.Frame.{View, Agree, AgreeAfter, DependsOnReads, ReadsItsUses, Keeps, ChangesItsWrites, behind, AddsToTheLog, Apart, Commute, ApartCommute}
 use Rattle.ae_meaning.proofs.Names.{same}
-use Rattle.ae_meaning.proofs.Effects.{SameOn, Effect, Binds, Adds, Fails, Halts, added, perform, effect, performs, effect_same, Allowed, allowed}
+use Rattle.ae_meaning.proofs.Effects.{SameOn, Effect, Binds, Adds, Fails, Halts, added, perform, effect, performs, effect_read, effect_same, Allowed, allowed}
 use Rattle.ae_meaning.proofs.Apart.{unwritten, apart-turned, two_names, both_print, not_weak, weak_name}
 
 -- one effect on two states that agree
@@ -25,6 +25,11 @@ perform_agrees at (Binds x n) v s t h = record { local = with_agrees v.local x n
 perform_agrees at (Adds bytes) v s t h = record { local = h.local; log = λ e. ap (λ l. l ++ bytes) (h.log e) }
 perform_agrees at (Fails code) v s t h = (refl, h.log)
 perform_agrees at Halts v s t h = h.log
+
+pub depends_on_reads : DependsOnReads
+depends_on_reads at a v w s t h =
+    let e : effect a s.env ≡ effect a t.env = effect_read a s.env t.env (λ y r. h.local y (w y r)) in
+    rw (performs at a s, performs at a t, e) (perform_agrees at (effect a t.env) v s t h)
 
 pub reads_its_uses : ReadsItsUses
 reads_its_uses at a v w s t h =

@@ -1,11 +1,11 @@
 -- A statement depends on what it uses and changes what it uses by Write or GroupWhole, and statements that do not conflict commute.
-use Rattle.std.specs.Prelude.{◌≡◌, ℕ, Bool, true, List, [], ◌++◌, IsSome}
+use Rattle.std.specs.Prelude.{◌≡◌, ℕ, Bool, true, false, List, [], ◌++◌, IsSome}
 use Rattle.ae_text.specs.declared.refusal.Spot.{Spot}
 use Rattle.ae_code.specs.declared.uses.Resource.{Resource}
 use Rattle.ae_code.specs.declared.uses.Resource.TheVariants.{Local, Group}
-use Rattle.ae_code.specs.Plain.{Expression, Action}
+use Rattle.ae_code.specs.Plain.{Expression, Action, Declares, Assigns, Prints}
 use Rattle.ae_code.specs.Names.{io}
-use Rattle.ae_code.specs.Uses.{reads, use_of}
+use Rattle.ae_code.specs.Uses.{reads, reads_right, use_of}
 use Rattle.ae_code.specs.Edges.{IsConflict, IsWeak}
 use Rattle.ae_meaning.specs.Values.{Env, value}
 use Rattle.ae_meaning.specs.Meaning.{State, Run, Went, Ends, Stops, one}
@@ -35,6 +35,18 @@ AgreeAfter v (Ends e l) (Stops m) = ⊥
 AgreeAfter v (Stops l) (Went t) = ⊥
 AgreeAfter v (Stops l) (Ends f m) = ⊥
 AgreeAfter v (Stops l) (Stops m) = v.log ≡ true → l ≡ m
+
+-- the locals that a statement reads, whether it writes them too or not
+abbrev pub is_read : Action → ℕ → Bool
+is_read (Declares ty x e) y = reads_right e y
+is_read (Assigns x e) y = reads_right e y
+is_read (Prints e) y = reads e y
+is_read _ y = false
+
+-- a statement depends on what it reads alone: from states that agree on a view with all locals that it reads, its runs agree there
+abbrev pub DependsOnReads : Type 0
+DependsOnReads = (at : Spot) (a : Action) (v : View) → ((y : ℕ) → is_read a y ≡ true → v.local y ≡ true)
+    → (s t : State) → Agree v s t → AgreeAfter v (one at a s) (one at a t)
 
 -- a statement reads only what it uses: from states that agree on a view with all locals that it uses, its runs agree there
 abbrev pub ReadsItsUses : Type 0

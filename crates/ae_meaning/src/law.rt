@@ -1,11 +1,16 @@
 // Laws over the meaning alone.
-ghost use Rattle.ae_meaning.specs.Frame.{ValueIsRead, ReadsItsUses, ChangesItsWrites, AddsToTheLog, ApartCommute};
+ghost use Rattle.ae_meaning.specs.Frame.{ValueIsRead, DependsOnReads, ReadsItsUses, ChangesItsWrites, AddsToTheLog, ApartCommute};
 ghost use Rattle.ae_meaning.specs.Order.{OrderIsFree, TakingKeepsEnding};
 ghost use Rattle.ae_meaning.specs.Endings.{AcceptedEnd};
 
 /// An expression's value is told by what it reads.
 pub fn values_are_told_by_what_is_read()
     ensures { ValueIsRead }
+{}
+
+/// A statement depends on what it reads alone, whatever the locals held that it writes.
+pub fn statements_depend_on_what_they_read()
+    ensures { DependsOnReads }
 {}
 
 /// A statement reads only what it uses.
