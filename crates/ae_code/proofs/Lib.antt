@@ -1,2 +1,7 @@
 mod Texts
 mod Steps
+mod BelowLemmas
+mod NamedLemmas
+mod BlockLemmas
+mod ProgramLemmas
+mod DeclLemmas

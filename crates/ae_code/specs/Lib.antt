@@ -11,3 +11,4 @@ pub mod Uses
 pub mod Spelling
 pub mod Layout
 pub mod Form
+pub mod WellShaped

@@ -2,6 +2,7 @@
 #![tactic(auto)]
 
 mod form;
+mod laws;
 mod lexeme;
 mod limits;
 mod print_decl;
@@ -14,6 +15,7 @@ mod types;
 mod uses;
 
 pub use form::{Form, Kind, Perm};
+pub use laws::derived_programs_are_well_shaped;
 pub use lexeme::{Lexeme, Lexical};
 pub use limits::Limit;
 pub use print_decl::print_program;
