@@ -90,18 +90,19 @@ all_apart (s ∷ xs) ks h = all_apart xs (insert_key bytes_eq ks s) (key_apart k
 
 -- ---- the numbers in tokens
 
-abbrev IsBelow : ℕ → Lexical → Type 0
+-- the number of a name is below this one, and so is that of `this`
+abbrev pub IsBelow : ℕ → Lexical → Type 0
 IsBelow n (tok.Name x) = x < n
 IsBelow n (tok.Int i) = Unit {0}
 IsBelow n (tok.Text s) = Unit {0}
-IsBelow n (tok.Word w) = Unit {0}
+IsBelow n (tok.Word w) = this < n
 IsBelow n (tok.Sign g) = Unit {0}
 IsBelow n tok.End = Unit {0}
 
--- the number of each name among the tokens is below this one
-abbrev pub AreBelow : ℕ → Tokens → Type 0
-AreBelow n [] = Unit {0}
-AreBelow n (t ∷ ts) = IsBelow n t.kind × AreBelow n ts
+-- each token has this
+abbrev pub EachToken : (Lexical → Type 0) → Tokens → Type 0
+EachToken L [] = Unit {0}
+EachToken L (t ∷ ts) = L t.kind × EachToken L ts
 
 place_below : (names : Words) (s : List ℕ) → list_any (bytes_eq s) names ≡ true → number_of names s < length names
 place_below [] s h = absurd (cc)
@@ -111,52 +112,51 @@ place_below (x ∷ names) s h = by (bytes_eq s x) h (place_below names s)
     by true h again = omega arith
     by false h again = let l : number_of names s < length names = again h in omega (arith, l)
 
--- tokens whose names are inserted behind others
+-- tokens whose names are inserted behind others, `this` among them
 abbrev AreNumbered : List Token → Type 0
-AreNumbered ts = (ks : Words) → AreBelow (length (insert_all bytes_eq ks (spellings ts))) (numbered (insert_all bytes_eq ks (spellings ts)) ts)
+AreNumbered ts = (ks : Words) → this < length (insert_all bytes_eq ks (spellings ts)) → EachToken (IsBelow (length (insert_all bytes_eq ks (spellings ts)))) (numbered (insert_all bytes_eq ks (spellings ts)) ts)
 
-token_below : (kind : TokenKind) (ts : List Token) → AreNumbered ts → (ks : Words) →
+token_below : (kind : TokenKind) (ts : List Token) → AreNumbered ts → (ks : Words) → this < length (insert_all bytes_eq ks (spelled kind (spellings ts))) →
     IsBelow (length (insert_all bytes_eq ks (spelled kind (spellings ts)))) (lexical (insert_all bytes_eq ks (spelled kind (spellings ts))) kind)
-    × AreBelow (length (insert_all bytes_eq ks (spelled kind (spellings ts)))) (numbered (insert_all bytes_eq ks (spelled kind (spellings ts))) ts)
-token_below (k.Name s) ts h ks =
-    (place_below (insert_all bytes_eq (insert_key bytes_eq ks s) (spellings ts)) s (all_kept (bytes_eq s) (spellings ts) (insert_key bytes_eq ks s) (key_there ks s)), h (insert_key bytes_eq ks s))
-token_below (k.Int i) ts h ks = (tt, h ks)
-token_below (k.Text s) ts h ks = (tt, h ks)
-token_below (k.Word w) ts h ks = (tt, h ks)
-token_below (k.Sign g) ts h ks = (tt, h ks)
-token_below k.End ts h ks = (tt, h ks)
+    × EachToken (IsBelow (length (insert_all bytes_eq ks (spelled kind (spellings ts))))) (numbered (insert_all bytes_eq ks (spelled kind (spellings ts))) ts)
+token_below (k.Name s) ts h ks l =
+    (place_below (insert_all bytes_eq (insert_key bytes_eq ks s) (spellings ts)) s (all_kept (bytes_eq s) (spellings ts) (insert_key bytes_eq ks s) (key_there ks s)), h (insert_key bytes_eq ks s) l)
+token_below (k.Int i) ts h ks l = (tt, h ks l)
+token_below (k.Text s) ts h ks l = (tt, h ks l)
+token_below (k.Word w) ts h ks l = (l, h ks l)
+token_below (k.Sign g) ts h ks l = (tt, h ks l)
+token_below k.End ts h ks l = (tt, h ks l)
 
 pub tokens_below : (ts : List Token) → AreNumbered ts
-tokens_below [] ks = tt
-tokens_below (t ∷ ts) ks = token_below t.kind ts (tokens_below ts) ks
+tokens_below [] ks l = tt
+tokens_below (t ∷ ts) ks l = token_below t.kind ts (tokens_below ts) ks l
 
 -- ---- the tokens of a production
 
-front_below : (n : ℕ) (xs ys : Tokens) → AreBelow n (xs ++ ys) → AreBelow n xs
-front_below n [] ys h = tt
-front_below n (x ∷ xs) ys h = (h.0, front_below n xs ys h.1)
+front_has : (L : Lexical → Type 0) (xs ys : Tokens) → EachToken L (xs ++ ys) → EachToken L xs
+front_has L [] ys h = tt
+front_has L (x ∷ xs) ys h = (h.0, front_has L xs ys h.1)
 
-back_below : (n : ℕ) (xs ys : Tokens) → AreBelow n (xs ++ ys) → AreBelow n ys
-back_below n [] ys h = h
-back_below n (x ∷ xs) ys h = back_below n xs ys h.1
+back_has : (L : Lexical → Type 0) (xs ys : Tokens) → EachToken L (xs ++ ys) → EachToken L ys
+back_has L [] ys h = h
+back_has L (x ∷ xs) ys h = back_has L xs ys h.1
 
--- tokens of this production, whose names are among the first n
-pub record Of (n : ℕ) (P : Tokens → Type 0) : Type 0 where
+-- tokens of this production, each of which has this
+pub record Of (L : Lexical → Type 0) (P : Tokens → Type 0) : Type 0 where
   pub tokens : Tokens
   pub derives : P tokens
-  pub below : AreBelow n tokens
-  pub three : this < n
+  pub each : EachToken L tokens
 
 -- the first part of a sequence, and what stands behind it
-pub head : {n : ℕ} {P Q : Tokens → Type 0} → Of n (Then P Q) → Of n P
-head {n} d = record { tokens = d.derives.front; derives = d.derives.first; below = front_below n d.derives.front d.derives.back (subst (AreBelow n) d.derives.parts d.below); three = d.three }
+pub head : {L : Lexical → Type 0} {P Q : Tokens → Type 0} → Of L (Then P Q) → Of L P
+head {L} d = record { tokens = d.derives.front; derives = d.derives.first; each = front_has L d.derives.front d.derives.back (subst (EachToken L) d.derives.parts d.each) }
 
-pub tail : {n : ℕ} {P Q : Tokens → Type 0} → Of n (Then P Q) → Of n Q
-tail {n} d = record { tokens = d.derives.back; derives = d.derives.second; below = back_below n d.derives.front d.derives.back (subst (AreBelow n) d.derives.parts d.below); three = d.three }
+pub tail : {L : Lexical → Type 0} {P Q : Tokens → Type 0} → Of L (Then P Q) → Of L Q
+tail {L} d = record { tokens = d.derives.back; derives = d.derives.second; each = back_has L d.derives.front d.derives.back (subst (EachToken L) d.derives.parts d.each) }
 
 -- behind one condition, or two
-pub under : {n : ℕ} {A : Type 0} {P : Tokens → Type 0} → Of n (λ ts. A × P ts) → Of n P
-under d = record { tokens = d.tokens; derives = d.derives.1; below = d.below; three = d.three }
+pub under : {L : Lexical → Type 0} {A : Type 0} {P : Tokens → Type 0} → Of L (λ ts. A × P ts) → Of L P
+under d = record { tokens = d.tokens; derives = d.derives.1; each = d.each }
 
-pub under_two : {n : ℕ} {A B : Type 0} {P : Tokens → Type 0} → Of n (λ ts. A × B × P ts) → Of n P
-under_two d = record { tokens = d.tokens; derives = d.derives.2; below = d.below; three = d.three }
+pub under_two : {L : Lexical → Type 0} {A B : Type 0} {P : Tokens → Type 0} → Of L (λ ts. A × B × P ts) → Of L P
+under_two d = record { tokens = d.tokens; derives = d.derives.2; each = d.each }

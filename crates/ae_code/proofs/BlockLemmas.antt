@@ -1,22 +1,23 @@
 -- What each statement of derived lines has, where their `return` stands, and how their blocks are numbered.
-use Rattle.std.proofs.Common.{arith, ◌≡◌, ◌<◌, inl, inr, refl, sym, ap, ap₂, ◌∙◌, ℕ, zero, suc, ◌+◌, ◌++◌, nat_eq, false, List, [], ◌∷◌, length, Option, None, Some}
+use Rattle.std.proofs.Common.{subst, arith, ◌≡◌, ◌<◌, inl, inr, refl, sym, ap, ap₂, ◌∙◌, ℕ, zero, suc, ◌+◌, ◌++◌, nat_eq, false, List, [], ◌∷◌, length, Option, None, Some}
 use Rattle.std.specs.List.{IsDistinct, AllByRecursion}
 use Rattle.std.proofs.lemmas.Bool.{ne_eqb}
 use Rattle.ae_text.specs.declared.refusal.Spot.{Spot}
+use Rattle.ae_code.specs.declared.lexeme.Lexical.{Lexical}
 use Rattle.ae_code.specs.Plain.{Expression, RightSide, Value, Taken, Zeros, Made, Returned, Lines, End, Next}
 use Rattle.ae_code.specs.Plain.{Action, Declares, Assigns, Stores, StoresAt, Calls, Chooses, ChoosesElse, Repeats, Groups, Splits, Locks, Freezes, Shares, Prints, PrintsText, Asserts, Returns}
-use Rattle.ae_code.specs.Grammar.{right_side, statement, statements, opened, opened_in, with_return, numbers_from}
+use Rattle.ae_code.specs.Grammar.{◌⨾◌, braced, returning, body, right_side, statement, statements, opened, opened_in, with_return, numbers_from}
 use Rattle.ae_code.specs.WellShaped.{InBlocks, EachStatement, IfThere, TakesField, HasField, HasGroup, IsNoReturn, ReturnsLast, numbers_in, numbers_among}
 use Rattle.ae_code.proofs.BelowLemmas.{Of, head, tail, under, under_two}
 
 -- ---- each statement
 
 -- a fact of each statement that tokens stand for
-abbrev pub Gives : ℕ → (Action → Type 0) → Type 0
-Gives n P = (k : ℕ) (at : Spot) (a : Action) → Of n (statement k at a) → P a
+abbrev pub Gives : (Lexical → Type 0) → (Action → Type 0) → Type 0
+Gives L P = (k : ℕ) (at : Spot) (a : Action) → Of L (statement k at a) → P a
 
 mutual
-  in_blocks : {n : ℕ} (P : Action → Type 0) → Gives n P → (k : ℕ) (at : Spot) (a : Action) → Of n (statement k at a) → InBlocks P a
+  in_blocks : {L : Lexical → Type 0} (P : Action → Type 0) → Gives L P → (k : ℕ) (at : Spot) (a : Action) → Of L (statement k at a) → InBlocks P a
   in_blocks P f k at (Declares t x e) d = tt
   in_blocks P f k at (Assigns x e) d = tt
   in_blocks P f k at (Stores p e) d = tt
@@ -38,84 +39,97 @@ mutual
   in_blocks P f k at (Returns e) d = tt
 
   -- a fact of each statement is one of each in the lines that tokens stand for
-  pub each_statement : {n : ℕ} (P : Action → Type 0) → Gives n P → (k : ℕ) (b : Lines) → Of n (statements k b) → EachStatement P b
+  each_statement : {L : Lexical → Type 0} (P : Action → Type 0) → Gives L P → (k : ℕ) (b : Lines) → Of L (statements k b) → EachStatement P b
   each_statement P f k End d = tt
   each_statement P f k (Next at a rest) d = (f k at a (head d), in_blocks P f k at a (head d), each_statement P f _ rest (tail d))
 
+-- the statements of a body, and the `return` behind them
+pub in_body : {L : Lexical → Type 0} (b : Lines) (d : Of L (body b)) → Of L (statements 1 d.derives.0 ⨾ returning d.derives.1)
+in_body {L} b d =
+    let inner : Of L (braced (statements 1 d.derives.0 ⨾ returning d.derives.1)) = record { tokens = d.tokens; derives = d.derives.3; each = d.each } in
+    head (tail inner)
+
 -- and one of each in a body, where its `return` has it too
-pub each_of_body : (P : Action → Type 0) (front : Lines) (r : Option (Spot × Expression)) → EachStatement P front → IfThere (λ (x : Spot × Expression). P (Returns x.1)) r → EachStatement P (with_return front r)
+each_of_body : (P : Action → Type 0) (front : Lines) (r : Option (Spot × Expression)) → EachStatement P front → IfThere (λ (x : Spot × Expression). P (Returns x.1)) r → EachStatement P (with_return front r)
 each_of_body P End None h last = tt
 each_of_body P End (Some r) h last = (last, tt, tt)
 each_of_body P (Next at a rest) r h last = (h.0, h.1, each_of_body P rest r h.2 last)
 
+-- the same of a body that tokens stand for
+pub each_in_body : {L : Lexical → Type 0} (P : Action → Type 0) → Gives L P → ((r : Option (Spot × Expression)) → Of L (returning r) → IfThere (λ (x : Spot × Expression). P (Returns x.1)) r)
+    → (b : Lines) → Of L (body b) → EachStatement P b
+each_in_body {L} P f last b d =
+    let s = in_body b d in
+    subst (EachStatement P) (sym d.derives.2) (each_of_body P d.derives.0 d.derives.1 (each_statement P f 1 d.derives.0 (head s)) (last d.derives.1 (tail s)))
+
 -- ---- the facts
 
-takes_field : {n : ℕ} (e : RightSide) → Of n (right_side e) → TakesField e
+takes_field : {L : Lexical → Type 0} (e : RightSide) → Of L (right_side e) → TakesField e
 takes_field (Value e) d = tt
 takes_field (Taken p at) d = d.derives.0
 takes_field (Zeros e at) d = tt
 takes_field (Made c gs es at) d = tt
 takes_field (Returned c) d = tt
 
-pub has_field : (n : ℕ) → Gives n HasField
-has_field n k at (Declares t x e) d = takes_field e (head (tail (tail (tail (tail d)))))
-has_field n k at (Assigns x e) d = takes_field e (head (tail (tail (under d))))
-has_field n k at (Stores p e) d = d.derives.1
-has_field n k at (StoresAt p i e) d = tt
-has_field n k at (Calls c) d = tt
-has_field n k at (Chooses e j b) d = tt
-has_field n k at (ChoosesElse e j b m c) d = tt
-has_field n k at (Repeats e j b) d = tt
-has_field n k at (Groups g) d = tt
-has_field n k at (Splits gs j b) d = tt
-has_field n k at (Locks g j b) d = tt
-has_field n k at (Freezes x) d = tt
-has_field n k at (Shares x g) d = tt
-has_field n k at (Prints e) d = tt
-has_field n k at (PrintsText s) d = tt
-has_field n k at (Asserts e) d = tt
-has_field n k at (Returns e) d = tt
+pub has_field : (L : Lexical → Type 0) → Gives L HasField
+has_field L k at (Declares t x e) d = takes_field e (head (tail (tail (tail (tail d)))))
+has_field L k at (Assigns x e) d = takes_field e (head (tail (tail (under d))))
+has_field L k at (Stores p e) d = d.derives.1
+has_field L k at (StoresAt p i e) d = tt
+has_field L k at (Calls c) d = tt
+has_field L k at (Chooses e j b) d = tt
+has_field L k at (ChoosesElse e j b m c) d = tt
+has_field L k at (Repeats e j b) d = tt
+has_field L k at (Groups g) d = tt
+has_field L k at (Splits gs j b) d = tt
+has_field L k at (Locks g j b) d = tt
+has_field L k at (Freezes x) d = tt
+has_field L k at (Shares x g) d = tt
+has_field L k at (Prints e) d = tt
+has_field L k at (PrintsText s) d = tt
+has_field L k at (Asserts e) d = tt
+has_field L k at (Returns e) d = tt
 
-pub has_group : (n : ℕ) → Gives n HasGroup
-has_group n k at (Declares t x e) d = tt
-has_group n k at (Assigns x e) d = tt
-has_group n k at (Stores p e) d = tt
-has_group n k at (StoresAt p i e) d = tt
-has_group n k at (Calls c) d = tt
-has_group n k at (Chooses e j b) d = tt
-has_group n k at (ChoosesElse e j b m c) d = tt
-has_group n k at (Repeats e j b) d = tt
-has_group n k at (Groups g) d = tt
-has_group n k at (Splits [] j b) d = absurd d.derives.1.second.first
-has_group n k at (Splits (g ∷ gs) j b) d = λ (e : g ∷ gs ≡ []). absurd (cc)
-has_group n k at (Locks g j b) d = tt
-has_group n k at (Freezes x) d = tt
-has_group n k at (Shares x g) d = tt
-has_group n k at (Prints e) d = tt
-has_group n k at (PrintsText s) d = tt
-has_group n k at (Asserts e) d = tt
-has_group n k at (Returns e) d = tt
+pub has_group : (L : Lexical → Type 0) → Gives L HasGroup
+has_group L k at (Declares t x e) d = tt
+has_group L k at (Assigns x e) d = tt
+has_group L k at (Stores p e) d = tt
+has_group L k at (StoresAt p i e) d = tt
+has_group L k at (Calls c) d = tt
+has_group L k at (Chooses e j b) d = tt
+has_group L k at (ChoosesElse e j b m c) d = tt
+has_group L k at (Repeats e j b) d = tt
+has_group L k at (Groups g) d = tt
+has_group L k at (Splits [] j b) d = absurd d.derives.1.second.first
+has_group L k at (Splits (g ∷ gs) j b) d = λ (e : g ∷ gs ≡ []). absurd (cc)
+has_group L k at (Locks g j b) d = tt
+has_group L k at (Freezes x) d = tt
+has_group L k at (Shares x g) d = tt
+has_group L k at (Prints e) d = tt
+has_group L k at (PrintsText s) d = tt
+has_group L k at (Asserts e) d = tt
+has_group L k at (Returns e) d = tt
 
-pub is_no_return : (n : ℕ) → Gives n IsNoReturn
-is_no_return n k at (Declares t x e) d = tt
-is_no_return n k at (Assigns x e) d = tt
-is_no_return n k at (Stores p e) d = tt
-is_no_return n k at (StoresAt p i e) d = tt
-is_no_return n k at (Calls c) d = tt
-is_no_return n k at (Chooses e j b) d = tt
-is_no_return n k at (ChoosesElse e j b m c) d = tt
-is_no_return n k at (Repeats e j b) d = tt
-is_no_return n k at (Groups g) d = tt
-is_no_return n k at (Splits gs j b) d = tt
-is_no_return n k at (Locks g j b) d = tt
-is_no_return n k at (Freezes x) d = tt
-is_no_return n k at (Shares x g) d = tt
-is_no_return n k at (Prints e) d = tt
-is_no_return n k at (PrintsText s) d = tt
-is_no_return n k at (Asserts e) d = tt
-is_no_return n k at (Returns e) d = d.derives
+is_no_return : (L : Lexical → Type 0) → Gives L IsNoReturn
+is_no_return L k at (Declares t x e) d = tt
+is_no_return L k at (Assigns x e) d = tt
+is_no_return L k at (Stores p e) d = tt
+is_no_return L k at (StoresAt p i e) d = tt
+is_no_return L k at (Calls c) d = tt
+is_no_return L k at (Chooses e j b) d = tt
+is_no_return L k at (ChoosesElse e j b m c) d = tt
+is_no_return L k at (Repeats e j b) d = tt
+is_no_return L k at (Groups g) d = tt
+is_no_return L k at (Splits gs j b) d = tt
+is_no_return L k at (Locks g j b) d = tt
+is_no_return L k at (Freezes x) d = tt
+is_no_return L k at (Shares x g) d = tt
+is_no_return L k at (Prints e) d = tt
+is_no_return L k at (PrintsText s) d = tt
+is_no_return L k at (Asserts e) d = tt
+is_no_return L k at (Returns e) d = d.derives
 
-pub returns_last : (front : Lines) (r : Option (Spot × Expression)) → EachStatement IsNoReturn front → ReturnsLast (with_return front r)
+returns_last : (front : Lines) (r : Option (Spot × Expression)) → EachStatement IsNoReturn front → ReturnsLast (with_return front r)
 returns_last End None h = tt
 returns_last End (Some r) h = (inr refl, tt, tt)
 returns_last (Next at a rest) r h = (inl h.0, h.1, returns_last rest r h.2)
@@ -162,7 +176,7 @@ two_numbered j k m a b xs ys e f g h =
     block_numbered j k (a + (1 + b)) (xs ++ m ∷ ys) e (ap₂ (λ (u v : List ℕ). u ++ v) g second ∙ numbers_from-append (k + 1) a (1 + b)) ∙ ap (numbers_from k) q
 
 mutual
-  action_numbered : {n : ℕ} (k : ℕ) (at : Spot) (a : Action) → Of n (statement k at a) → numbers_in a ≡ numbers_from k (opened a)
+  action_numbered : {L : Lexical → Type 0} (k : ℕ) (at : Spot) (a : Action) → Of L (statement k at a) → numbers_in a ≡ numbers_from k (opened a)
   action_numbered k at (Declares t x e) d = refl
   action_numbered k at (Assigns x e) d = refl
   action_numbered k at (Stores p e) d = refl
@@ -185,13 +199,28 @@ mutual
   action_numbered k at (Returns e) d = refl
 
   -- the blocks in lines whose blocks are numbered from k on have the numbers from k on
-  pub lines_numbered : {n : ℕ} (k : ℕ) (b : Lines) → Of n (statements k b) → numbers_among b ≡ numbers_from k (opened_in b)
+  lines_numbered : {L : Lexical → Type 0} (k : ℕ) (b : Lines) → Of L (statements k b) → numbers_among b ≡ numbers_from k (opened_in b)
   lines_numbered k End d = refl
   lines_numbered k (Next at a rest) d =
       ap₂ (λ (u v : List ℕ). u ++ v) (action_numbered k at a (head d)) (lines_numbered (k + opened a) rest (tail d)) ∙ numbers_from-append k (opened a) (opened_in rest)
 
 -- a `return` opens no block
-pub with_return_numbers : (front : Lines) (r : Option (Spot × Expression)) → numbers_among (with_return front r) ≡ numbers_among front
+with_return_numbers : (front : Lines) (r : Option (Spot × Expression)) → numbers_among (with_return front r) ≡ numbers_among front
 with_return_numbers End None = refl
 with_return_numbers End (Some r) = refl
 with_return_numbers (Next at a rest) r = ap (λ (l : List ℕ). numbers_in a ++ l) (with_return_numbers rest r)
+
+-- ---- bodies
+
+-- a `return` stands last in a body
+pub body_returns : {L : Lexical → Type 0} (b : Lines) → Of L (body b) → ReturnsLast b
+body_returns {L} b d = subst ReturnsLast (sym d.derives.2) (returns_last d.derives.0 d.derives.1 (each_statement IsNoReturn (is_no_return L) 1 d.derives.0 (head (in_body b d))))
+
+-- the blocks in a body are numbered from 1 on
+pub body_numbered : {L : Lexical → Type 0} (b : Lines) (d : Of L (body b)) → numbers_among b ≡ numbers_from 1 (opened_in d.derives.0)
+body_numbered b d = ap numbers_among d.derives.2 ∙ with_return_numbers d.derives.0 d.derives.1 ∙ lines_numbered 1 d.derives.0 (head (in_body b d))
+
+-- nothing is wanted of a `return`
+pub no_wish : {L : Lexical → Type 0} (r : Option (Spot × Expression)) → Of L (returning r) → IfThere (λ (x : Spot × Expression). Unit {0}) r
+no_wish None d = tt
+no_wish (Some x) d = tt

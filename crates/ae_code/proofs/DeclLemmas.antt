@@ -10,7 +10,7 @@ use Rattle.ae_code.specs.Names.{this, first_names, numbered, spellings}
 use Rattle.ae_code.specs.Plain.{Definition, Code}
 use Rattle.ae_code.specs.Grammar.{method, numbers_from, Declaration, OfClass, OfMethod, declarations, decls_of, classes_of, methods_of, ◌⨾◌, one}
 use Rattle.ae_code.specs.WellShaped.{IfThere, ClassNamed, class_in, own_methods, methods_at, IsMethodOf, DeclaresTop, DerivedAreWellShaped}
-use Rattle.ae_code.proofs.BelowLemmas.{AreBelow, all_more, all_apart, tokens_below, Of, head, tail, under}
+use Rattle.ae_code.proofs.BelowLemmas.{IsBelow, EachToken, all_more, all_apart, tokens_below, Of, head, tail, under}
 use Rattle.ae_code.proofs.NamedLemmas.{each_has}
 use Rattle.ae_code.proofs.BlockLemmas.{numbers_from-append}
 use Rattle.ae_code.proofs.ProgramLemmas.{MethodShape, method_shape, methods_have, classes_named, classes_in_order}
@@ -69,7 +69,7 @@ behind_method p c m x xs s = record {
 }
 
 -- each method is declared once, in order
-methods_in_order : (p : Code) {n : ℕ} (xs : List Declaration) (c m : ℕ) → Stand p c m xs → Of n (declarations c m xs)
+methods_in_order : (p : Code) {n : ℕ} (xs : List Declaration) (c m : ℕ) → Stand p c m xs → Of (IsBelow n) (declarations c m xs)
     → flat_map (methods_at p) (decls_of c m xs) ≡ numbers_from m (length (methods_of xs))
 methods_in_order p [] c m s d = refl
 methods_in_order p (OfClass k ms ∷ xs) c m s d =
@@ -81,7 +81,7 @@ methods_in_order p (OfClass k ms ∷ xs) c m s d =
 methods_in_order p (OfMethod x ∷ xs) c m s d = ap (λ (l : List ℕ). m ∷ l) (methods_in_order p xs _ _ (behind_method p c m x xs s) (tail d))
 
 -- the methods of a class are of it
-members_are : (p : Code) {n : ℕ} (xs : List Declaration) (c m i : ℕ) (k : Class) → Stand p c m xs → Of n (declarations c m xs)
+members_are : (p : Code) {n : ℕ} (xs : List Declaration) (c m i : ℕ) (k : Class) → Stand p c m xs → Of (IsBelow n) (declarations c m xs)
     → slice_get (classes_of xs) i ≡ Some k → All (IsMethodOf p (Some (c + i))) k.methods
 members_are p [] c m i k s d e = absurd (cc)
 members_are p {n} (OfClass x ms ∷ xs) c m zero k s d e =
@@ -99,7 +99,7 @@ members_are p (OfMethod x ∷ xs) c m i k s d e =
     subst (λ (z : ℕ). All (IsMethodOf p (Some z)) k.methods) at (members_are p xs _ _ i k (behind_method p c m x xs s) (tail d) e)
 
 -- the methods at the top are of none
-tops_are : (p : Code) {n : ℕ} (xs : List Declaration) (c m : ℕ) → Stand p c m xs → Of n (declarations c m xs) → All (DeclaresTop p) (decls_of c m xs)
+tops_are : (p : Code) {n : ℕ} (xs : List Declaration) (c m : ℕ) → Stand p c m xs → Of (IsBelow n) (declarations c m xs) → All (DeclaresTop p) (decls_of c m xs)
 tops_are p [] c m s d = All-nil (DeclaresTop p)
 tops_are p (OfClass k ms ∷ xs) c m s d = All-cons (DeclaresTop p) (decl.Class c) (decls_of (c + 1) (m + length ms) xs) tt (tops_are p xs _ _ (behind_class p c m k ms xs s) (tail d))
 tops_are p {n} (OfMethod x ∷ xs) c m s d =
@@ -128,10 +128,10 @@ derived_are_well_shaped tokens p d =
     let n : ℕ = length p.names in
     let first : (rest : List (List ℕ)) × (p.names ≡ first_names ++ rest) = let m = all_more (spellings tokens) first_names in (m.0, d.names ∙ m.1) in
     let three : this < n = let l : n ≡ length (first_names ++ first.0) = ap length first.1 in omega (arith, l) in
-    let below : AreBelow n (numbered p.names tokens) = subst (λ (names : List (List ℕ)). AreBelow (length names) (numbered names tokens)) (sym d.names) (tokens_below tokens first_names) in
-    let whole : Of n (declarations 0 0 d.list ⨾ one tok.End) = record { tokens = numbered p.names tokens; derives = d.derives; below = below; three = three } in
+    let below : EachToken (IsBelow n) (numbered p.names tokens) = subst (λ (names : List (List ℕ)). EachToken (IsBelow (length names)) (numbered names tokens)) (sym d.names) (tokens_below tokens first_names (subst (λ (names : List (List ℕ)). this < length names) d.names three)) in
+    let whole : Of (IsBelow n) (declarations 0 0 d.list ⨾ one tok.End) = record { tokens = numbered p.names tokens; derives = d.derives; each = below } in
     let s : Stand p 0 0 d.list = record { classes = []; methods = []; all_classes = d.classes; all_methods = d.methods; class_count = refl; method_count = refl } in
-    let ds : Of n (declarations 0 0 d.list) = head whole in
+    let ds : Of (IsBelow n) (declarations 0 0 d.list) = head whole in
     let bound : ℕ = length (classes_of d.list) in
     let owned : All (Owned n bound) p.methods = subst (All (Owned n bound)) (sym d.methods)
     (methods_have (Owned n bound) bound (λ o x h b. record { of = o; shape = method_shape n o x b; within = h }) d.list 0 0 (omega arith) ds) in
