@@ -7,3 +7,4 @@ pub mod Waiting
 pub mod Rows
 pub mod Texts
 pub mod Lists
+pub mod Few

@@ -1,6 +1,8 @@
 // The graph of a block.
-ghost use Rattle.std.specs.Prelude.{◌≡◌, ◌<◌, ◌^◌, List, [], length, IfOk, IsSome, Some, count_by};
+ghost use Rattle.std.specs.Prelude.{◌≡◌, ◌<◌, ◌≤◌, ◌^◌, List, [], length, IfOk, IsSome, Some, count_by};
 ghost use Rattle.ae_code.specs.Shown.{code, braced, lines_from};
+ghost use Rattle.ae_code.specs.Limits.{count, Within};
+ghost use Rattle.ae_code.specs.Judgement.{Accepted};
 ghost use Rattle.ae_code.specs.Uses.{block_of};
 ghost use Rattle.ae_graph.specs.Graph.{IsGraph, AreSuccs, preds_in, edges_from, is_free};
 
@@ -34,7 +36,7 @@ impl Model for BlockGraph {
 
 // The graph of these statements.
 fn graph_of(alloc: Global, stmts: &[Stmt]) -> Result<BlockGraph, AllocError>
-    requires { length stmts.now < 2 ^ 32 }
+    requires { count (lines_from stmts.now) ≤ 1024 }
     ensures { IfOk result (IsGraph (Some (lines_from stmts.now))) }
 {
     let preds = preds_of(alloc, stmts)?;
@@ -47,16 +49,13 @@ fn graph_of(alloc: Global, stmts: &[Stmt]) -> Result<BlockGraph, AllocError>
     })
 }
 
-// The graph of a block. There is no room for one of 2 ^ 32 statements.
+// The graph of a block within the limits.
 #[tactic(auto, using(crate::proofs::Rules::forms))]
 pub fn block_graph(alloc: Global, block: &Block) -> Result<BlockGraph, Memory>
+    requires { count (braced block.now).lines ≤ 1024 }
     ensures { IfOk result (IsGraph (Some (braced block.now).lines)) }
 {
-    let stmts = block.stmts.as_slice();
-    if stmts.len() > u32::MAX as usize {
-        return Err(Memory);
-    }
-    match graph_of(alloc, stmts) {
+    match graph_of(alloc, block.stmts.as_slice()) {
         Ok(graph) => Ok(graph),
         Err(_) => Err(Memory),
     }
@@ -77,15 +76,16 @@ fn count_free(preds: &[Items<u32>]) -> u32
 }
 
 impl BlockGraph {
-    /// The graph of a block of the program, by the number of its method and its own. A block of 2 ^ 32 statements or
-    /// more is refused as too large for memory.
+    /// The graph of a block of an accepted program within the limits, by the number of its method and its own.
     pub fn of(
         alloc: Global,
         program: &Program,
         method: u32,
         block: u32,
     ) -> Result<BlockGraph, Memory>
-        requires { IsSome (block_of (code program.now) method block) }
+        requires accepted { Accepted (code program.now) }
+        requires within { Within (code program.now) }
+        requires block { IsSome (block_of (code program.now) method block) }
         ensures { IfOk result (IsGraph (block_of (code program.now) method block)) }
     {
         let Some(block) = block_at(program, method, block) else {
@@ -103,7 +103,8 @@ impl BlockGraph {
 
     /// How many statements the block has.
     pub fn len(&self) -> usize
-        ensures { result ≡ length self.now }
+        ensures len { result ≡ length self.now }
+        ensures few { length self.now < 2 ^ 32 }
     {
         self.preds.len()
     }

@@ -5,8 +5,6 @@ mod block;
 mod preds;
 mod rising;
 mod succs;
-#[cfg(test)]
-mod tests;
 mod text;
 mod uses;
 mod waits;

@@ -1,8 +1,9 @@
 // The text of the graphs of a program.
-ghost use Rattle.std.specs.Prelude.{◌≡◌, ◌<◌, ◌^◌, ◌++◌, [], ◌∷◌, length, slice_index_or, codes, IfOk, OnOk, Some};
+ghost use Rattle.std.specs.Prelude.{◌≡◌, ◌<◌, ◌≤◌, ◌^◌, ◌++◌, [], ◌∷◌, length, slice_index_or, codes, IfOk, OnOk, Some};
 ghost use Rattle.std.specs.Fmt.{decimal};
 ghost use Rattle.ae_code.specs.Shown.{definition, code};
-ghost use Rattle.ae_code.specs.Built.{Built};
+ghost use Rattle.ae_code.specs.Limits.{count, Within};
+ghost use Rattle.ae_code.specs.Judgement.{Accepted};
 ghost use Rattle.ae_graph.specs.Graph.{Graph, IsGraph};
 ghost use Rattle.ae_graph.specs.GraphText.{spelling, spaced, line_text, lines_text, block_text, method_text, IsGraphText, PutsMethod};
 
@@ -125,6 +126,7 @@ fn put_method(
     names: &[Items<u8>],
     method: &Method,
 ) -> Result<(), Memory>
+    requires { count (definition method.now).body ≤ 1024 }
     ensures { OnOk result (PutsMethod names.now (definition method.now) text.old.items text.new.items) }
 {
     let graph = block_graph(alloc, &method.body)?;
@@ -134,11 +136,12 @@ fn put_method(
     }
 }
 
-/// The text of the graphs of a program of the forms that run today, where each method has one block: the methods in
-/// order, under each the number of its block and how many statements it has, and a line for each statement that waits
-/// for others.
+/// The text of the graphs of an accepted program within the limits. It has forms that run today alone, so each method
+/// has one block: the methods in order, under each the number of its block and how many statements it has, and a line
+/// for each statement that waits for others.
 pub fn graph_text(alloc: Global, program: &Program) -> Result<Items<u8>, Memory>
-    requires { Built (code program.now) }
+    requires accepted { Accepted (code program.now) }
+    requires within { Within (code program.now) }
     ensures { IfOk result (IsGraphText (code program.now)) }
 {
     let mut text = Vec::new(alloc);

@@ -2,6 +2,7 @@
 ghost use Rattle.std.specs.Prelude.{◌≡◌, ◌++◌, IfOk, OnOk, IsSome, MatchOption, map, Some, None};
 ghost use Rattle.std.specs.Option.{option_to_list};
 ghost use Rattle.ae_code.specs.Shown.{expression, right_side, action, braced, code};
+ghost use Rattle.ae_code.specs.Judgement.{Accepted};
 ghost use Rattle.ae_code.specs.Uses.{block_of, statement_at};
 ghost use Rattle.ae_code.specs.Edges.{are_compatible};
 ghost use Rattle.ae_graph.specs.Footprint.{HasFootprint, IsFootprint, statement_of, names_in, names_right, read_by, written_by, is_written, local_use, AreLocalUses, group_uses};
@@ -168,9 +169,10 @@ fn statement_in(block: &Block, at: u32) -> Option<&Stmt>
     block.stmts.get(at as usize)
 }
 
-/// What a statement uses, by the numbers of its method, its block and its place there.
+/// What a statement of an accepted program uses, by the numbers of its method, its block and its place there.
 pub fn footprint(alloc: Global, program: &Program, at: &StmtAt) -> Result<Footprint, Memory>
-    requires { IsSome (statement_of (code program.now) at.now) }
+    requires accepted { Accepted (code program.now) }
+    requires statement { IsSome (statement_of (code program.now) at.now) }
     ensures { IfOk result (λ f. HasFootprint (statement_of (code program.now) at.now) f.uses) }
 {
     let Some(block) = block_at(program, at.method, at.block) else {

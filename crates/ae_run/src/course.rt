@@ -12,7 +12,7 @@ use ae_meaning::{
     Ending, Locals, RunReport, Running, Stop, run_stmt, statements_change_what_they_write,
     statements_read_what_they_use,
 };
-use ae_text::Items;
+use ae_text::{Gate, Items};
 use std::alloc::{AllocError, Global};
 use std::mem;
 
@@ -62,11 +62,20 @@ pub struct Course {
     pub first: Option<First>,
 }
 
-// Runs a statement, and takes what it printed.
-fn run_alone(alloc: Global, stmt: &Stmt, state: &mut Running) -> Result<Outcome, AllocError>
+// Runs the statement with this number, tells the gate, and takes what it printed.
+fn run_alone<G: Gate>(
+    alloc: Global,
+    stmt: &Stmt,
+    j: u32,
+    state: &mut Running,
+    gate: &G,
+) -> Result<Outcome, AllocError>
     ensures { IfOk result (λ o. Gives (one stmt.now.at (action stmt.now.kind) (held state.old)) (env_of state.old.locals) o (held state.new)) }
 {
-    match run_stmt(alloc, stmt, state) {
+    gate.enter(j);
+    let ran = run_stmt(alloc, stmt, state);
+    gate.leave(j);
+    match ran {
         Ok(()) => {
             let piece = mem::replace(&mut state.log, Vec::new(alloc));
             Ok(Outcome::Went(Items::from_vec(piece)))
@@ -135,7 +144,13 @@ impl Course {
     }
 
     /// Runs a ready statement, or leaves it out where an ending before it is known. Says whether it went through.
-    pub fn settle(&mut self, alloc: Global, stmts: &[Stmt], j: u32) -> Result<bool, AllocError>
+    pub fn settle<G: Gate>(
+        &mut self,
+        alloc: Global,
+        stmts: &[Stmt],
+        j: u32,
+        gate: &G,
+    ) -> Result<bool, AllocError>
         requires within { j < length stmts.now }
         requires counted { j < length self.old.fates.items }
         requires course { IsOnCourse (lines_from stmts.now) self.old }
@@ -150,7 +165,7 @@ impl Course {
         }
         statements_read_what_they_use();
         statements_change_what_they_write();
-        match run_alone(alloc, &stmts[j as usize], &mut self.state)? {
+        match run_alone(alloc, &stmts[j as usize], j, &mut self.state, gate)? {
             Outcome::Went(piece) => {
                 self.set(j, Fate::Went(piece));
                 Ok(true)

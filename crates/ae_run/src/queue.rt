@@ -1,6 +1,8 @@
 // Which statements can be run.
-ghost use Rattle.std.specs.Prelude.{◌≡◌, ◌<◌, ◌≤◌, ◌+◌, ℕ, nat_eq, if◌then◌else◌, length, IfOk, OnOk, MatchOption, IsPermutation, ◌∷◌, slice_index, slice_index_or, slice_set};
-ghost use Rattle.std.specs.BinaryHeap.{heap_items};
+ghost use Rattle.std.specs.Prelude.{◌≡◌, ◌<◌, ◌≤◌, ◌+◌, ℕ, nat_eq, if◌then◌else◌, length, All, IfOk, IfSome, OnOk, MatchOption, IsPermutation, [], ◌∷◌, ◌++◌, slice_index, slice_index_or, slice_set};
+ghost use Rattle.std.specs.BinaryHeap.{heap_items, IsHeap};
+ghost use Rattle.std.specs.Ordering.{nat_cmp};
+ghost use Rattle.std.proofs.Props.{props};
 ghost use Rattle.ae_graph.specs.Graph.{preds_in};
 ghost use Rattle.ae_run.specs.Queue.{times, zero_as_one, waits_of};
 
@@ -13,9 +15,30 @@ use std::collections::BinaryHeap;
 pub struct Queue {
     pub waits: Vec<usize>,
     pub ready: BinaryHeap<u32>,
+    ghost ordered: { IsHeap nat_cmp (heap_items ready) } by { Prim.hlevel props },
 }
 
 impl Queue {
+    // No statement waits, and none is ready.
+    fn empty(alloc: Global) -> Queue
+        ensures waits { result.waits.items ≡ [] }
+        ensures ready { heap_items result.ready ≡ [] }
+    {
+        Queue {
+            waits: Vec::new(alloc),
+            ready: BinaryHeap::new(alloc),
+        }
+    }
+
+    // One more statement, which waits for so many.
+    fn add(&mut self, left: usize) -> Result<(), AllocError>
+        ensures waits { OnOk result (self.new.waits.items ≡ self.old.waits.items ++ left ∷ []) }
+        ensures ready { self.new.ready ≡ self.old.ready }
+    {
+        self.waits.push(left)?;
+        Ok(())
+    }
+
     // The statement is ready where it waits for none.
     fn admit(&mut self, j: u32, left: usize) -> Result<(), AllocError>
         ensures waits { self.new.waits.items ≡ self.old.waits.items }
@@ -34,13 +57,10 @@ impl Queue {
         ensures waits { IfOk result (λ q. (j : ℕ) → j < count → slice_index q.waits.items j ≡ length (preds_in graph.now j)) }
         ensures ready { IfOk result (λ q. (j : ℕ) → times j (heap_items q.ready) ≡ zero_as_one (waits_of q.waits.items j)) }
     {
-        let mut queue = Queue {
-            waits: Vec::new(alloc),
-            ready: BinaryHeap::new(alloc),
-        };
+        let mut queue = Queue::empty(alloc);
         for j in 0..count {
             let preds = graph.preds(j).len();
-            queue.waits.push(preds)?;
+            queue.add(preds)?;
             queue.admit(j, preds)?;
         }
         Ok(queue)
@@ -50,6 +70,7 @@ impl Queue {
     pub fn take(&mut self) -> Option<u32>
         ensures waits { self.new.waits.items ≡ self.old.waits.items }
         ensures ready { MatchOption result (length (heap_items self.old.ready) ≡ 0) (λ j. IsPermutation (heap_items self.old.ready) (j ∷ heap_items self.new.ready)) }
+        ensures greatest { IfSome result (λ j. All (λ i. i ≤ j) (heap_items self.new.ready)) }
     {
         self.ready.pop()
     }

@@ -1,6 +1,7 @@
 // Runs a block from a list of ready statements. A law of the meaning is called where a proof takes it from there; the call does nothing.
 ghost use Rattle.std.specs.Prelude.{◌≡◌, ◌<◌, ◌≤◌, ℕ, length, IfOk, Some, IsSome};
 ghost use Rattle.ae_code.specs.Shown.{code, lines_from};
+ghost use Rattle.ae_code.specs.Limits.{Within};
 ghost use Rattle.ae_code.specs.Judgement.{Accepted};
 ghost use Rattle.ae_graph.specs.Graph.{IsGraph};
 ghost use Rattle.ae_meaning.specs.Meaning.{many, begin, ended, seq};
@@ -18,11 +19,12 @@ use std::alloc::{AllocError, Global};
 use std::thread::Threads;
 
 // Runs the statements of a block, the greatest ready one first, until none is ready that stands before a known ending.
-fn run_block(
+fn run_block<G: Gate>(
     alloc: Global,
     stmts: &[Stmt],
     graph: &BlockGraph,
     count: u32,
+    gate: &G,
 ) -> Result<Course, AllocError>
     requires size { length graph.now ≡ count }
     requires graph { IsGraph (Some (lines_from stmts.now)) graph.now }
@@ -33,7 +35,7 @@ fn run_block(
     let mut queue = Queue::new(alloc, graph, count)?;
     let mut course = Course::new(alloc, count)?;
     while let Some(j) = queue.take() {
-        let through = course.settle(alloc, stmts, j)?;
+        let through = course.settle(alloc, stmts, j, gate)?;
         if through {
             queue.release(graph.succs(j))?;
         }
@@ -42,11 +44,12 @@ fn run_block(
 }
 
 // Runs a block that has an ending in source order, and reports that ending and what is printed before it.
-fn run_main(
+fn run_main<G: Gate>(
     alloc: Global,
     stmts: &[Stmt],
     graph: &BlockGraph,
     count: u32,
+    gate: &G,
 ) -> Result<RunReport, AllocError>
     requires size { length graph.now ≡ count }
     requires graph { IsGraph (Some (lines_from stmts.now)) graph.now }
@@ -55,16 +58,16 @@ fn run_main(
     ensures out { IfOk result (λ r. r.out ≡ (ended (many (lines_from stmts.now) begin)).out) }
 {
     statements_add_to_the_log();
-    let course = run_block(alloc, stmts, graph, count)?;
+    let course = run_block(alloc, stmts, graph, count, gate)?;
     course.report(alloc)
 }
 
-/// Runs an accepted program on one thread, in another order than the written one: of the statements that can be run,
-/// the last one in the source comes first. The ending and the output are those of the written order. A statement after a
-/// known ending is left out, and a statement that ended leaves out all that wait for it.
+/// Runs an accepted program within the limits on one thread, in another order than the written one: of the statements
+/// that can be run, the last one in the source comes first. The ending and the output are those of the written order. A
+/// statement after a known ending is left out, and a statement that ended leaves out all that wait for it.
 ///
-/// The answer is `Memory` where memory is refused, or the statements of a block are more than a `u32` can number.
-/// The gate is not called yet, and `ints`, `fuel` and `workers` are not used yet.
+/// The gate is told of each statement that is run, by its number in the block. `ints`, `fuel` and `workers` are not
+/// used yet.
 pub fn run<G: Gate>(
     _rt: &(impl Threads + Sync),
     alloc: Global,
@@ -72,9 +75,10 @@ pub fn run<G: Gate>(
     ints: &[i64],
     fuel: u32,
     workers: u32,
-    _gate: &G,
+    gate: &G,
 ) -> Result<RunReport, Memory>
     requires accepted { Accepted (code program.now) }
+    requires within { Within (code program.now) }
     requires some_workers { 1 ≤ workers }
     requires most_workers { workers ≤ 64 }
     requires some_fuel { 1 ≤ fuel }
@@ -84,8 +88,8 @@ pub fn run<G: Gate>(
     ensures out { IfOk result (λ r. r.out ≡ (seq (code program.now) ints.now fuel).out) }
 {
     let graph = BlockGraph::of(alloc, program, 0, 0)?;
-    let count = u32::try_from(graph.len()).map_err(|_| Memory)?;
+    let count = graph.len() as u32;
     let stmts = program.methods.as_slice()[0].body.stmts.as_slice();
     accepted_programs_end();
-    run_main(alloc, stmts, &graph, count).map_err(|_| Memory)
+    run_main(alloc, stmts, &graph, count, gate).map_err(|_| Memory)
 }

@@ -5,6 +5,9 @@ use Rattle.ae_graph.specs.Succs.{AreEarlier}
 use Rattle.ae_graph.proofs.Rows.{count_lines, earlier}
 use Rattle.ae_graph.proofs.block.graph_of.Goals as goal
 
+pub preds_of-requires : goal.preds_of-requires
+preds_of-requires c = omega (arith, c.requires, count_lines c.args.stmts.now)
+
 pub succs_of-requires-clause-few : goal.succs_of-requires-clause-few
 succs_of-requires-clause-few c = omega (arith, c.requires, c.in_ok-preds.ensures.0, count_lines c.args.stmts.now, ap length c.as_slice.ensures)
 

@@ -9,13 +9,13 @@ use Rattle.ae_run.proofs.Reports.{handed, weaker}
 use Rattle.ae_run.proofs.schedule.run.Goals as goal
 
 pub run_main-requires-clause-graph : goal.run_main-requires-clause-graph
-run_main-requires-clause-graph g c =
+run_main-requires-clause-graph g c κs met =
     subst (λ (o : Option Lines). IsGraph o c.in_ok-graph.graph)
     (block_lines c.args.program.now c.requires.accepted c.as_slice.result.now c.as_slice.ensures c.index-as_slice-0.result c.as_slice-stmts.result.now c.as_slice-stmts.ensures)
     c.in_ok-graph.ensures
 
 pub run_main-requires-clause-ends : goal.run_main-requires-clause-ends
-run_main-requires-clause-ends g c =
+run_main-requires-clause-ends g c κs met =
     subst (λ (m : Meaning). IsSome m.ending)
     (seq_lines c.args.program.now c.requires.accepted c.as_slice.result.now c.as_slice.ensures c.index-as_slice-0.result c.as_slice-stmts.result.now c.as_slice-stmts.ensures c.args.ints.now c.args.fuel)
     (c.accepted_programs_end.ensures (code c.args.program.now) c.requires.accepted c.args.ints.now c.args.fuel)
@@ -26,7 +26,7 @@ returns-clause-ending g c =
     let p = code c.args.program.now in
     let e : seq p c.args.ints.now c.args.fuel ≡ ended (many b begin) =
     seq_lines c.args.program.now c.requires.accepted c.as_slice.result.now c.as_slice.ensures c.index-as_slice-0.result c.as_slice-stmts.result.now c.as_slice-stmts.ensures c.args.ints.now c.args.fuel in
-    handed (λ (r : RunReport). Some r.ending ≡ (seq p c.args.ints.now c.args.fuel).ending) _ c.run_main.result c.map_err-2.result c.map_err-2.ensures.cases c.map_err-2.ensures.variant
+    handed (λ (r : RunReport). Some r.ending ≡ (seq p c.args.ints.now c.args.fuel).ending) _ c.run_main.result c.map_err.result c.map_err.ensures.cases c.map_err.ensures.variant
     (weaker (λ (r : RunReport). Some r.ending ≡ (ended (many b begin)).ending) (λ (r : RunReport). Some r.ending ≡ (seq p c.args.ints.now c.args.fuel).ending)
     (λ r h. h ∙ ap (λ (m : Meaning). m.ending) (sym e)) c.run_main.result c.run_main.ensures.ending)
 
@@ -36,6 +36,6 @@ returns-clause-out g c =
     let p = code c.args.program.now in
     let e : seq p c.args.ints.now c.args.fuel ≡ ended (many b begin) =
     seq_lines c.args.program.now c.requires.accepted c.as_slice.result.now c.as_slice.ensures c.index-as_slice-0.result c.as_slice-stmts.result.now c.as_slice-stmts.ensures c.args.ints.now c.args.fuel in
-    handed (λ (r : RunReport). r.out ≡ (seq p c.args.ints.now c.args.fuel).out) _ c.run_main.result c.map_err-2.result c.map_err-2.ensures.cases c.map_err-2.ensures.variant
+    handed (λ (r : RunReport). r.out ≡ (seq p c.args.ints.now c.args.fuel).out) _ c.run_main.result c.map_err.result c.map_err.ensures.cases c.map_err.ensures.variant
     (weaker (λ (r : RunReport). r.out ≡ (ended (many b begin)).out) (λ (r : RunReport). r.out ≡ (seq p c.args.ints.now c.args.fuel).out)
     (λ r h. h ∙ ap (λ (m : Meaning). m.out) (sym e)) c.run_main.result c.run_main.ensures.out)

@@ -11,7 +11,7 @@ use Rattle.ae_run.proofs.Queues.{taken_now, ready_now, ready_rest, waits_kept, r
 use Rattle.ae_run.proofs.schedule.run_block.Goals as goal
 
 pub settle-requires-clause-within : goal.settle-requires-clause-within
-settle-requires-clause-within c =
+settle-requires-clause-within g c κs met =
     let b = lines_from c.args.stmts.now in
     let t = taken_now c.loop-j.course.fates.items c.loop-j.queue.waits.items (heap_items c.loop-j.queue.ready) (heap_items c.take.new.self.ready) c.in-Some.j c.loop-j.invariant.ready c.in-Some.ensures.ready in
     let l : c.in-Some.j < length c.loop-j.queue.waits.items = t.within in
@@ -21,7 +21,7 @@ settle-requires-clause-within c =
     omega arith
 
 pub settle-requires-clause-counted : goal.settle-requires-clause-counted
-settle-requires-clause-counted c =
+settle-requires-clause-counted g c κs met =
     let b = lines_from c.args.stmts.now in
     let t = taken_now c.loop-j.course.fates.items c.loop-j.queue.waits.items (heap_items c.loop-j.queue.ready) (heap_items c.take.new.self.ready) c.in-Some.j c.loop-j.invariant.ready c.in-Some.ensures.ready in
     let l : c.in-Some.j < length c.loop-j.queue.waits.items = t.within in
@@ -31,23 +31,23 @@ settle-requires-clause-counted c =
     omega arith
 
 pub settle-requires-clause-ready : goal.settle-requires-clause-ready
-settle-requires-clause-ready c =
+settle-requires-clause-ready g c κs met =
     let fs = c.loop-j.course.fates.items in
     let ws = c.loop-j.queue.waits.items in
     ready_now (lines_from c.args.stmts.now) c.args.graph.now c.requires.graph fs ws c.in-Some.j c.loop-j.invariant.waits
     (taken_now fs ws (heap_items c.loop-j.queue.ready) (heap_items c.take.new.self.ready) c.in-Some.j c.loop-j.invariant.ready c.in-Some.ensures.ready)
 
 pub settle-requires-clause-untaken : goal.settle-requires-clause-untaken
-settle-requires-clause-untaken c =
+settle-requires-clause-untaken g c κs met =
     (taken_now c.loop-j.course.fates.items c.loop-j.queue.waits.items (heap_items c.loop-j.queue.ready) (heap_items c.take.new.self.ready) c.in-Some.j c.loop-j.invariant.ready c.in-Some.ensures.ready).untaken
 
 pub succs-requires : goal.succs-requires
-succs-requires c =
+succs-requires g c =
     subst (λ n. c.in-Some.j < n) c.loop-j.invariant.waits.size
     (taken_now c.loop-j.course.fates.items c.loop-j.queue.waits.items (heap_items c.loop-j.queue.ready) (heap_items c.take.new.self.ready) c.in-Some.j c.loop-j.invariant.ready c.in-Some.ensures.ready).within
 
 pub release-requires : goal.release-requires
-release-requires c = λ i.
+release-requires g c = λ i.
     let b = lines_from c.args.stmts.now in
     let fs = c.loop-j.course.fates.items in
     let gs = c.settle.new.self.fates.items in
@@ -60,7 +60,7 @@ release-requires c = λ i.
     (room b c.args.graph.now c.requires.graph fs gs ws c.succs.result.now j l t.untaken s c.loop-j.invariant.waits c.succs.ensures i)
 
 pub loop-j-init : goal.loop-j-init
-loop-j-init c =
+loop-j-init g c =
     let b = lines_from c.args.stmts.now in
     let fs = c.in_ok-course.course.fates.items in
     let s = held c.in_ok-course.course.state in
@@ -73,7 +73,7 @@ loop-j-init c =
     }
 
 pub loop-j-smaller : goal.loop-j-smaller
-loop-j-smaller c =
+loop-j-smaller g c =
     let fs = c.loop-j.course.fates.items in
     let j = c.in-Some.j in
     let t = taken_now fs c.loop-j.queue.waits.items (heap_items c.loop-j.queue.ready) (heap_items c.take.new.self.ready) j c.loop-j.invariant.ready c.in-Some.ensures.ready in
@@ -81,7 +81,7 @@ loop-j-smaller c =
     fewer_open fs c.settle.new.self.fates.items j c.in_ok-through.through l t.untaken c.in_ok-through.ensures.fates
 
 pub loop-j-smaller-in-Continue-branch-4 : goal.loop-j-smaller-in-Continue-branch-4
-loop-j-smaller-in-Continue-branch-4 c =
+loop-j-smaller-in-Continue-branch-4 g c =
     let fs = c.loop-j.course.fates.items in
     let j = c.in-Some.j in
     let t = taken_now fs c.loop-j.queue.waits.items (heap_items c.loop-j.queue.ready) (heap_items c.take.new.self.ready) j c.loop-j.invariant.ready c.in-Some.ensures.ready in
@@ -89,7 +89,7 @@ loop-j-smaller-in-Continue-branch-4 c =
     fewer_open fs c.settle.new.self.fates.items j c.in_ok-through.through l t.untaken c.in_ok-through.ensures.fates
 
 pub loop-j-preserved : goal.loop-j-preserved
-loop-j-preserved c =
+loop-j-preserved g c =
     let fs = c.loop-j.course.fates.items in
     let gs = c.settle.new.self.fates.items in
     let ws = c.loop-j.queue.waits.items in
@@ -107,7 +107,7 @@ loop-j-preserved c =
     }
 
 pub loop-j-preserved-in-Continue-branch-4 : goal.loop-j-preserved-in-Continue-branch-4
-loop-j-preserved-in-Continue-branch-4 c =
+loop-j-preserved-in-Continue-branch-4 g c =
     let b = lines_from c.args.stmts.now in
     let fs = c.loop-j.course.fates.items in
     let gs = c.settle.new.self.fates.items in
@@ -130,4 +130,4 @@ loop-j-preserved-in-Continue-branch-4 c =
     }
 
 pub returns-clause-over : goal.returns-clause-over
-returns-clause-over c = over c.args.graph.now c.loop-j.course.fates.items c.loop-j.queue.waits.items (heap_items c.loop-j.queue.ready) c.loop-j.invariant.waits c.loop-j.invariant.ready c.in_default.ensures.ready
+returns-clause-over g c = over c.args.graph.now c.loop-j.course.fates.items c.loop-j.queue.waits.items (heap_items c.loop-j.queue.ready) c.loop-j.invariant.waits c.loop-j.invariant.ready c.in_default.ensures.ready

@@ -6,11 +6,11 @@ use Rattle.ae_run.proofs.Queues.{open_count}
 use Rattle.ae_run.proofs.schedule.run_block.Given as goal
 
 abbrev pub invariant-loop-j : goal.invariant-loop-j
-invariant-loop-j l = record {
+invariant-loop-j g l = record {
   course : IsOnCourse (lines_from l.stmts) l.course;
   waits : AreWaits l.graph (went l.course.fates.items) l.queue.waits.items;
   ready : AreReady (taken l.course.fates.items) l.queue.waits.items (heap_items l.queue.ready);
 }
 
 abbrev pub decreases-loop-j : goal.decreases-loop-j
-decreases-loop-j l = open_count l.course.fates.items
+decreases-loop-j g l = open_count l.course.fates.items

@@ -9,14 +9,14 @@ use Rattle.ae_run.proofs.Reports.{weaker}
 use Rattle.ae_run.proofs.schedule.run_main.Goals as goal
 
 pub returns-clause-ending : goal.returns-clause-ending
-returns-clause-ending c =
+returns-clause-ending g c =
     let b = lines_from c.args.stmts.now in
     let k = c.in_ok-course.course in
     let a = finish c.statements_add_to_the_log.ensures b c.args.graph.now c.requires.graph k.fates.items k.first (held k.state) c.in_ok-course.ensures.course c.in_ok-course.ensures.over c.requires.ends in
     weaker (λ (r : RunReport). r.ending ≡ ending_of k.first) (λ (r : RunReport). Some r.ending ≡ (ended (many b begin)).ending) (λ r e. ap (λ x. Some x) e ∙ a.0) c.report.result c.report.ensures.ending
 
 pub returns-clause-out : goal.returns-clause-out
-returns-clause-out c =
+returns-clause-out g c =
     let b = lines_from c.args.stmts.now in
     let k = c.in_ok-course.course in
     let a = finish c.statements_add_to_the_log.ensures b c.args.graph.now c.requires.graph k.fates.items k.first (held k.state) c.in_ok-course.ensures.course c.in_ok-course.ensures.over c.requires.ends in
