@@ -6,3 +6,4 @@ pub mod LexLemmas
 pub mod CutLemmas
 pub mod FaultLemmas
 pub mod PlaceLemmas
+pub mod CallLemmas

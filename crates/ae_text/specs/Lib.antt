@@ -1,4 +1,5 @@
 pub mod Causes
+pub mod Calls
 pub mod Whole
 pub mod Rules
 pub mod Tokens

@@ -3,6 +3,7 @@ ghost use Rattle.std.specs.Prelude.{◌≡◌, ◌<◌, ◌≤◌, ◌+◌, ◌+
 ghost use Rattle.std.specs.Io.{WritesAtMost};
 ghost use Rattle.std.specs.Io.KnownBytes.{WriteAppends};
 ghost use Rattle.ae_text.specs.Causes.{HasCause};
+ghost use Rattle.ae_text.specs.Calls.{Reaches};
 
 use crate::memory::give;
 use crate::outside::{Failed, Sink, Source};
@@ -92,7 +93,8 @@ impl Sink for SureSink {
         ensures some { IfOk result (λ n. 0 < n) }
         ensures bound { WritesAtMost result piece.now }
         ensures bytes { WriteAppends None None result piece.now }
-        ensures cause { HasCause 0 0 result }
+        ensures cause { HasCause None 0 0 result }
+        ensures reach { Reaches None None None piece.now }
     {
         self.used += keep(&mut self.room, self.used, piece);
         Ok(piece.len())

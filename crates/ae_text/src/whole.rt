@@ -1,7 +1,7 @@
 // A whole text, read to the source's end and written to the sink.
-ghost use Rattle.std.specs.Prelude.{◌≡◌, ◌≤◌, ◌<◌, ◌↔◌, List, ℕ, length, take, Ok, Err, MatchResult, OnOk, IfErr, IfOk, IsErrOf, IsOk, []};
-ghost use Rattle.std.specs.Io.KnownBytes.{Consumes, IsAtEnd, Appends};
-ghost use Rattle.ae_text.specs.Causes.{Rose};
+ghost use Rattle.std.specs.Prelude.{◌≡◌, ◌≤◌, OnOk, OnErr, IsOk, []};
+ghost use Rattle.ae_text.specs.Causes.{Rose, ReadCause};
+ghost use Rattle.ae_text.specs.Calls.{AsksAtMost, ReachesEnd};
 ghost use Rattle.ae_text.specs.Whole.{ReadsWhole, WritesWhole};
 
 use crate::outside::{Sink, Source};
@@ -35,7 +35,8 @@ pub struct WriteFault {
 pub fn read_all<S: Source>(alloc: Global, src: &mut S) -> Result<Items<u8>, ReadEnd>
     ensures bytes { ReadsWhole (S.left src.old) (S.left src.new) result }
     ensures later { S.faults src.old ≤ S.faults src.new }
-    ensures cause { IsErrOf result ReadEnd.ReadFault → Rose (S.faults src.old) (S.faults src.new) }
+    ensures cause { ReadCause S.last (S.faults src.old) (S.faults src.new) result }
+    ensures asked { AsksAtMost (S.asked src.old) (S.asked src.new) 4096 }
 {
     let mut bytes = Vec::new(alloc);
     let mut piece = [0; PIECE];
@@ -61,7 +62,9 @@ pub fn read_all<S: Source>(alloc: Global, src: &mut S) -> Result<Items<u8>, Read
 pub fn write_all<K: Sink>(sink: &mut K, text: &[u8]) -> Result<(), WriteFault>
     ensures bytes { WritesWhole (K.taken sink.old) (K.taken sink.new) text.now result }
     ensures later { K.faults sink.old ≤ K.faults sink.new }
-    ensures cause { IfErr result (λ _. Rose (K.faults sink.old) (K.faults sink.new)) }
+    ensures cause { OnErr result (Rose K.last (K.faults sink.old) (K.faults sink.new)) }
+    ensures kept { OnOk result (K.faults sink.new ≡ K.faults sink.old) }
+    ensures reach { ReachesEnd (K.reach sink.old) (K.reach sink.new) (K.taken sink.old) text.now }
     ensures nothing { text.now ≡ [] → OnOk result (sink.new ≡ sink.old) × IsOk result }
 {
     let mut done = 0;
