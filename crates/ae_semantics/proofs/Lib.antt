@@ -18,3 +18,9 @@ mod UnfoldingLoopExamples
 mod Watched
 mod Kept
 mod Fresh
+mod Related
+mod Alongside
+mod Alone
+mod Flowing
+mod Reading
+mod Walked
