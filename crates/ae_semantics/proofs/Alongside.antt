@@ -6,7 +6,7 @@ use Rattle.ae_code.specs.declared.tree.NameAt.{NameAt}
 use Rattle.ae_code.specs.declared.form.Form.{Form}
 use Rattle.ae_code.specs.Names.{io}
 use Rattle.ae_code.specs.Plain.{Action, Invocation, Lines, End, Next, Locks, Code}
-use Rattle.ae_rules.specs.Calls.{Callee, group_in, givens}
+use Rattle.ae_rules.specs.Calls.{Callee, givens}
 use Rattle.ae_rules.specs.Blocks.{Scene}
 use Rattle.ae_rules.specs.Instances.{Instance}
 use Rattle.ae_semantics.specs.Values.{Val}
@@ -15,7 +15,7 @@ use Rattle.ae_semantics.specs.Expressions.{value}
 use Rattle.ae_semantics.specs.Contexts.{after}
 use Rattle.ae_semantics.specs.Observations.{Piece, Image, OfStore, OfLog, Seen, Query, Ending, Trap, Mark, Ran, Notes, Observer}
 use Rattle.ae_semantics.specs.Runs.{Run, Went, Ends, Stops, Act, and_then, given, marked, logged, deeper, Where, whole, splitting, locking, Order}
-use Rattle.ae_semantics.specs.Calls.{Argument, Frame, frame, called, each_argument, enter, leave, moved}
+use Rattle.ae_semantics.specs.Calls.{Argument, Frame, frame, called, each_argument, group_given, enter, leave, moved}
 use Rattle.ae_semantics.specs.Blocks.{cell_of, image_of, cell_at, log_back, store_back, values_in, out_fits, with_out, with_values, pieces_in, else_uses, used}
 use Rattle.ae_semantics.specs.Meaning.{assigned, does, forgotten, made, right_moved, block, below}
 use Rattle.ae_semantics.specs.Means.{Start, start, no_notes, run}
@@ -45,8 +45,8 @@ frame_at p here s c groups (Traps code) f e = absurd (cc)
 frame_at p here s c groups Lacks f e = absurd (cc)
 
 entered_at : (p : Code) (here : Where) (s : State) (i : Invocation) (o : Outcome Callee) (f : Frame)
-    → (o >>= λ c. each_argument p s (givens i) >>= λ xs. Fine (frame p here s c (group_in c i.groups) xs)) ≡ Fine f → f.here.path ≡ here.path
-entered_at p here s i (Fine c) f e = frame_at p here s c (group_in c i.groups) (each_argument p s (givens i)) f e
+    → (o >>= λ c. each_argument p s (givens i) >>= λ xs. Fine (frame p here s c (group_given s c i) xs)) ≡ Fine f → f.here.path ≡ here.path
+entered_at p here s i (Fine c) f e = frame_at p here s c (group_given s c i) (each_argument p s (givens i)) f e
 entered_at p here s i (Traps code) f e = absurd (cc)
 entered_at p here s i Lacks f e = absurd (cc)
 

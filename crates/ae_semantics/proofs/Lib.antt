@@ -1,6 +1,7 @@
 mod Programs
 mod Examples
 mod GroupExamples
+mod AliasExamples
 mod Follow
 mod LawLemmas
 mod FlowExamples

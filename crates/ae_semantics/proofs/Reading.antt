@@ -16,7 +16,7 @@ use Rattle.ae_rules.specs.Expressions.{place, judge_value, is_value}
 use Rattle.ae_semantics.proofs.Walked.{SameOn, on_left, FitsShallow, value_same, judged_walked, bind_holds, formed}
 use Rattle.ae_rules.specs.Uses.{is_seen, whole, ◌∪◌, outside, value_uses, lines_use, statement_uses}
 use Rattle.ae_rules.specs.Judges.{Judges}
-use Rattle.ae_semantics.specs.Places.{State}
+use Rattle.ae_semantics.specs.Places.{State, name_of, group_of}
 use Rattle.ae_semantics.specs.Contexts.{after}
 use Rattle.ae_semantics.specs.Observations.{Seen, Notes, Observer}
 use Rattle.ae_semantics.specs.Runs.{Run, Went, Ends, Stops, Act, and_then, deeper, Where, knowing, stopping}
@@ -37,7 +37,8 @@ pub record SameNotes {W : Type 0} (logs : Bool) (n m : Notes W) : Type 0 where
 
 pub record Agree {W : Type 0} (fits : Context → State → Type 0) (logs : Bool) (k : Known) (x : Both W W) : Type 0 where
   pub locals : (y : ℕ) → k.agreed (resource.Local y) ≡ true → x.s.locals y ≡ x.t.locals y
-  pub groups : (g : ℕ) → k.agreed (resource.Group g) ≡ true → x.s.groups g ≡ x.t.groups g
+  pub names : (g : ℕ) → k.agreed (resource.Group g) ≡ true → name_of x.s g ≡ name_of x.t g
+  pub groups : (g : ℕ) → k.agreed (resource.Group g) ≡ true → group_of x.s g ≡ group_of x.t g
   pub result : x.s.result ≡ x.t.result
   pub notes : SameNotes logs x.n x.m
   pub first : fits k.context x.s
@@ -75,7 +76,7 @@ reading p fits logs = record {
 
 -- with other notes
 renoted : {W : Type 0} (fits : Context → State → Type 0) (logs : Bool) (k : Known) (x : Both W W) → Agree fits logs k x → (n m : Notes W) → SameNotes logs n m → Agree fits logs k (record x { n = n; m = m })
-renoted fits logs k x h n m e = record { locals = h.locals; groups = h.groups; result = h.result; notes = e; first = h.first; second = h.second }
+renoted fits logs k x h n m e = record { locals = h.locals; names = h.names; groups = h.groups; result = h.result; notes = e; first = h.first; second = h.second }
 
 reads_then : {W : Type 0} (fits : Context → State → Type 0) (logs : Bool) (l k : Known) (r q : Run W) → ReadsAlike fits logs l r q → (f g : Act W)
     → ((x : Both W W) → Agree fits logs l x → ReadsAlike fits logs k (f x.s x.n) (g x.t x.m)) → ReadsAlike fits logs k (and_then r f) (and_then q g)

@@ -28,12 +28,12 @@ use Rattle.ae_rules.specs.declared.held.Held.{Held}
 use Rattle.ae_rules.specs.Walks.{held_in_field}
 use Rattle.ae_rules.specs.Uses.{nothing, reads, whole, reach, stronger, ◌∪◌, of_judged, steps_use, walk_uses, path_uses, end_uses, value_uses}
 use Rattle.ae_semantics.specs.Values.{Val, OfInt, OfBool, Null, Owned, Member, Tree, Store, fits, is_of_kind}
-use Rattle.ae_semantics.specs.Places.{Outcome, Fine, Traps, Lacks, ◌>>=◌, there, reached, Bound, State, members, Address, InGroup, Place, Opened, opened_if, opened_member, open_form, open_place, Part, part_at, part_of, field_value, field_place, met, into_field, local_place, step, steps, walk}
+use Rattle.ae_semantics.specs.Places.{Outcome, Fine, Traps, Lacks, ◌>>=◌, there, reached, Bound, State, group_of, members, Address, InGroup, Place, Opened, opened_if, opened_member, open_form, open_place, Part, part_at, part_of, field_value, field_place, met, into_field, local_place, step, steps, walk}
 
 -- both states are the same where these uses are
 pub record SameOn (u : Uses) (s t : State) : Type 0 where
   pub locals : (y : ℕ) → is_some (u (resource.Local y)) ≡ true → s.locals y ≡ t.locals y
-  pub groups : (g : ℕ) → is_some (u (resource.Group g)) ≡ true → s.groups g ≡ t.groups g
+  pub groups : (g : ℕ) → is_some (u (resource.Group g)) ≡ true → group_of s g ≡ group_of t g
 
 some_left : (a b : Option Mode) → is_some a ≡ true → is_some (stronger a b) ≡ true
 some_left None b e = absurd (cc e)
@@ -61,13 +61,13 @@ some_if : (b : Bool) (m : Mode) → b ≡ true → is_some (if b then Some m els
 some_if true m e = refl
 some_if false m e = absurd (cc e)
 
-pub on_whole : (g : ℕ) (s t : State) → SameOn (whole g) s t → s.groups g ≡ t.groups g
+pub on_whole : (g : ℕ) (s t : State) → SameOn (whole g) s t → group_of s g ≡ group_of t g
 on_whole g s t h = h.groups g (some_if (nat_eq g g) _ (eq-eqb g g refl))
 
 -- ---- objects
 
 -- a group is looked up only where the form is shared in it
-open_same : (p : Code) (s t : State) (at : Address) (k : Form) (v : Val) → ((g : ℕ) (c : Kind) → k ≡ f.Object (perm.Shared g) c → s.groups g ≡ t.groups g) → open_form p s at k v ≡ open_form p t at k v
+open_same : (p : Code) (s t : State) (at : Address) (k : Form) (v : Val) → ((g : ℕ) (c : Kind) → k ≡ f.Object (perm.Shared g) c → group_of s g ≡ group_of t g) → open_form p s at k v ≡ open_form p t at k v
 open_same p s t at f.Int v h = refl
 open_same p s t at f.Bool v h = refl
 open_same p s t at (f.Object (perm.Shared g) k) (Member n) h = ap (λ y. there (members y) >>= opened_member p k g n) (h g k refl)
@@ -98,7 +98,7 @@ store_kind p k g n (Some st) o e = member_kind k (slice_get st n) o (is_of_kind 
 open_kind : (p : Code) (s : State) (at : Address) (k : Form) (v : Val) (o : Opened) → open_form p s at k v ≡ Fine o → (n : ℕ) → field_of p k n ≡ field_of_kind p o.kind n
 open_kind p s at f.Int v o e n = absurd (cc e)
 open_kind p s at f.Bool v o e n = absurd (cc e)
-open_kind p s at (f.Object (perm.Shared g) k) (Member i) o e n = ap (λ c. field_of_kind p c n) (store_kind p k g i (members (s.groups g)) o e)
+open_kind p s at (f.Object (perm.Shared g) k) (Member i) o e n = ap (λ c. field_of_kind p c n) (store_kind p k g i (members (group_of s g)) o e)
 open_kind p s at (f.Object perm.Unique k) (Owned t) o e n = ap (λ c. field_of_kind p c n) (opened_kind _ _ o e)
 open_kind p s at (f.Object perm.Immutable k) (Owned t) o e n = ap (λ c. field_of_kind p c n) (opened_kind _ _ o e)
 open_kind p s at (f.Object perm.Lent k) (Owned t) o e n = ap (λ c. field_of_kind p c n) (opened_kind _ _ o e)

@@ -18,7 +18,7 @@ use Rattle.ae_rules.specs.Context.{Local, Context, each_name}
 use Rattle.ae_rules.specs.Uses.{outside, all_but, lines_use}
 use Rattle.ae_rules.specs.Blocks.{Scene}
 use Rattle.ae_semantics.specs.Values.{fits}
-use Rattle.ae_semantics.specs.Places.{CellName, Group, Here, Away, Bound, State, with_group, members}
+use Rattle.ae_semantics.specs.Places.{CellName, Group, Here, Away, Bound, State, group_of, with_group, members}
 use Rattle.ae_semantics.specs.Contexts.{after, shuts_out}
 use Rattle.ae_semantics.specs.Observations.{Piece, Image, OfStore, OfLog, Carried, Ask, Answer, Gave, Trapped, Spent, Seen, OfBlock, OfCell, AtBlock, AtEnd, Trap, Fuel, Entered, Asked, Used, Notes}
 use Rattle.ae_semantics.specs.Runs.{Run, Went, Ends, Stops, Act, and_then, marked, Where, locking, whole, Machine}
@@ -31,7 +31,7 @@ cell_of here g = record { path = here.path; group = g }
 
 -- what there is of a group: its members, or the log where it is `io`
 abbrev pub image_of : {W : Type 0} → ℕ → State → Notes W → Option Image
-image_of g s n = if nat_eq io g then Some (OfLog n.log) else option_map OfStore (members (s.groups g))
+image_of g s n = if nat_eq io g then Some (OfLog n.log) else option_map OfStore (members (group_of s g))
 
 abbrev pub to_cell : {W : Type 0} → Where → ℕ → Image → Act W
 to_cell here g image s n =
@@ -85,12 +85,11 @@ all_come_back m here (g ∷ gs) before log s n = and_then
 
 -- the cell of a group that is away
 abbrev pub cell_in : Option Group → Option CellName
-cell_in None = None
-cell_in (Some (Here st)) = None
 cell_in (Some (Away c)) = Some c
+cell_in _ = None
 
 abbrev pub cell_at : {W : Type 0} → ℕ → State → Notes W → Option CellName
-cell_at g s n = if nat_eq io g then n.cell else cell_in (s.groups g)
+cell_at g s n = if nat_eq io g then n.cell else cell_in (group_of s g)
 
 -- what an atomic block of a group uses of all else
 abbrev pub else_uses : Code → ℕ → Scene → Uses
@@ -100,20 +99,20 @@ else_uses p g b = all_but (resource.Group g) (outside b.start (lines_use p b.met
 abbrev pub values_in : Uses → State → Carried
 values_in u s = record {
   locals = λ x. if is_some (u (resource.Local x)) then s.locals x else None;
-  stores = λ g. if is_some (u (resource.Group g)) then members (s.groups g) else None;
+  stores = λ g. if is_some (u (resource.Group g)) then members (group_of s g) else None;
   pieces = None;
 }
 
 -- a group's members come out where the block uses all of it, or uses it and they went in
 abbrev pub store_out : Uses → State → ℕ → Bool
 store_out u before g = not (nat_eq io g) &&
-    (shuts_out (u (resource.Group g)) || (is_some (u (resource.Group g)) && is_some (members (before.groups g))))
+    (shuts_out (u (resource.Group g)) || (is_some (u (resource.Group g)) && is_some (members (group_of before g))))
 
 -- the values of what a block changes, and the pieces that it appended where it uses `io` beside its own group
 abbrev pub values_out : Uses → State → State → List Piece → Carried
 values_out u before s pieces = record {
   locals = λ x. if shuts_out (u (resource.Local x)) then s.locals x else None;
-  stores = λ g. if store_out u before g then members (s.groups g) else None;
+  stores = λ g. if store_out u before g then members (group_of s g) else None;
   pieces = if shuts_out (u (resource.Group io)) then Some pieces else None;
 }
 
