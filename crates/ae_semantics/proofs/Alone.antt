@@ -7,7 +7,7 @@ use Rattle.ae_rules.specs.Blocks.{Scene}
 use Rattle.ae_rules.specs.Instances.{Instance}
 use Rattle.ae_rules.specs.Verdict as rules
 use Rattle.ae_semantics.specs.Places.{CellName, State}
-use Rattle.ae_semantics.specs.Observations.{Piece, Seen, Query, Ending, Mark, Ran, Notes, Observer}
+use Rattle.ae_semantics.specs.Observations.{Origin, Piece, Seen, Query, Ending, Mark, Ran, Notes, Observer}
 use Rattle.ae_semantics.specs.Runs.{Run, Went, Ends, Stops, Act, and_then, marked, Where, Order}
 use Rattle.ae_semantics.specs.Blocks.{used}
 use Rattle.ae_semantics.specs.Meaning.{one, many, block, below}
@@ -36,8 +36,8 @@ pub record Stays {V : Type 0} (S : Alone V) (o : Observer V) (c : Order V) : Typ
   pub runs : (q : Instance) (at : Spot) → S.Ok q → (n : Notes V) → S.Holds n → S.Holds (marked (Ran q at) n)
   pub tells : (k : Mark) → IsFree k → (a b : Stretch) → Tells k a b → (n : Notes V) (r : Run V) → S.After a (marked k n) r → S.After b n r
   pub ran : (q : Instance) (at : Spot) → S.Ok q → (n : Notes V) (r : Run V) → S.After (From q 0) (marked (Ran q at) n) r → S.After (Of q) n r
-  pub observes : (a : Stretch) (query : Query) (path : List ℕ) (n : Notes V) → S.Holds n → (f : Seen × V → Run V)
-      → ((seen : Seen) (v : V) → (f (seen, v) ≡ Stops n) ⊎ (S.Holds (used path v n) → S.After a (used path v n) (f (seen, v))))
+  pub observes : (a : Stretch) (query : Query) (from : Origin) (n : Notes V) → S.Holds n → (f : Seen × V → Run V)
+      → ((seen : Seen) (v : V) → (f (seen, v) ≡ Stops n) ⊎ (S.Holds (used from v n) → S.After a (used from v n) (f (seen, v))))
       → S.After a n (rules.given (o n.watch query) (Stops n) f)
   pub relogs : (y : List Piece) (z : Option CellName) → Leads S Quiet (λ s n. Went s (record n { log = y; cell = z }))
   pub step : (here : Where) (all : Scene) (j : ℕ) (bars : List ℕ) (f : Act V) → Leads S (Of (here.path ++ (j ∷ []))) f
@@ -66,13 +66,13 @@ module _ {V : Type 0} (S : Alone V) (o : Observer V) (c : Order V) (K : Stays S 
   led : (a : Stretch) (f : Act V) → Leads S a f → Goes (beside S) a f f
   led a f h s n m e = (one_act f n m e s, λ i. h s n i)
 
-  same_answer : (a : Stretch) (path : List ℕ) (v : V) (n m : Notes V) → n ≡ m → (r q : Run V) → IsNoted (beside S) a path v v n m r q → r ≡ q
-  same_answer a path v n m e r q (inl d) = d.0 ∙ ap (λ (k : Notes V). Stops k) e ∙ sym d.1
-  same_answer a path v n m e r q (inr d) = d.0
+  same_answer : (a : Stretch) (from : Origin) (v : V) (n m : Notes V) → n ≡ m → (r q : Run V) → IsNoted (beside S) a from v v n m r q → r ≡ q
+  same_answer a from v n m e r q (inl d) = d.0 ∙ ap (λ (k : Notes V). Stops k) e ∙ sym d.1
+  same_answer a from v n m e r q (inr d) = d.0
 
-  one_answer : (a : Stretch) (path : List ℕ) (v : V) (n m : Notes V) (r q : Run V) → IsNoted (beside S) a path v v n m r q → (r ≡ Stops n) ⊎ (S.Holds (used path v n) → S.After a (used path v n) r)
-  one_answer a path v n m r q (inl d) = inl d.0
-  one_answer a path v n m r q (inr d) = inr d.1
+  one_answer : (a : Stretch) (from : Origin) (v : V) (n m : Notes V) (r q : Run V) → IsNoted (beside S) a from v v n m r q → (r ≡ Stops n) ⊎ (S.Holds (used from v n) → S.After a (used from v n) r)
+  one_answer a from v n m r q (inl d) = inl d.0
+  one_answer a from v n m r q (inr d) = inr d.1
 
   pub kept : Keeps (beside S) o o c c
   kept = record {
@@ -89,10 +89,10 @@ module _ {V : Type 0} (S : Alone V) (o : Observer V) (c : Order V) (K : Stays S 
     runs = λ q at h n m e. ap (marked (Ran q at)) e;
     tells = λ k f a b t n m r q h. (h.0, λ i. K.tells k f a b t n r (h.1 (K.marks k f n i)));
     ran = λ q at h n m r z d. (d.0, λ i. K.ran q at h n r (d.1 (K.runs q at h n i)));
-    observes = λ a query path n m e f g h. (
+    observes = λ a query from n m e f g h. (
       ap (λ (k : Notes V). rules.given (o k.watch query) (Stops k) f) e ∙ ap (λ (k : Seen × V → Run V). rules.given (o m.watch query) (Stops m) k)
-          (fun_ext (λ (z : Seen × V). same_answer a path z.1 n m e (f z) (g z) (h z.0 z.1 z.1 (ap (used path z.1) e)))),
-      λ i. K.observes a query path n i f (λ seen v. one_answer a path v n m (f (seen, v)) (g (seen, v)) (h seen v v (ap (used path v) e))),
+          (fun_ext (λ (z : Seen × V). same_answer a from z.1 n m e (f z) (g z) (h z.0 z.1 z.1 (ap (used from z.1) e)))),
+      λ i. K.observes a query from n i f (λ seen v. one_answer a from v n m (f (seen, v)) (g (seen, v)) (h seen v v (ap (used from v) e))),
     );
     logs = λ n m e. ap (λ (k : Notes V). k.log) e;
     cells = λ n m e. ap (λ (k : Notes V). k.cell) e;

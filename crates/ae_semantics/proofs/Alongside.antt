@@ -13,7 +13,7 @@ use Rattle.ae_semantics.specs.Values.{Val}
 use Rattle.ae_semantics.specs.Places.{Outcome, Fine, Traps, Lacks, ◌>>=◌, CellName, Here, Away, State, bind, with_group}
 use Rattle.ae_semantics.specs.Expressions.{value}
 use Rattle.ae_semantics.specs.Contexts.{after}
-use Rattle.ae_semantics.specs.Observations.{Piece, Image, OfStore, OfLog, Seen, Query, Ending, Trap, Mark, Ran, Notes, Observer}
+use Rattle.ae_semantics.specs.Observations.{Origin, Piece, Image, OfStore, OfLog, Seen, Query, Ending, Trap, Mark, Ran, Notes, Observer}
 use Rattle.ae_semantics.specs.Runs.{Run, Went, Ends, Stops, Act, and_then, given, marked, logged, deeper, Where, whole, splitting, locking, Order}
 use Rattle.ae_semantics.specs.Calls.{Argument, Frame, frame, called, each_argument, group_given, enter, leave, moved}
 use Rattle.ae_semantics.specs.Blocks.{cell_of, image_of, cell_at, log_back, store_back, values_in, out_fits, with_out, with_values, pieces_in, else_uses, used}
@@ -73,8 +73,8 @@ pub record Going {W : Type 0} (u : Observer W) (d : Order W) (here : Where) (all
 abbrev pub Goes : {V W : Type 0} (S : Noted V W) → Stretch → Act V → Act W → Type 0
 Goes S c a b = (s : State) (n : Notes _) (m : Notes _) → S.Start n m → S.Rel c n m (a s n) (b s m)
 
-abbrev pub IsNoted : {V W : Type 0} (S : Noted V W) → Stretch → List ℕ → V → W → Notes V → Notes W → Run V → Run W → Type 0
-IsNoted S c path v w n m r q = ((r ≡ Stops n) × (q ≡ Stops m)) ⊎ S.Rel c (used path v n) (used path w m) r q
+abbrev pub IsNoted : {V W : Type 0} (S : Noted V W) → Stretch → Origin → V → W → Notes V → Notes W → Run V → Run W → Type 0
+IsNoted S c from v w n m r q = ((r ≡ Stops n) × (q ≡ Stops m)) ⊎ S.Rel c (used from v n) (used from w m) r q
 
 pub record Keeps {V W : Type 0} (S : Noted V W) (o : Observer V) (u : Observer W) (c : Order V) (d : Order W) : Type 0 where
   pub inner : (q : Instance) (i : ℕ) → S.Ok q → S.Ok (q ++ (i ∷ []))
@@ -88,8 +88,8 @@ pub record Keeps {V W : Type 0} (S : Noted V W) (o : Observer V) (u : Observer W
   pub runs : (q : Instance) (at : Spot) → S.Ok q → (n : Notes V) (m : Notes W) → S.Start n m → S.Start (marked (Ran q at) n) (marked (Ran q at) m)
   pub tells : (k : Mark) → IsFree k → (a b : Stretch) → Tells k a b → (n : Notes V) (m : Notes W) (r : Run V) (q : Run W) → S.Rel a (marked k n) (marked k m) r q → S.Rel b n m r q
   pub ran : (q : Instance) (at : Spot) → S.Ok q → (n : Notes V) (m : Notes W) (r : Run V) (z : Run W) → S.Rel (From q 0) (marked (Ran q at) n) (marked (Ran q at) m) r z → S.Rel (Of q) n m r z
-  pub observes : (a : Stretch) (query : Query) (path : List ℕ) (n : Notes V) (m : Notes W) → S.Start n m → (f : Seen × V → Run V) (g : Seen × W → Run W)
-      → ((seen : Seen) (v : V) (w : W) → S.Start (used path v n) (used path w m) → IsNoted S a path v w n m (f (seen, v)) (g (seen, w)))
+  pub observes : (a : Stretch) (query : Query) (from : Origin) (n : Notes V) (m : Notes W) → S.Start n m → (f : Seen × V → Run V) (g : Seen × W → Run W)
+      → ((seen : Seen) (v : V) (w : W) → S.Start (used from v n) (used from w m) → IsNoted S a from v w n m (f (seen, v)) (g (seen, w)))
       → S.Rel a n m (rules.given (o n.watch query) (Stops n) f) (rules.given (u m.watch query) (Stops m) g)
   -- the log and the cell of `io` are the same, and change alike
   pub logs : (n : Notes V) (m : Notes W) → S.Start n m → n.log ≡ m.log
@@ -233,7 +233,7 @@ module _ {V W : Type 0} (S : Noted V W) (p : Code) (o : Observer V) (u : Observe
     runs = λ k l here at a h x i. (i.0, K.runs here.path at h x.n x.m i.1);
     tells = λ k l m f a b t x r q h. K.tells m f a b t x.n x.m r q h;
     ran = λ k l here at a h x r q i. K.ran here.path at h x.n x.m r q i;
-    observes = λ k l a query path x h f g i. K.observes a query path x.n x.m h.1 f g (λ seen v w j. i seen v w (h.0, j));
+    observes = λ k l a query from x h f g i. K.observes a query from x.n x.m h.1 f g (λ seen v w j. i seen v w (h.0, j));
     no_bars = λ k. (refl, K.no_bars);
     step = λ k l here all j at a rest s bars cars e fuel h i x y.
         let f : Act V = begins (machine p o c) fuel (deeper j here) at a in

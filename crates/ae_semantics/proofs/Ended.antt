@@ -2,7 +2,7 @@
 use Rattle.std.proofs.Common.{◌≡◌, ◌⊎◌, inl, inr, refl, sym, subst, ℕ, List, [], ◌∷◌, ◌++◌, Option, None, Some}
 use Rattle.ae_rules.specs.Instances.{Instance}
 use Rattle.ae_rules.specs.Verdict as rules
-use Rattle.ae_semantics.specs.Observations.{Mark, Ran, Turned, Entered, Asked, Used, Stopped, Seen, Notes, Observer}
+use Rattle.ae_semantics.specs.Observations.{Origin, Mark, Ran, Turned, Entered, Asked, Used, Stopped, Seen, Notes, Observer}
 use Rattle.ae_semantics.specs.Runs.{Run, Stops, stopping}
 use Rattle.ae_semantics.specs.Blocks.{used}
 use Rattle.ae_semantics.specs.Means.{run, notes_of, in_order, source_machine, mean}
@@ -23,14 +23,14 @@ adds_told (Asked cell ask) a c t n r h = adds_as (Within a) (Within c) n.marks r
 adds_told (Used q) a c t n r h = adds_as (Within a) (Within c) n.marks r t.inner (adds_silent (Within a) n.marks (Used q) r (λ ms. refl) h)
 adds_told (Stopped q e) a c t n r h = adds_as (Within a) (Within c) n.marks r t.inner (adds_silent (Within a) n.marks (Stopped q e) r (λ ms. refl) h)
 
-adds_answer : {W : Type 0} (a : Stretch) (path : List ℕ) (n : Notes W) (w : W) (r : Run W) → (r ≡ Stops n) ⊎ (Unit {0} → Adds (Within a) (used path w n).marks r) → Adds (Within a) n.marks r
-adds_answer a path n w r (inl e) = subst (Adds (Within a) n.marks) (sym e) (adds_none (Within a) n.marks (Stops n) refl)
-adds_answer a path n w r (inr h) = adds_silent (Within a) n.marks (Used path) r (λ ms. refl) (h tt)
+adds_answer : {W : Type 0} (a : Stretch) (from : Origin) (n : Notes W) (w : W) (r : Run W) → (r ≡ Stops n) ⊎ (Unit {0} → Adds (Within a) (used from w n).marks r) → Adds (Within a) n.marks r
+adds_answer a from n w r (inl e) = subst (Adds (Within a) n.marks) (sym e) (adds_none (Within a) n.marks (Stops n) refl)
+adds_answer a from n w r (inr h) = adds_silent (Within a) n.marks (Used from) r (λ ms. refl) (h tt)
 
-adds_observed : {W : Type 0} (a : Stretch) (path : List ℕ) (o : Option (Seen × W)) (n : Notes W) (f : Seen × W → Run W)
-    → ((seen : Seen) (w : W) → (f (seen, w) ≡ Stops n) ⊎ (Unit {0} → Adds (Within a) (used path w n).marks (f (seen, w)))) → Adds (Within a) n.marks (rules.given o (Stops n) f)
-adds_observed a path None n f h = adds_none (Within a) n.marks (Stops n) refl
-adds_observed a path (Some x) n f h = adds_answer a path n x.1 (f x) (h x.0 x.1)
+adds_observed : {W : Type 0} (a : Stretch) (from : Origin) (o : Option (Seen × W)) (n : Notes W) (f : Seen × W → Run W)
+    → ((seen : Seen) (w : W) → (f (seen, w) ≡ Stops n) ⊎ (Unit {0} → Adds (Within a) (used from w n).marks (f (seen, w)))) → Adds (Within a) n.marks (rules.given o (Stops n) f)
+adds_observed a from None n f h = adds_none (Within a) n.marks (Stops n) refl
+adds_observed a from (Some x) n f h = adds_answer a from n x.1 (f x) (h x.0 x.1)
 
 stays : {W : Type 0} (o : Observer W) → Stays adding o stopping
 stays o = record {
@@ -44,7 +44,7 @@ stays o = record {
   runs = λ q at h n i. tt;
   tells = λ k f a b t n r h. adds_told k a b t n r h;
   ran = λ q at h n r i. adds_told (Ran q at) (From q 0) (Of q) (ran_tells q at) n r i;
-  observes = λ a query path n i f g. adds_observed a path (o n.watch query) n f g;
+  observes = λ a query from n i f g. adds_observed a from (o n.watch query) n f g;
   relogs = λ y z s n h. adds_none _ n.marks _ refl;
   step = λ here all j bars f h go i s n k.
       let t : Joins (Of (here.path ++ (j ∷ []))) (From here.path _) (From here.path j) = then_next here.path j in

@@ -9,7 +9,7 @@ use Rattle.ae_rules.specs.Instances.{Instance}
 use Rattle.ae_rules.specs.Verdict as rules
 use Rattle.ae_semantics.specs.Places.{State}
 use Rattle.ae_semantics.specs.Contexts.{after}
-use Rattle.ae_semantics.specs.Observations.{Mark, Ran, Turned, Entered, Asked, Used, Stopped, Ending, Seen, Notes, Observer}
+use Rattle.ae_semantics.specs.Observations.{Origin, Mark, Ran, Turned, Entered, Asked, Used, Stopped, Ending, Seen, Notes, Observer}
 use Rattle.ae_semantics.specs.Runs.{Run, Went, Ends, Stops, Act, and_then, chosen, marked, deeper, Where, knowing, Below, stopping, flowing, flow_step, flow_close, is_left_out, absent, gone_on}
 use Rattle.ae_semantics.specs.Blocks.{used}
 use Rattle.ae_semantics.specs.Meaning.{begun, one, many, below}
@@ -52,14 +52,14 @@ grows_chosen before false f g h i = i
 abbrev growing : {W : Type 0} → Alone W
 growing = record { Holds = λ n. Unit {0}; After = λ a n r. Grows n.marks r; Ok = λ q. Unit {0} }
 
-grows_observed : {W : Type 0} (path : List ℕ) (o : Option (Seen × W)) (n : Notes W) (f : Seen × W → Run W)
-    → ((seen : Seen) (w : W) → (f (seen, w) ≡ Stops n) ⊎ (Unit {0} → Grows (used path w n).marks (f (seen, w)))) → Grows n.marks (rules.given o (Stops n) f)
-grows_observed path None n f h = grows_none n.marks (Stops n) refl
-grows_observed path (Some x) n f h = answer (f x) (h x.0 x.1)
+grows_observed : {W : Type 0} (from : Origin) (o : Option (Seen × W)) (n : Notes W) (f : Seen × W → Run W)
+    → ((seen : Seen) (w : W) → (f (seen, w) ≡ Stops n) ⊎ (Unit {0} → Grows (used from w n).marks (f (seen, w)))) → Grows n.marks (rules.given o (Stops n) f)
+grows_observed from None n f h = grows_none n.marks (Stops n) refl
+grows_observed from (Some x) n f h = answer (f x) (h x.0 x.1)
   where
-    answer : (r : Run _) → (r ≡ Stops n) ⊎ (Unit {0} → Grows (used path x.1 n).marks r) → Grows n.marks r
+    answer : (r : Run _) → (r ≡ Stops n) ⊎ (Unit {0} → Grows (used from x.1 n).marks r) → Grows n.marks r
     answer r (inl e) = subst (Grows n.marks) (sym e) (grows_none n.marks (Stops n) refl)
-    answer r (inr g) = grows_after n.marks (used path x.1 n).marks _ refl r (g tt)
+    answer r (inr g) = grows_after n.marks (used from x.1 n).marks _ refl r (g tt)
 
 closes : {W : Type 0} (bars : List ℕ) (s : State) (n : Notes W) → Grows n.marks (flow_close bars s n)
 closes [] s n = grows_none n.marks (Went s n) refl
@@ -77,7 +77,7 @@ grows p o = record {
   runs = λ q at h n i. tt;
   tells = λ k f a b t n r h. grows_after n.marks (n.marks ++ (k ∷ [])) (k ∷ []) refl r h;
   ran = λ q at h n r i. grows_after n.marks (n.marks ++ (Ran q at ∷ [])) (Ran q at ∷ []) refl r i;
-  observes = λ a query path n i f g. grows_observed path (o n.watch query) n f g;
+  observes = λ a query from n i f g. grows_observed from (o n.watch query) n f g;
   relogs = λ y z s n h. grows_none n.marks (Went s (record n { log = y; cell = z })) refl;
   step = λ here all j bars f h go i s n k. grows_chosen n.marks (is_left_out p all j bars) _ _ (i (j ∷ bars) (absent p all j s) n tt)
       (grows_gone n.marks (f s n) (h s n tt) (here.path ++ (j ∷ [])) j bars (absent p all j s) go (λ xs t m. i xs t m tt));
@@ -138,9 +138,9 @@ like_then (Ends x n) q (inr h) f g k = inr (still_first n.marks (Some x) q g h)
 like_then (Stops n) q (inl e) f g k = inl (ap (λ (y : Run _). and_then y g) e)
 like_then (Stops n) q (inr h) f g k = inr (still_first n.marks None q g h)
 
-like_answer : {W : Type 0} (path : List ℕ) (v w : W) (n m : Notes W) → n ≡ m → (r q : Run W) → IsNoted like Quiet path v w n m r q → Like r q
-like_answer path v w n m d r q (inl e) = subst (λ (x : Run _). Like x q) (sym e.0) (inl (e.1 ∙ ap (λ (k : Notes _). Stops k) (sym d)))
-like_answer path v w n m d r q (inr e) = e
+like_answer : {W : Type 0} (from : Origin) (v w : W) (n m : Notes W) → n ≡ m → (r q : Run W) → IsNoted like Quiet from v w n m r q → Like r q
+like_answer from v w n m d r q (inl e) = subst (λ (x : Run _). Like x q) (sym e.0) (inl (e.1 ∙ ap (λ (k : Notes _). Stops k) (sym d)))
+like_answer from v w n m d r q (inr e) = e
 
 like_observed : {W : Type 0} (o : Option (Seen × W)) (n m : Notes W) → n ≡ m → (f g : Seen × W → Run W) → ((x : Seen × W) → Like (f x) (g x)) → Like (rules.given o (Stops n) f) (rules.given o (Stops m) g)
 like_observed None n m e f g k = inl (ap (λ (x : Notes _). Stops x) (sym e))
@@ -211,8 +211,8 @@ like_kept p o = record {
   runs = λ q at k n m e. ap (marked _) e;
   tells = λ k f b c t n m r q e. e;
   ran = λ q at k n m r z e. e;
-  observes = λ b query path n m e f g k. subst (λ (y : Notes _). Like (rules.given (o n.watch query) (Stops n) f) (rules.given (o y.watch query) (Stops m) g)) e
-      (like_observed (o n.watch query) n m e f g (λ x. like_answer path x.1 x.1 n m e (f x) (g x) (k x.0 x.1 x.1 (ap (used path x.1) e))));
+  observes = λ b query from n m e f g k. subst (λ (y : Notes _). Like (rules.given (o n.watch query) (Stops n) f) (rules.given (o y.watch query) (Stops m) g)) e
+      (like_observed (o n.watch query) n m e f g (λ x. like_answer from x.1 x.1 n m e (f x) (g x) (k x.0 x.1 x.1 (ap (used from x.1) e))));
   logs = λ n m e. ap (λ (k : Notes _). k.log) e;
   cells = λ n m e. ap (λ (k : Notes _). k.cell) e;
   relogs = λ y z s n m e. ap (λ (k : Notes _). Went s (record k { log = y; cell = z })) (sym e);
@@ -264,14 +264,14 @@ unstopped_then (Went s n) h f k = k s n h
 unstopped_then (Ends e n) h f k = h
 unstopped_then (Stops n) h f k = h
 
-unstopped_observed : {W : Type 0} (path : List ℕ) (o : Option (Seen × W)) (n : Notes W) → NoStop n.marks → (f : Seen × W → Run W)
-    → ((seen : Seen) (w : W) → (f (seen, w) ≡ Stops n) ⊎ (NoStop (used path w n).marks → NoStop (notes_of (f (seen, w))).marks)) → NoStop (notes_of (rules.given o (Stops n) f)).marks
-unstopped_observed path None n h f k = h
-unstopped_observed path (Some x) n h f k = answer (f x) (k x.0 x.1)
+unstopped_observed : {W : Type 0} (from : Origin) (o : Option (Seen × W)) (n : Notes W) → NoStop n.marks → (f : Seen × W → Run W)
+    → ((seen : Seen) (w : W) → (f (seen, w) ≡ Stops n) ⊎ (NoStop (used from w n).marks → NoStop (notes_of (f (seen, w))).marks)) → NoStop (notes_of (rules.given o (Stops n) f)).marks
+unstopped_observed from None n h f k = h
+unstopped_observed from (Some x) n h f k = answer (f x) (k x.0 x.1)
   where
-    answer : (r : Run _) → (r ≡ Stops n) ⊎ (NoStop (used path x.1 n).marks → NoStop (notes_of r).marks) → NoStop (notes_of r).marks
+    answer : (r : Run _) → (r ≡ Stops n) ⊎ (NoStop (used from x.1 n).marks → NoStop (notes_of r).marks) → NoStop (notes_of r).marks
     answer r (inl e) = subst (λ (y : Run _). NoStop (notes_of y).marks) (sym e) h
-    answer r (inr g) = g (no_stop_push n.marks (Used path) tt h)
+    answer r (inr g) = g (no_stop_push n.marks (Used from) tt h)
 
 stays_unstopped : {W : Type 0} (o : Observer W) → Stays unstopped o stopping
 stays_unstopped o = record {
@@ -285,7 +285,7 @@ stays_unstopped o = record {
   runs = λ q at h n i. no_stop_push n.marks (Ran q at) tt i;
   tells = λ k f a b t n r h. h;
   ran = λ q at h n r i. i;
-  observes = λ a query path n i f g. unstopped_observed path (o n.watch query) n i f g;
+  observes = λ a query from n i f g. unstopped_observed from (o n.watch query) n i f g;
   relogs = λ y z s n h. h;
   step = λ here all j bars f h go i s n k. unstopped_then (f s n) (h s n k) (go bars) (i bars);
   close = λ bars s n h. h;

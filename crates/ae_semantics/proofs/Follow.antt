@@ -3,7 +3,7 @@ use Rattle.std.proofs.Common.{◌≡◌, inl, inr, ℕ, ℤ, List, Option, None,
 use Rattle.ae_code.specs.Plain.{Code}
 use Rattle.ae_rules.specs.Verdict as rules
 use Rattle.ae_semantics.specs.Places.{State}
-use Rattle.ae_semantics.specs.Observations.{Seen, Query, Notes, Observer}
+use Rattle.ae_semantics.specs.Observations.{Origin, Seen, Query, Notes, Observer}
 use Rattle.ae_semantics.specs.Runs.{Run, Went, Ends, Stops, Act, and_then, marked, stopping}
 use Rattle.ae_semantics.specs.Blocks.{used}
 use Rattle.ae_semantics.specs.Means.{run}
@@ -34,9 +34,9 @@ same_then h (Went s n) q e a b k = subst (λ (x : Run _). Same h (a s n) (and_th
 same_then h (Ends ending n) q e a b k = ap (λ (x : Run _). and_then x b) e
 same_then h (Stops n) q e a b k = tt
 
-same_answer : {V W : Type 0} (h : V → W) (path : List ℕ) (v : V) (w : W) (n : Notes V) (m : Notes W) (r : Run V) (q : Run W) → IsNoted (same h) Quiet path v w n m r q → Same h r q
-same_answer h path v w n m r q (inl e) = subst (λ (x : Run _). Same h x q) (sym e.0) tt
-same_answer h path v w n m r q (inr e) = e
+same_answer : {V W : Type 0} (h : V → W) (from : Origin) (v : V) (w : W) (n : Notes V) (m : Notes W) (r : Run V) (q : Run W) → IsNoted (same h) Quiet from v w n m r q → Same h r q
+same_answer h from v w n m r q (inl e) = subst (λ (x : Run _). Same h x q) (sym e.0) tt
+same_answer h from v w n m r q (inr e) = e
 
 same_observed : {V W : Type 0} (h : V → W) (o : Option (Seen × V)) (u : Option (Seen × W)) (n : Notes V) (m : Notes W) (f : Seen × V → Run V) (g : Seen × W → Run W)
     → ((x : Seen) (v : V) → o ≡ Some (x, v) → u ≡ Some (x, h v)) → ((x : Seen) (v : V) → Same h (f (x, v)) (g (x, h v)))
@@ -56,9 +56,9 @@ same_kept h o u a = record {
   runs = λ q at k n m e. ap (marked _) e;
   tells = λ k f b c t n m r q e. e;
   ran = λ q at k n m r z e. e;
-  observes = λ b query path n m e f g k. same_observed h (o n.watch query) (u m.watch query) n m f g
+  observes = λ b query from n m e f g k. same_observed h (o n.watch query) (u m.watch query) n m f g
       (λ x v d. ap (λ (k : Notes _). u k.watch query) e ∙ a n.watch query x v d)
-      (λ x v. same_answer h path v (h v) n m (f (x, v)) (g (x, h v)) (k x v (h v) (ap (used path (h v)) e)));
+      (λ x v. same_answer h from v (h v) n m (f (x, v)) (g (x, h v)) (k x v (h v) (ap (used from (h v)) e)));
   logs = λ n m e. sym (ap (λ (k : Notes _). k.log) e);
   cells = λ n m e. sym (ap (λ (k : Notes _). k.cell) e);
   relogs = λ y z s n m e. ap (λ (k : Notes _). Went s (record k { log = y; cell = z })) e;

@@ -5,7 +5,7 @@ use Rattle.std.proofs.lemmas.List.{append_assoc, append-nil}
 use Rattle.ae_code.specs.Plain.{Code}
 use Rattle.ae_rules.specs.Verdict as rules
 use Rattle.ae_semantics.specs.Places.{State}
-use Rattle.ae_semantics.specs.Observations.{Seen, Query, Notes, Observer}
+use Rattle.ae_semantics.specs.Observations.{Origin, Seen, Query, Notes, Observer}
 use Rattle.ae_semantics.specs.Runs.{Run, Went, Ends, Stops, Act, and_then, marked, stopping}
 use Rattle.ae_semantics.specs.Blocks.{used}
 use Rattle.ae_semantics.specs.Means.{run, in_order, source_machine}
@@ -67,25 +67,25 @@ sim_then (Ends e n) w list q d a b k = (d.0, d.1, λ rest i. ap (λ (x : Run _).
 sim_then (Stops n) w list q d a b k = tt
 
 -- an answer is the next of the list
-sim_answer : {V : Type 0} (path : List ℕ) (x : Seen) (v : V × List Seen) (w : List Seen) (n : Notes (V × List Seen)) (m : Notes (List Seen)) (r : Run (V × List Seen)) (q h : Run (List Seen)) (list : List Seen)
-    → v.1 ≡ n.watch.1 ++ (x ∷ []) → IsNoted sim Quiet path v w n m r h → ((rest : List Seen) → list ≡ x ∷ rest → (w ≡ rest) × (q ≡ h)) → Sim r n.watch.1 list q
-sim_answer path x v w n m r q h list d (inl e) k = subst (λ (z : Run _). Sim z n.watch.1 list q) (sym e.0) tt
-sim_answer path x v w n m r q h list d (inr e) k = sim_go r n.watch.1 (x ∷ []) v.1 d list w q h e k
+sim_answer : {V : Type 0} (from : Origin) (x : Seen) (v : V × List Seen) (w : List Seen) (n : Notes (V × List Seen)) (m : Notes (List Seen)) (r : Run (V × List Seen)) (q h : Run (List Seen)) (list : List Seen)
+    → v.1 ≡ n.watch.1 ++ (x ∷ []) → IsNoted sim Quiet from v w n m r h → ((rest : List Seen) → list ≡ x ∷ rest → (w ≡ rest) × (q ≡ h)) → Sim r n.watch.1 list q
+sim_answer from x v w n m r q h list d (inl e) k = subst (λ (z : Run _). Sim z n.watch.1 list q) (sym e.0) tt
+sim_answer from x v w n m r q h list d (inr e) k = sim_go r n.watch.1 (x ∷ []) v.1 d list w q h e k
 
 next_is : (x y : Seen) (ys rest : List Seen) (g : Seen × List Seen → Run (List Seen)) → y ∷ ys ≡ x ∷ rest → (ys ≡ rest) × (g (y, ys) ≡ g (x, ys))
 next_is x y ys rest g e = (cc (e), ap (λ (z : Seen). g (z, ys)) (cc (e)))
 
-sim_observed : {V : Type 0} (o : Option (Seen × V)) (query : Query) (path : List ℕ) (list : List Seen) (n : Notes (V × List Seen)) (m : Notes (List Seen))
+sim_observed : {V : Type 0} (o : Option (Seen × V)) (query : Query) (from : Origin) (list : List Seen) (n : Notes (V × List Seen)) (m : Notes (List Seen))
     (f : Seen × (V × List Seen) → Run (V × List Seen)) (g : Seen × List Seen → Run (List Seen))
-    → ((x : Seen) (v : V × List Seen) (w : List Seen) → IsNoted sim Quiet path v w n m (f (x, v)) (g (x, w)))
+    → ((x : Seen) (v : V × List Seen) (w : List Seen) → IsNoted sim Quiet from v w n m (f (x, v)) (g (x, w)))
     → Sim (rules.given (option_map (λ (z : Seen × V). (z.0, (z.1, n.watch.1 ++ (z.0 ∷ [])))) o) (Stops n) f) n.watch.1 list (rules.given (in_order list query) (Stops m) g)
-sim_observed None query path list n m f g k = tt
-sim_observed (Some x) query path [] n m f g k =
+sim_observed None query from list n m f g k = tt
+sim_observed (Some x) query from [] n m f g k =
     let v : _ × List Seen = (x.1, n.watch.1 ++ (x.0 ∷ [])) in
-    sim_answer path x.0 v [] n m (f (x.0, v)) (Stops m) (g (x.0, [])) [] refl (k x.0 v []) (λ rest e. absurd (cc (e)))
-sim_observed (Some x) query path (y ∷ ys) n m f g k =
+    sim_answer from x.0 v [] n m (f (x.0, v)) (Stops m) (g (x.0, [])) [] refl (k x.0 v []) (λ rest e. absurd (cc (e)))
+sim_observed (Some x) query from (y ∷ ys) n m f g k =
     let v : _ × List Seen = (x.1, n.watch.1 ++ (x.0 ∷ [])) in
-    sim_answer path x.0 v ys n m (f (x.0, v)) (g (y, ys)) (g (x.0, ys)) (y ∷ ys) refl (k x.0 v ys) (λ rest e. next_is x.0 y ys rest g e)
+    sim_answer from x.0 v ys n m (f (x.0, v)) (g (y, ys)) (g (x.0, ys)) (y ∷ ys) refl (k x.0 v ys) (λ rest e. next_is x.0 y ys rest g e)
 
 sim_kept : {V : Type 0} (o : Observer V) → Keeps sim (gathering o) in_order stopping stopping
 sim_kept o = record {
@@ -99,7 +99,7 @@ sim_kept o = record {
   runs = λ q at k n m e. ap (marked _) e;
   tells = λ k f b c t n m r q e. e;
   ran = λ q at k n m r z e. e;
-  observes = λ b query path n m e f g k. sim_observed (o n.watch.0 query) query path m.watch n m f g (λ x v w. k x v w (ap (used path w) e));
+  observes = λ b query from n m e f g k. sim_observed (o n.watch.0 query) query from m.watch n m f g (λ x v w. k x v w (ap (used from w) e));
   logs = λ n m e. sym (ap (λ (k : Notes _). k.log) e);
   cells = λ n m e. sym (ap (λ (k : Notes _). k.cell) e);
   relogs = λ y z s n m e. went_here s (record n { log = y; cell = z }) (record m { log = y; cell = z }) (ap (λ (k : Notes _). record k { log = y; cell = z }) e);

@@ -8,7 +8,7 @@ use Rattle.ae_rules.specs.Blocks.{Scene}
 use Rattle.ae_rules.specs.Instances.{Instance}
 use Rattle.ae_semantics.specs.Places.{State}
 use Rattle.ae_semantics.specs.Contexts.{after}
-use Rattle.ae_semantics.specs.Observations.{Seen, Query, Mark, Ran, Used, Stopped, Notes}
+use Rattle.ae_semantics.specs.Observations.{Origin, Seen, Query, Mark, Ran, Used, Stopped, Notes}
 use Rattle.ae_semantics.specs.Runs.{Run, Went, Ends, Stops, Act, and_then, chosen, marked, deeper, Where, knowing, whole}
 use Rattle.ae_semantics.specs.Runs.{flow_close, is_left_out, absent, gone_on}
 use Rattle.ae_semantics.specs.Blocks.{used}
@@ -53,10 +53,10 @@ kept_chosen : (I : List Mark → Trail → Type 0) (b : Bool) (f g : ⊤ → Run
 kept_chosen I true f g d e = d
 kept_chosen I false f g d e = e
 
-kept_answer : (I : List Mark → Trail → Type 0) (r : Run Trail) (n : Notes Trail) (path : List ℕ) → On I n → On I (used path n.watch n)
-    → (r ≡ Stops n) ⊎ (On I (used path n.watch n) → After I r) → After I r
-kept_answer I r n path i d (inl e) = subst (λ (x : Run Trail). After I x) (sym e) i
-kept_answer I r n path i d (inr f) = f d
+kept_answer : (I : List Mark → Trail → Type 0) (r : Run Trail) (n : Notes Trail) (from : Origin) → On I n → On I (used from n.watch n)
+    → (r ≡ Stops n) ⊎ (On I (used from n.watch n) → After I r) → After I r
+kept_answer I r n from i d (inl e) = subst (λ (x : Run Trail). After I x) (sym e) i
+kept_answer I r n from i d (inr f) = f d
 
 kept_observed : (I : List Mark → Trail → Type 0) (o : Option Seen) (n : Notes Trail) (f : Seen × Trail → Run Trail) → On I n
     → ((x : Seen) → After I (f (x, n.watch))) → After I (rules.given (option_map {U = Seen × Trail} (λ (x : Seen). (x, n.watch)) o) (Stops n) f)
@@ -111,7 +111,7 @@ module _ (I : List Mark → Trail → Type 0) (ok : Instance → Type 0) (k : Ke
     runs = λ q at h n i. k.mark (Ran q at) n.marks n.watch h i;
     tells = λ m f a b t n r i. i;
     ran = λ q at h n r i. i;
-    observes = λ a query path n i f g. kept_observed I (table query) n f i (λ x. kept_answer I (f (x, n.watch)) n path i (k.mark (Used path) n.marks n.watch tt i) (g x n.watch));
+    observes = λ a query from n i f g. kept_observed I (table query) n f i (λ x. kept_answer I (f (x, n.watch)) n from i (k.mark (Used from) n.marks n.watch tt i) (g x n.watch));
     relogs = λ y z s n i. i;
     step = λ here all j bars f g go h s n i. kept_step here all j bars f g go h s n i;
     close = kept_close;

@@ -2,6 +2,7 @@ mod Programs
 mod Examples
 mod GroupExamples
 mod AliasExamples
+mod CellExamples
 mod Follow
 mod LawLemmas
 mod FlowExamples

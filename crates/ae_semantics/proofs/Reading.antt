@@ -18,7 +18,7 @@ use Rattle.ae_rules.specs.Uses.{is_seen, whole, ◌∪◌, outside, value_uses, 
 use Rattle.ae_rules.specs.Judges.{Judges}
 use Rattle.ae_semantics.specs.Places.{State, name_of, group_of}
 use Rattle.ae_semantics.specs.Contexts.{after}
-use Rattle.ae_semantics.specs.Observations.{Seen, Notes, Observer}
+use Rattle.ae_semantics.specs.Observations.{Origin, Seen, Notes, Observer}
 use Rattle.ae_semantics.specs.Runs.{Run, Went, Ends, Stops, Act, and_then, deeper, Where, knowing, stopping}
 use Rattle.ae_semantics.specs.Meaning.{one, below}
 use Rattle.ae_semantics.specs.Gathering.{stops_at}
@@ -84,10 +84,10 @@ reads_then fits logs l k (Went s n) q (t, m, e, a) f g i = subst (λ (y : Run _)
 reads_then fits logs l k (Ends x n) q (m, e, a) f g i = (m, ap (λ (y : Run _). and_then y g) e, a)
 reads_then fits logs l k (Stops n) q (m, e, a) f g i = (m, ap (λ (y : Run _). and_then y g) e, a)
 
-reads_answer : {W : Type 0} (p : Code) (fits : Context → State → Type 0) (logs : Bool) (k l : Known) (c : Stretch) (path : List ℕ) (w : W) (x : Both W W) → Agree fits logs k x → (r q : Run W)
-    → IsAnswered (reading p fits logs) k l c path w w x r q → ReadsAlike fits logs l r q
-reads_answer p fits logs k l c path w x h r q (inl e) = subst (λ (y : Run _). ReadsAlike fits logs l y q) (sym e.0) (x.m, e.1, h.notes)
-reads_answer p fits logs k l c path w x h r q (inr e) = e
+reads_answer : {W : Type 0} (p : Code) (fits : Context → State → Type 0) (logs : Bool) (k l : Known) (c : Stretch) (from : Origin) (w : W) (x : Both W W) → Agree fits logs k x → (r q : Run W)
+    → IsAnswered (reading p fits logs) k l c from w w x r q → ReadsAlike fits logs l r q
+reads_answer p fits logs k l c from w x h r q (inl e) = subst (λ (y : Run _). ReadsAlike fits logs l y q) (sym e.0) (x.m, e.1, h.notes)
+reads_answer p fits logs k l c from w x h r q (inr e) = e
 
 reads_observed : {W : Type 0} (fits : Context → State → Type 0) (logs : Bool) (l : Known) (y : Option (Seen × W)) (n m : Notes W) → SameNotes logs n m → (f g : Seen × W → Run W)
     → ((z : Seen × W) → ReadsAlike fits logs l (f z) (g z)) → ReadsAlike fits logs l (rules.given y (Stops n) f) (rules.given y (Stops m) g)
@@ -105,9 +105,9 @@ reads_together p fits logs o = record {
   runs = λ k l here at a s x h. renoted fits logs k x h _ _ (record { log = h.notes.log; cell = h.notes.cell; watch = h.notes.watch });
   tells = λ k l m f a b t x r q h. h;
   ran = λ k l here at a s x r q h. h;
-  observes = λ k l a query path x h f g i. subst (λ (w : _). ReadsAlike fits logs l (rules.given (o x.n.watch query) (Stops x.n) f) (rules.given (o w query) (Stops x.m) g)) h.notes.watch
+  observes = λ k l a query from x h f g i. subst (λ (w : _). ReadsAlike fits logs l (rules.given (o x.n.watch query) (Stops x.n) f) (rules.given (o w query) (Stops x.m) g)) h.notes.watch
       (reads_observed fits logs l (o x.n.watch query) x.n x.m h.notes f g
-      (λ z. reads_answer p fits logs k l a path z.1 x h (f z) (g z) (i z.0 z.1 z.1 (renoted fits logs k x h _ _ (record { log = h.notes.log; cell = h.notes.cell; watch = refl })))));
+      (λ z. reads_answer p fits logs k l a from z.1 x h (f z) (g z) (i z.0 z.1 z.1 (renoted fits logs k x h _ _ (record { log = h.notes.log; cell = h.notes.cell; watch = refl })))));
   no_bars = λ k. refl;
   step = λ k m here all j at a rest s bars cars e fuel f g x h. reads_then fits logs s.0 m _ _ (f k s.0 s.1 x h) _ _ (g s.0 m s.2 bars cars e);
   close = λ k m here all j s bars cars e x h. (x.t, x.m, refl, subst (λ (w : Known). Agree fits logs w x) s h);

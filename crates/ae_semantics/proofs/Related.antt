@@ -18,7 +18,7 @@ use Rattle.ae_semantics.specs.Values.{Val}
 use Rattle.ae_semantics.specs.Places.{Outcome, Fine, Traps, Lacks, ◌>>=◌, there, CellName, Here, Away, State, with_group}
 use Rattle.ae_semantics.specs.Expressions.{value, truth, truth_of}
 use Rattle.ae_semantics.specs.Contexts.{after}
-use Rattle.ae_semantics.specs.Observations.{Piece, Image, OfStore, OfLog, Carried, Ask, Gave, Trapped, Spent, Seen, OfBlock, OfCell, Query, AtBlock, AtEnd, Ending, Trap, Fuel, Mark, Ran, Turned, Entered, Stopped, Asked, Notes, Observer}
+use Rattle.ae_semantics.specs.Observations.{Origin, FromBlock, FromCell, Piece, Image, OfStore, OfLog, Carried, Ask, Gave, Trapped, Spent, Seen, OfBlock, OfCell, Query, AtBlock, AtEnd, Ending, Trap, Fuel, Mark, Ran, Turned, Entered, Stopped, Asked, Notes, Observer}
 use Rattle.ae_semantics.specs.Runs.{Run, Went, Ends, Stops, Act, and_then, given, paid, chosen, marked, logged, deeper, Where, knowing, splitting, locking, whole, Order, Machine, Below, fuel_of}
 use Rattle.ae_semantics.specs.Calls.{Frame, enter, leave, moved}
 use Rattle.ae_semantics.specs.Blocks.{image_of, cell_of, to_cell, goes_away, all_go_away, store_back, log_back, unless_stopped, used, cell_back, comes_back, all_come_back, cell_at, values_in, out_fits, with_out, block_back, ask_of, else_uses, put_to, asks}
@@ -130,8 +130,8 @@ pub record Both (V W : Type 0) : Type 0 where
 abbrev pub told : {V W : Type 0} → Mark → Both V W → Both V W
 told k x = record x { n = marked k x.n; m = marked k x.m }
 
-abbrev pub answered_by : {V W : Type 0} → List ℕ → V → W → Both V W → Both V W
-answered_by path v w x = record x { n = used path v x.n; m = used path w x.m }
+abbrev pub answered_by : {V W : Type 0} → Origin → V → W → Both V W → Both V W
+answered_by from v w x = record x { n = used from v x.n; m = used from w x.m }
 
 -- all marks but those that say that a statement ran or did not go through
 abbrev pub IsFree : Mark → Type 0
@@ -245,8 +245,8 @@ pub record IsLock {V W : Type 0} (S : Relation V W) (p : Code) (k l : S.World) (
       → out_fits p (else_uses p g.name (whole y (locking g here))) (after p here.method at (Locks g number y) here.context) x.s z
       ≡ out_fits p (else_uses p g.name (whole y (locking g here))) (after p here.method at (Locks g number y) here.context) x.t z
   pub gives : (z : Carried) (x : Both V W) → S.Start k x → out_fits p (else_uses p g.name (whole y (locking g here))) (after p here.method at (Locks g number y) here.context) x.s z ≡ true
-      → (path : List ℕ) (v : V) (w : W) → S.Start k (answered_by path v w x)
-      → S.Rel k l Quiet (answered_by path v w x) (with_out (else_uses p g.name (whole y (locking g here))) z x.s (used path v x.n)) (with_out (else_uses p g.name (whole y (locking g here))) z x.t (used path w x.m))
+      → (from : Origin) (v : V) (w : W) → S.Start k (answered_by from v w x)
+      → S.Rel k l Quiet (answered_by from v w x) (with_out (else_uses p g.name (whole y (locking g here))) z x.s (used from v x.n)) (with_out (else_uses p g.name (whole y (locking g here))) z x.t (used from w x.m))
 
 abbrev pub entering : {V W : Type 0} → Frame → Both V W → Both V W
 entering f x = record x { s = f.state; t = f.state }
@@ -266,8 +266,8 @@ pub record IsCall {V W : Type 0} (S : Relation V W) (p : Code) (k l : S.World) (
 -- ---- what keeps the relation
 
 -- an answer that is not used, or one that is
-abbrev pub IsAnswered : {V W : Type 0} (S : Relation V W) → S.World → S.World → Stretch → List ℕ → V → W → Both V W → Run V → Run W → Type 0
-IsAnswered S k l c path v w x r q = ((r ≡ Stops x.n) × (q ≡ Stops x.m)) ⊎ S.Rel k l c (answered_by path v w x) r q
+abbrev pub IsAnswered : {V W : Type 0} (S : Relation V W) → S.World → S.World → Stretch → Origin → V → W → Both V W → Run V → Run W → Type 0
+IsAnswered S k l c from v w x r q = ((r ≡ Stops x.n) × (q ≡ Stops x.m)) ⊎ S.Rel k l c (answered_by from v w x) r q
 
 abbrev pub machine : {W : Type 0} → Code → Observer W → Order W → Machine W
 machine p o c = record { code = p; observer = o; order = c }
@@ -320,8 +320,8 @@ pub record Link {V W : Type 0} (S : Relation V W) (p : Code) (o : Observer V) (u
   pub ran : (k l : S.World) (here : Where) (at : Spot) (a : Action) → S.One k l here at a → (x : Both V W) (r : Run V) (q : Run W)
       → S.Rel k l (From here.path 0) (told (Ran here.path at) x) r q → S.Rel k l (Of here.path) x r q
   -- the observers
-  pub observes : (k l : S.World) (a : Stretch) (query : Query) (path : List ℕ) (x : Both V W) → S.Start k x → (f : Seen × V → Run V) (g : Seen × W → Run W)
-      → ((seen : Seen) (v : V) (w : W) → S.Start k (answered_by path v w x) → IsAnswered S k l a path v w x (f (seen, v)) (g (seen, w)))
+  pub observes : (k l : S.World) (a : Stretch) (query : Query) (from : Origin) (x : Both V W) → S.Start k x → (f : Seen × V → Run V) (g : Seen × W → Run W)
+      → ((seen : Seen) (v : V) (w : W) → S.Start k (answered_by from v w x) → IsAnswered S k l a from v w x (f (seen, v)) (g (seen, w)))
       → S.Rel k l a x (rules.given (o x.n.watch query) (Stops x.n) f) (rules.given (u x.m.watch query) (Stops x.m) g)
   -- The ways through a block: a statement and those that follow it are related in each world in which they may stand.
   pub no_bars : (k : S.World) → S.Bars k [] []
@@ -407,16 +407,16 @@ module _ {V W : Type 0} (S : Relation V W) (p : Code) (o : Observer V) (u : Obse
       (all_go_away here gs) (all_go_away here gs) (away_related w l here gs i)
 
   cell_answered : (k l : S.World) (here : Where) (g : ℕ) → ((image : Image) → Does S k l Quiet (back_to g image) (back_to g image))
-      → (x : Both V W) (seen : Seen) (v : V) (w : W) → S.Start k (answered_by here.path v w x)
-      → IsAnswered S k l Quiet here.path v w x (cell_back here g (seen, v) x.s x.n) (cell_back here g (seen, w) x.t x.m)
+      → (x : Both V W) (seen : Seen) (v : V) (w : W) → S.Start k (answered_by (FromCell (cell_of here g)) v w x)
+      → IsAnswered S k l Quiet (FromCell (cell_of here g)) v w x (cell_back here g (seen, v) x.s x.n) (cell_back here g (seen, w) x.t x.m)
   cell_answered k l here g e x (OfBlock a) v w h = inl (refl, refl)
-  cell_answered k l here g e x (OfCell image) v w h = by_name (nat_eq io g) image (e image (answered_by here.path v w x) h)
+  cell_answered k l here g e x (OfCell image) v w h = by_name (nat_eq io g) image (e image (answered_by (FromCell (cell_of here g)) v w x) h)
     where
-      by_name : (b : Bool) (image : Image) → S.Rel k l Quiet (answered_by here.path v w x)
-          (if b then log_back image x.s (used here.path v x.n) else store_back g image x.s (used here.path v x.n)) (if b then log_back image x.t (used here.path w x.m) else store_back g image x.t (used here.path w x.m))
-          → IsAnswered S k l Quiet here.path v w x
-          (unless_stopped (if b then log_back image x.s (used here.path v x.n) else store_back g image x.s (used here.path v x.n)) x.n)
-          (unless_stopped (if b then log_back image x.t (used here.path w x.m) else store_back g image x.t (used here.path w x.m)) x.m)
+      by_name : (b : Bool) (image : Image) → S.Rel k l Quiet (answered_by (FromCell (cell_of here g)) v w x)
+          (if b then log_back image x.s (used (FromCell (cell_of here g)) v x.n) else store_back g image x.s (used (FromCell (cell_of here g)) v x.n)) (if b then log_back image x.t (used (FromCell (cell_of here g)) w x.m) else store_back g image x.t (used (FromCell (cell_of here g)) w x.m))
+          → IsAnswered S k l Quiet (FromCell (cell_of here g)) v w x
+          (unless_stopped (if b then log_back image x.s (used (FromCell (cell_of here g)) v x.n) else store_back g image x.s (used (FromCell (cell_of here g)) v x.n)) x.n)
+          (unless_stopped (if b then log_back image x.t (used (FromCell (cell_of here g)) w x.m) else store_back g image x.t (used (FromCell (cell_of here g)) w x.m)) x.m)
       by_name true (OfStore st) i = inl (refl, refl)
       by_name true (OfLog pieces) i = inr i
       by_name false (OfStore st) i = inr i
@@ -424,7 +424,7 @@ module _ {V W : Type 0} (S : Relation V W) (p : Code) (o : Observer V) (u : Obse
 
   comes_related : (k l : S.World) (here : Where) (g : ℕ) → ((image : Image) → Does S k l Quiet (back_to g image) (back_to g image)) → (first : Image)
       → Does S k l Quiet (comes_back one_of here g first) (comes_back two_of here g first)
-  comes_related k l here g e first x h = L.observes k l Quiet (AtEnd (cell_of here g) first) here.path x h (λ seen. cell_back here g seen x.s x.n) (λ seen. cell_back here g seen x.t x.m)
+  comes_related k l here g e first x h = L.observes k l Quiet (AtEnd (cell_of here g) first) (FromCell (cell_of here g)) x h (λ seen. cell_back here g seen x.s x.n) (λ seen. cell_back here g seen x.t x.m)
       (cell_answered k l here g e x)
 
   back_related : (b k l : S.World) (here : Where) (gs : List NameAt) → ComeBack S b k l gs → (before : Both V W) → S.Start b before
@@ -437,25 +437,25 @@ module _ {V W : Type 0} (S : Relation V W) (p : Code) (o : Observer V) (u : Obse
 
   -- ---- atomic blocks
 
-  block_answered : (k l : S.World) (here : Where) (at : Spot) (g : NameAt) (number : ℕ) (y : Lines) → IsLock S p k l here at g number y → (path : List ℕ) (x : Both V W) → S.Start k x
-      → (seen : Seen) (v : V) (w : W) → S.Start k (answered_by path v w x)
-      → IsAnswered S k l Quiet path v w x (block_back p (else_uses p g.name (whole y (locking g here))) (after p here.method at (Locks g number y) here.context) path (seen, v) x.s x.n)
-      (block_back p (else_uses p g.name (whole y (locking g here))) (after p here.method at (Locks g number y) here.context) path (seen, w) x.t x.m)
-  block_answered k l here at g number y e path x i (OfCell image) v w h = inl (refl, refl)
-  block_answered k l here at g number y e path x i (OfBlock (Gave out)) v w h =
+  block_answered : (k l : S.World) (here : Where) (at : Spot) (g : NameAt) (number : ℕ) (y : Lines) → IsLock S p k l here at g number y → (from : Origin) (x : Both V W) → S.Start k x
+      → (seen : Seen) (v : V) (w : W) → S.Start k (answered_by from v w x)
+      → IsAnswered S k l Quiet from v w x (block_back p (else_uses p g.name (whole y (locking g here))) (after p here.method at (Locks g number y) here.context) from (seen, v) x.s x.n)
+      (block_back p (else_uses p g.name (whole y (locking g here))) (after p here.method at (Locks g number y) here.context) from (seen, w) x.t x.m)
+  block_answered k l here at g number y e from x i (OfCell image) v w h = inl (refl, refl)
+  block_answered k l here at g number y e from x i (OfBlock (Gave out)) v w h =
       let us : Uses = else_uses p g.name (whole y (locking g here)) in
       let later : Context = after p here.method at (Locks g number y) here.context in
-      subst (λ (b : Bool). IsAnswered S k l Quiet path v w x (if out_fits p us later x.s out then with_out us out x.s (used path v x.n) else Stops x.n) (if b then with_out us out x.t (used path w x.m) else Stops x.m))
+      subst (λ (b : Bool). IsAnswered S k l Quiet from v w x (if out_fits p us later x.s out then with_out us out x.s (used from v x.n) else Stops x.n) (if b then with_out us out x.t (used from w x.m) else Stops x.m))
       (e.fits x i out)
-      (by_test (out_fits p us later x.s out) (λ f. e.gives out x i f path v w h))
+      (by_test (out_fits p us later x.s out) (λ f. e.gives out x i f from v w h))
     where
-      by_test : (b : Bool) → (b ≡ true → S.Rel k l Quiet (answered_by path v w x) (with_out (else_uses p g.name (whole y (locking g here))) out x.s (used path v x.n)) (with_out (else_uses p g.name (whole y (locking g here))) out x.t (used path w x.m)))
-          → IsAnswered S k l Quiet path v w x (if b then with_out (else_uses p g.name (whole y (locking g here))) out x.s (used path v x.n) else Stops x.n)
-          (if b then with_out (else_uses p g.name (whole y (locking g here))) out x.t (used path w x.m) else Stops x.m)
+      by_test : (b : Bool) → (b ≡ true → S.Rel k l Quiet (answered_by from v w x) (with_out (else_uses p g.name (whole y (locking g here))) out x.s (used from v x.n)) (with_out (else_uses p g.name (whole y (locking g here))) out x.t (used from w x.m)))
+          → IsAnswered S k l Quiet from v w x (if b then with_out (else_uses p g.name (whole y (locking g here))) out x.s (used from v x.n) else Stops x.n)
+          (if b then with_out (else_uses p g.name (whole y (locking g here))) out x.t (used from w x.m) else Stops x.m)
       by_test true f = inr (f refl)
       by_test false f = inl (refl, refl)
-  block_answered k l here at g number y e path x i (OfBlock (Trapped code place)) v w h = inr (L.ends k l (Trap code place) (answered_by path v w x) h)
-  block_answered k l here at g number y e path x i (OfBlock (Spent place)) v w h = inr (L.ends k l (Fuel place) (answered_by path v w x) h)
+  block_answered k l here at g number y e from x i (OfBlock (Trapped code place)) v w h = inr (L.ends k l (Trap code place) (answered_by from v w x) h)
+  block_answered k l here at g number y e from x i (OfBlock (Spent place)) v w h = inr (L.ends k l (Fuel place) (answered_by from v w x) h)
 
   asks_related : (k l : S.World) (here : Where) (at : Spot) (cell : CellName) (g : NameAt) (number : ℕ) (b : Lines) → IsLock S p k l here at g number b → (fuel fuel' : ℕ) → fuel ≡ fuel'
       → Does S k l Quiet (asks one_of here at cell g number b fuel) (asks two_of here at cell g number b fuel')
@@ -470,8 +470,8 @@ module _ {V W : Type 0} (S : Relation V W) (p : Code) (o : Observer V) (u : Obse
       let j : S.Start k (told (Asked cell ask) x) = L.marks k (Asked cell ask) tt x i in
       L.tells k l (Asked cell ask) tt Quiet Quiet (silent_tells (Asked cell ask) Quiet refl) x _ _
       (subst (λ (a : Ask). S.Rel k l Quiet (told (Asked cell ask) x) (put_to one_of ask us later x.s (marked (Asked cell ask) x.n)) (put_to two_of a us later x.t (marked (Asked cell a) x.m))) same
-      (L.observes k l Quiet (AtBlock ask) ask.path z j (λ seen. block_back p us later ask.path seen z.s z.n) (λ seen. block_back p us later ask.path seen z.t z.m)
-      (block_answered k l here at g number b h ask.path z j)))
+      (L.observes k l Quiet (AtBlock ask) (FromBlock ask.path) z j (λ seen. block_back p us later (FromBlock ask.path) seen z.s z.n) (λ seen. block_back p us later (FromBlock ask.path) seen z.t z.m)
+      (block_answered k l here at g number b h (FromBlock ask.path) z j)))
 
   -- ---- calls and right sides
 

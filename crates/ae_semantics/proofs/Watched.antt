@@ -6,7 +6,7 @@ use Rattle.ae_rules.specs.Verdict as rules
 use Rattle.ae_rules.specs.Blocks.{Scene}
 use Rattle.ae_rules.specs.Instances.{Instance}
 use Rattle.ae_semantics.specs.Places.{State}
-use Rattle.ae_semantics.specs.Observations.{Seen, Query, Stopped, Notes}
+use Rattle.ae_semantics.specs.Observations.{Origin, Seen, Query, Stopped, Notes}
 use Rattle.ae_semantics.specs.Runs.{Run, Went, Ends, Stops, Act, and_then, chosen, marked, Where, flowing, flow_step, flow_close, is_left_out, absent, gone_on}
 use Rattle.ae_semantics.specs.Blocks.{used}
 use Rattle.ae_semantics.specs.Means.{run, meant}
@@ -46,9 +46,9 @@ same_chosen : (b : Bool) (f1 f2 : ⊤ → Run Trail) (g1 g2 : ⊤ → Run ⊤) �
 same_chosen true f1 f2 g1 g2 d e = d
 same_chosen false f1 f2 g1 g2 d e = e
 
-same_answer : (path : List ℕ) (v : Trail) (n : Notes Trail) (m : Notes ⊤) → m ≡ carry n → (r : Run Trail) (q : Run ⊤) → IsNoted same Quiet path v tt n m r q → Same r q
-same_answer path v n m d r q (inl e) = subst (λ (x : Run Trail). Same x q) (sym e.0) (e.1 ∙ ap (λ (k : Notes ⊤). Stops k) d)
-same_answer path v n m d r q (inr e) = e
+same_answer : (from : Origin) (v : Trail) (n : Notes Trail) (m : Notes ⊤) → m ≡ carry n → (r : Run Trail) (q : Run ⊤) → IsNoted same Quiet from v tt n m r q → Same r q
+same_answer from v n m d r q (inl e) = subst (λ (x : Run Trail). Same x q) (sym e.0) (e.1 ∙ ap (λ (k : Notes ⊤). Stops k) d)
+same_answer from v n m d r q (inr e) = e
 
 same_observed : (o : Option Seen) (n : Notes Trail) (m : Notes ⊤) → m ≡ carry n → (f : Seen × Trail → Run Trail) (g : Seen × ⊤ → Run ⊤) → ((x : Seen) → Same (f (x, n.watch)) (g (x, tt)))
     → Same (rules.given (option_map {U = Seen × Trail} (λ (x : Seen). (x, n.watch)) o) (Stops n) f) (rules.given (option_map {U = Seen × ⊤} (λ (x : Seen). (x, m.watch)) o) (Stops m) g)
@@ -100,7 +100,7 @@ same_kept p table = record {
   runs = λ q at k n m e. ap (marked _) e;
   tells = λ k f b c t n m r q e. e;
   ran = λ q at k n m r z e. e;
-  observes = λ b query path n m e f g k. same_observed (table query) n m e f g (λ x. same_answer path n.watch n m e (f (x, n.watch)) (g (x, tt)) (k x n.watch tt (ap (used path tt) e)));
+  observes = λ b query from n m e f g k. same_observed (table query) n m e f g (λ x. same_answer from n.watch n m e (f (x, n.watch)) (g (x, tt)) (k x n.watch tt (ap (used from tt) e)));
   logs = λ n m e. sym (ap (λ (k : Notes ⊤). k.log) e);
   cells = λ n m e. sym (ap (λ (k : Notes ⊤). k.cell) e);
   relogs = λ y z s n m e. ap (λ (k : Notes ⊤). Went s (record k { log = y; cell = z })) e;

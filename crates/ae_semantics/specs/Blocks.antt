@@ -20,7 +20,7 @@ use Rattle.ae_rules.specs.Blocks.{Scene}
 use Rattle.ae_semantics.specs.Values.{fits}
 use Rattle.ae_semantics.specs.Places.{CellName, Group, Here, Away, Bound, State, group_of, with_group, members}
 use Rattle.ae_semantics.specs.Contexts.{after, shuts_out}
-use Rattle.ae_semantics.specs.Observations.{Piece, Image, OfStore, OfLog, Carried, Ask, Answer, Gave, Trapped, Spent, Seen, OfBlock, OfCell, AtBlock, AtEnd, Trap, Fuel, Entered, Asked, Used, Notes}
+use Rattle.ae_semantics.specs.Observations.{Piece, Image, OfStore, OfLog, Carried, Ask, Answer, Gave, Trapped, Spent, Seen, OfBlock, OfCell, FromBlock, FromCell, Origin, AtBlock, AtEnd, Trap, Fuel, Entered, Asked, Used, Notes}
 use Rattle.ae_semantics.specs.Runs.{Run, Went, Ends, Stops, Act, and_then, marked, Where, locking, whole, Machine}
 
 -- ---- split blocks
@@ -62,14 +62,15 @@ unless_stopped (Went s m) n = Went s m
 unless_stopped (Ends ending m) n = Ends ending m
 unless_stopped (Stops m) n = Stops n
 
-abbrev pub used : {W : Type 0} → List ℕ → W → Notes W → Notes W
-used path w n = record (marked (Used path) n) { watch = w }
+-- an observation from here is used
+abbrev pub used : {W : Type 0} → Origin → W → Notes W → Notes W
+used from w n = record (marked (Used from) n) { watch = w }
 
 -- what was observed of a cell comes back
 abbrev pub cell_back : {W : Type 0} → Where → ℕ → Seen × W → Act W
 cell_back here g (OfBlock a, w) s n = Stops n
 cell_back here g (OfCell image, w) s n = unless_stopped
-    (if nat_eq io g then log_back image s (used here.path w n) else store_back g image s (used here.path w n)) n
+    (if nat_eq io g then log_back image s (used (FromCell (cell_of here g)) w n) else store_back g image s (used (FromCell (cell_of here g)) w n)) n
 
 abbrev pub comes_back : {W : Type 0} → Machine W → Where → ℕ → Image → Act W
 comes_back m here g first s n = rules.given (m.observer n.watch (AtEnd (cell_of here g) first)) (Stops n) (λ seen. cell_back here g seen s n)
@@ -177,9 +178,9 @@ answered p u later (Gave out) unused s n = if out_fits p u later s out then with
 answered p u later (Trapped code at) unused s n = Ends (Trap code at) n
 answered p u later (Spent at) unused s n = Ends (Fuel at) n
 
-abbrev pub block_back : {W : Type 0} → Code → Uses → Context → List ℕ → Seen × W → Act W
-block_back p u later path (OfCell image, w) s n = Stops n
-block_back p u later path (OfBlock a, w) s n = answered p u later a n s (used path w n)
+abbrev pub block_back : {W : Type 0} → Code → Uses → Context → Origin → Seen × W → Act W
+block_back p u later from (OfCell image, w) s n = Stops n
+block_back p u later from (OfBlock a, w) s n = answered p u later a n s (used from w n)
 
 -- what an atomic block asks
 abbrev pub ask_of : Where → ℕ → ℕ → Uses → State → Ask
@@ -193,7 +194,7 @@ ask_of here number fuel u s = record {
 }
 
 abbrev pub put_to : {W : Type 0} → Machine W → Ask → Uses → Context → Act W
-put_to m ask u later s n = rules.given (m.observer n.watch (AtBlock ask)) (Stops n) (λ seen. block_back m.code u later ask.path seen s n)
+put_to m ask u later s n = rules.given (m.observer n.watch (AtBlock ask)) (Stops n) (λ seen. block_back m.code u later (FromBlock ask.path) seen s n)
 
 -- a block of a group that is away asks the observer
 abbrev pub asks : {W : Type 0} → Machine W → Where → Spot → CellName → NameAt → ℕ → Lines → ℕ → Act W
