@@ -9,7 +9,7 @@ use Rattle.ae_code.specs.Plain.{Action, Invocation, Lines, End, Next, Locks, Cod
 use Rattle.ae_rules.specs.Calls.{Callee, givens}
 use Rattle.ae_rules.specs.Blocks.{Scene}
 use Rattle.ae_rules.specs.Instances.{Instance}
-use Rattle.ae_semantics.specs.Values.{Val}
+use Rattle.ae_semantics.specs.Values.{all_low, Val}
 use Rattle.ae_semantics.specs.Places.{Outcome, Fine, Traps, Lacks, ◌>>=◌, CellName, Here, Away, State, bind, with_group}
 use Rattle.ae_semantics.specs.Expressions.{value}
 use Rattle.ae_semantics.specs.Contexts.{after}
@@ -157,7 +157,11 @@ module _ {V W : Type 0} (S : Noted V W) (p : Code) (o : Observer V) (u : Observe
       by_name : (b : Bool) (image : Image) → S.Rel Quiet n m (if b then log_back image s n else store_back g image s n) (if b then log_back image s m else store_back g image s m)
       by_name true (OfStore st) = K.stops s n m h
       by_name true (OfLog pieces) = K.relogs pieces None s n m h
-      by_name false (OfStore st) = K.went (with_group g (Some (Here st)) s) n m h
+      by_name false (OfStore st) = by_height (all_low st)
+        where
+          by_height : (b : Bool) → S.Rel Quiet n m (if b then Went (with_group g (Some (Here st)) s) n else Stops n) (if b then Went (with_group g (Some (Here st)) s) m else Stops m)
+          by_height true = K.went (with_group g (Some (Here st)) s) n m h
+          by_height false = K.stops s n m h
       by_name false (OfLog pieces) = K.stops s n m h
 
   note_all_away : (here : Where) (gs : List NameAt) → GoAway (relation S) tt tt here gs

@@ -14,7 +14,7 @@ use Rattle.ae_rules.specs.Verdict as rules
 use Rattle.ae_rules.specs.Context.{Local, Context}
 use Rattle.ae_rules.specs.Blocks.{Scene}
 use Rattle.ae_rules.specs.Instances.{Instance}
-use Rattle.ae_semantics.specs.Values.{Val}
+use Rattle.ae_semantics.specs.Values.{Val, all_low}
 use Rattle.ae_semantics.specs.Places.{Outcome, Fine, Traps, Lacks, ◌>>=◌, there, CellName, Here, Away, State, with_group}
 use Rattle.ae_semantics.specs.Expressions.{value, truth, truth_of}
 use Rattle.ae_semantics.specs.Contexts.{after}
@@ -419,7 +419,16 @@ module _ {V W : Type 0} (S : Relation V W) (p : Code) (o : Observer V) (u : Obse
           (unless_stopped (if b then log_back image x.t (used (FromCell (cell_of here g)) w x.m) else store_back g image x.t (used (FromCell (cell_of here g)) w x.m)) x.m)
       by_name true (OfStore st) i = inl (refl, refl)
       by_name true (OfLog pieces) i = inr i
-      by_name false (OfStore st) i = inr i
+      by_name false (OfStore st) i = by_height (all_low st) i
+        where
+          by_height : (b : Bool) → S.Rel k l Quiet (answered_by (FromCell (cell_of here g)) v w x)
+              (if b then Went (with_group g (Some (Here st)) x.s) (used (FromCell (cell_of here g)) v x.n) else Stops (used (FromCell (cell_of here g)) v x.n))
+              (if b then Went (with_group g (Some (Here st)) x.t) (used (FromCell (cell_of here g)) w x.m) else Stops (used (FromCell (cell_of here g)) w x.m))
+              → IsAnswered S k l Quiet (FromCell (cell_of here g)) v w x
+              (unless_stopped (if b then Went (with_group g (Some (Here st)) x.s) (used (FromCell (cell_of here g)) v x.n) else Stops (used (FromCell (cell_of here g)) v x.n)) x.n)
+              (unless_stopped (if b then Went (with_group g (Some (Here st)) x.t) (used (FromCell (cell_of here g)) w x.m) else Stops (used (FromCell (cell_of here g)) w x.m)) x.m)
+          by_height true j = inr j
+          by_height false j = inl (refl, refl)
       by_name false (OfLog pieces) i = inl (refl, refl)
 
   comes_related : (k l : S.World) (here : Where) (g : ℕ) → ((image : Image) → Does S k l Quiet (back_to g image) (back_to g image)) → (first : Image)

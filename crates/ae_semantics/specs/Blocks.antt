@@ -17,7 +17,7 @@ use Rattle.ae_rules.specs.Forms.{same_form}
 use Rattle.ae_rules.specs.Context.{Local, Context, each_name}
 use Rattle.ae_rules.specs.Uses.{outside, all_but, lines_use}
 use Rattle.ae_rules.specs.Blocks.{Scene}
-use Rattle.ae_semantics.specs.Values.{fits}
+use Rattle.ae_semantics.specs.Values.{fits, is_low, all_low}
 use Rattle.ae_semantics.specs.Places.{CellName, Group, Here, Away, Bound, State, group_of, with_group, members}
 use Rattle.ae_semantics.specs.Contexts.{after, shuts_out}
 use Rattle.ae_semantics.specs.Observations.{Piece, Image, OfStore, OfLog, Carried, Ask, Answer, Gave, Trapped, Spent, Seen, OfBlock, OfCell, FromBlock, FromCell, Origin, AtBlock, AtEnd, Trap, Fuel, Entered, Asked, Used, Notes}
@@ -48,8 +48,9 @@ abbrev pub all_go_away : {W : Type 0} → Where → List NameAt → Act W
 all_go_away here [] s n = Went s n
 all_go_away here (g ∷ gs) s n = and_then (goes_away here g.name s n) (all_go_away here gs)
 
+-- the members of a cell come back; where one of them is too high they do not fit
 abbrev pub store_back : {W : Type 0} → ℕ → Image → Act W
-store_back g (OfStore st) s n = Went (with_group g (Some (Here st)) s) n
+store_back g (OfStore st) s n = if all_low st then Went (with_group g (Some (Here st)) s) n else Stops n
 store_back g (OfLog pieces) s n = Stops n
 
 abbrev pub log_back : {W : Type 0} → Image → Act W
@@ -124,7 +125,7 @@ same_presence (Some x) None test = false
 same_presence (Some x) (Some y) test = test x y
 
 abbrev pub fits_form : Code → Form → Bound → Bool
-fits_form p form b = same_form form b.form && fits p form b.value
+fits_form p form b = same_form form b.form && fits p form b.value && is_low b.value
 
 -- the permission of an object of which this is held, where its name stands for it
 abbrev pub perm_held : Held → Option Perm
@@ -150,9 +151,9 @@ wanted u later x = if shuts_out (u (resource.Local x)) then holds_now later x el
 abbrev pub name_fits : Code → Uses → Context → State → Carried → ℕ → Bool
 name_fits p u later before out x =
     same_presence (wanted u later x) (out.locals x) (fits_form p)
-    && (if store_out u before x then is_some (out.stores x) else not (is_some (out.stores x)))
+    && (if store_out u before x then rules.given (out.stores x) false all_low else not (is_some (out.stores x)))
 
--- values out have the names and forms that the block's place asks for
+-- values out have the names and forms that the block's place asks for, and none of them is too high
 abbrev pub out_fits : Code → Uses → Context → State → Carried → Bool
 out_fits p u later before out =
     each_name p (name_fits p u later before out)

@@ -1,5 +1,5 @@
 -- Where a path leads, and how what stands there is read and changed.
-use Rattle.std.specs.Prelude.{ℕ, nat_eq, nat_lt, Bool, true, false, if◌then◌else◌, List, [], ◌∷◌, ◌++◌, Option, None, Some, option_map, slice_get}
+use Rattle.std.specs.Prelude.{ℕ, nat_eq, Bool, true, false, if◌then◌else◌, List, [], ◌∷◌, ◌++◌, Option, None, Some, option_map, slice_get}
 use Rattle.std.specs.Prelude as prelude
 use Rattle.ae_code.specs.declared.tree.NameAt.{NameAt}
 use Rattle.ae_code.specs.declared.tree.Path.{Path}
@@ -13,7 +13,7 @@ use Rattle.ae_code.specs.Plain.{Code}
 use Rattle.ae_rules.specs.Verdict.{given}
 use Rattle.ae_rules.specs.Lookups.{class_of, field_number, field_of_kind}
 use Rattle.ae_rules.specs.Walks.{owner}
-use Rattle.ae_semantics.specs.Values.{Val, Owned, Member, Tree, Object, Array, Values, Store, height, is_of_kind, fits, value_at, put}
+use Rattle.ae_semantics.specs.Values.{Val, Owned, Member, Tree, Object, Array, Values, Store, is_low, is_of_kind, fits, value_at, put}
 
 -- ---- outcomes
 
@@ -196,9 +196,9 @@ reach p s path = walk p s path >>= open_place p s
 
 -- ---- writes
 
--- a local or a member does not become higher than 1,000
+-- a local or a member that would become too high is trap 8
 abbrev pub low : Val → Outcome Val
-low v = if nat_lt 1000 (height v) then Traps 8 else Fine v
+low v = if is_low v then Fine v else Traps 8
 
 -- a value for a local; the form is that of what it holds now
 abbrev pub bind : ℕ → Form → Val → State → Outcome State

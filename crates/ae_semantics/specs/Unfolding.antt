@@ -472,6 +472,7 @@ pub record StandsFor (p : Code) (ints : List ℤ) (fuel : ℕ) (tree : Frame) : 
   -- the events and the cells are what is observed
   pub each_event : (e : Happened) → Contains (events tree) e → IsAsked (part_of p ints fuel tree) tree e
   pub each_cell : (c : Cell) → Contains (cells tree) c → IsOfEntered (part_of p ints fuel tree) tree c
-  -- all else that the meaning runs is under way, or keeps its place after what is under way
+  -- All else that the meaning runs is under way, or keeps its place after what is under way. A statement whose block is being run counts
+  -- as under way until the block is put away, also where nothing in it is left to do.
   pub all_others : (x : At) → Contains (part_of p ints fuel tree).ran x
       → LiesIn (finished tree) x.path ⊎ LiesIn (under_way tree) x.path ⊎ IsAfter p (under_way tree) x.path
