@@ -17,9 +17,9 @@ use Rattle.ae_rules.specs.Paths.{comes_before, is_simple_at, begins}
 use Rattle.ae_semantics.specs.Places.{CellName}
 use Rattle.ae_semantics.specs.Observations.{Piece, OfLog, Ask, Gave, Fuel, OfBlock, Trap}
 use Rattle.ae_semantics.specs.Meaning.{one, many, below}
-use Rattle.ae_semantics.specs.Means.{At, Turn, Asking, First, mean, Meant}
+use Rattle.ae_semantics.specs.Means.{At, Turn, Asking, mean, Meant}
 use Rattle.ae_semantics.specs.Atom.{atom, part}
-use Rattle.ae_semantics.specs.Report.{Event, Cell, Report, LeadsTo, Legal, Explained, mean_of, part_of, asking_of, IsEntered, first_of, ended_at, Line, turn_path, IsLater, InTurnsFrom, Covers, IsOf, Keeps, traced_part, Traced}
+use Rattle.ae_semantics.specs.Report.{Event, Cell, Report, LeadsTo, Legal, Explained, mean_of, part_of, asking_of, ended_at, Line, turn_path, IsLater, InTurnsFrom, Covers, IsOf, Keeps, traced_part, Traced}
 use Rattle.ae_semantics.proofs.ReportWords.{by_test, no_thing, of_two, pair_of_two, two_differ, some_same, carried_same, asking_same, two_same, not_both, unparted, fork_of, part_so, rises_two, one_cell, nothing_given, all_differ-so, and_left, and_right, and_false}
 use Rattle.ae_semantics.proofs.UnfoldingExamples.{every}
 use Rattle.ae_semantics.proofs.Programs.{at, name, need, top_method, line, nothing_out, path, call, field, class_with, param, Comes}
@@ -146,26 +146,19 @@ is_asked : (e : Event) (x : Asking) → Contains spent.events e → asking_of sp
 is_asked e x c = of_two (λ (d : Event). asking_of spent d ≡ Some x → Contains both_asks x) (event_in 0 1 1) (event_in 1 0 2)
     (λ q. (0, omega arith, some_same (asking 0 1) x q)) (λ q. (1, omega arith, some_same (asking 1 0) x q)) e c
 
-is_cell_in : (x : First) → IsEntered prints_forever [] 2 spent x → Contains (map first_of spent.cells) x
-unfolding mean part one many below
-is_cell_in x (inl c) = c
-is_cell_in x (inr c) = c.0
-
 spent-explained : Explained prints_forever [] 2 spent
 unfolding mean part one many below atom
 spent-explained = record {
   ending = refl;
-  used = refl;
-  events_used = ap (map Some) spent-asks;
-  sorted = pair_of_two (λ (d e : Event). comes_before d.path e.path ≡ true) (event_in 0 1 1) (event_in 1 0 2) refl;
-  own_path = of_two (λ (e : Event). e.ask.path ≡ e.path) (event_in 0 1 1) (event_in 1 0 2) refl refl;
-  past_later = λ e c. absurd (no_thing e c);
-  none_past = λ d. refl;
-  past_within = omega arith;
+  events = record {
+    in_order = pair_of_two (λ (d e : Event). comes_before d.path e.path ≡ true) (event_in 0 1 1) (event_in 1 0 2) refl;
+    own_path = of_two (λ (e : Event). e.ask.path ≡ e.path) (event_in 0 1 1) (event_in 1 0 2) refl refl;
+    of_a_cell = of_two (λ (e : Event). e.cell < 1) (event_in 0 1 1) (event_in 1 0 2) (omega arith) (omega arith);
+  };
+  used = record { from = refl; asks = ap (map Some) spent-asks };
+  past = record { within = omega arith; later = λ e c. absurd (no_thing e c); none = λ d. refl };
   asked = λ e x c q. subst (λ (l : List Asking). Contains l x) (sym spent-asks_past) (is_asked e x c q);
-  of_a_cell = of_two (λ (e : Event). e.cell < 1) (event_in 0 1 1) (event_in 1 0 2) (omega arith) (omega arith);
-  cells = λ x. (λ c. inl c, is_cell_in x);
-  cells_sorted = (λ z c. absurd (no_thing z c), tt);
+  cells = inl (inl (0, omega arith, refl), ([], refl, refl));
   legal = spent-legal;
   out = ap (λ (zs : List ℕ). line (pos 1) ++ zs) (sym (append-nil (line (pos 1))));
 }
@@ -176,7 +169,7 @@ one_past = record spent { past = 1 }
 
 one_past-refused : Explained prints_forever [] 2 one_past → ⊥
 unfolding mean one many below
-one_past-refused r = not_both _ refl (r.past_later (event_in 1 0 2) (0, omega arith, refl))
+one_past-refused r = not_both _ refl (r.past.later (event_in 1 0 2) (0, omega arith, refl))
 
 -- ---- its lines
 

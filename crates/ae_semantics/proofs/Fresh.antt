@@ -17,7 +17,8 @@ use Rattle.ae_rules.specs.Paths.{begins}
 use Rattle.ae_semantics.specs.Unfolding.{Only, LiesIn, under_way, Frame, Begun, Stage, Waiting, all_wait, nodes_from, nodes, gathered, Place, Within, unfinished_at, unfinished, halted, unfolded, halt_place, observed, Passage, Trail, passage, watching_machine, no_trail, watched_run, trail, IsEntered, StandsFor, how_many, results, results_at, turns, turns_at, betweens, betweens_at, unfolded_at, frames_at, halted_at, left_out, left_out_at, events, events_at, cells, cells_at}
 use Rattle.ae_semantics.specs.Laws.{FreshStandsFor}
 use Rattle.ae_semantics.proofs.Watched.{watching_changes_nothing}
-use Rattle.ae_semantics.proofs.Kept.{MayMark, Kept, MayRun, kept_block, kept_below, kept_from_first}
+use Rattle.ae_semantics.proofs.Kept.{MayMark, Kept, kept_block, kept_from_first}
+use Rattle.ae_semantics.proofs.Alongside.{MayRun}
 
 -- ---- a tree in which all statements wait
 
@@ -166,8 +167,7 @@ entered p m ints fuel table n End = tt
 entered p m ints fuel table n (Next at a rest) =
     let y : Passage = passage (main_here p n m) (whole (Next at a rest) (main_here p n m)) 0 (main_state p m ints) (no_notes no_trail) in (
       y,
-      kept_from_first (λ ms w. Contains w.found y) (λ q. Unit {0}) (found_kept y) p table (below (watching_machine p table) fuel)
-          (kept_below (λ ms w. Contains w.found y) (λ q. Unit {0}) (found_kept y) p table fuel)
+      kept_from_first (λ ms w. Contains w.found y) (λ q. Unit {0}) (found_kept y) p table fuel
           (main_here p n m) at a rest (all_free [] 0 (Next at a rest)) (main_state p m ints) (no_notes no_trail) (0, omega arith, refl),
       refl,
       counted (Next at a rest),
@@ -181,8 +181,7 @@ all_inside p m ints fuel table n x c =
     let places : List Place = unfinished (tree_of p m ints) in
     let ok : Instance → Type 0 = IsWithin places in
     all_may_ran ok (notes_of (main_run p ints fuel table n m m.body)).marks
-    (kept_block (λ ms w. AllMay ok ms) ok (ran_kept places) p table (below (watching_machine p table) fuel)
-    (kept_below (λ ms w. AllMay ok ms) ok (ran_kept places) p table fuel)
+    (kept_block (λ ms w. AllMay ok ms) ok (ran_kept places) p table fuel
     (main_here p n m) m.body (waiting places [] 0 m.body (λ y d. d)) (main_state p m ints) (no_notes no_trail) tt)
     x c
 

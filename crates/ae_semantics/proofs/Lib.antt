@@ -1,6 +1,8 @@
 mod Programs
 mod Examples
 mod GroupExamples
+mod AliasExamples
+mod CellExamples
 mod Follow
 mod LawLemmas
 mod FlowExamples
@@ -18,3 +20,9 @@ mod UnfoldingLoopExamples
 mod Watched
 mod Kept
 mod Fresh
+mod Related
+mod Alongside
+mod Alone
+mod Flowing
+mod Reading
+mod Walked

@@ -14,9 +14,9 @@ use Rattle.ae_rules.specs.Instances.{Instance, Ordered}
 use Rattle.ae_rules.specs.Paths.{comes_before}
 use Rattle.ae_semantics.specs.Observations.{Piece, OfLog, Trapped, Done, Trap}
 use Rattle.ae_semantics.specs.Meaning.{one, many, below}
-use Rattle.ae_semantics.specs.Means.{Asking, First, mean}
+use Rattle.ae_semantics.specs.Means.{Asking, mean}
 use Rattle.ae_semantics.specs.Atom.{atom, part}
-use Rattle.ae_semantics.specs.Report.{Event, Report, LeadsTo, Legal, Explained, mean_of, part_of, asking_of, IsEntered, first_of}
+use Rattle.ae_semantics.specs.Report.{Event, Report, LeadsTo, Legal, Explained, mean_of, part_of, asking_of, first_of}
 use Rattle.ae_semantics.proofs.ReportWords.{by_test, no_thing, one_thing, of_two, pair_of_two, two_differ, some_same, carried_same, asking_same, one_same, two_same, unparted, part_so, fork_of, used_at, backwards, side_by_side, hidden, unused, rises_two, one_cell, nothing_given}
 use Rattle.ae_semantics.proofs.Programs.{at, name, need, top_method, nothing_out}
 use Rattle.ae_semantics.proofs.ReportExamples.{first_block, second_block, event_at, piece_two, log_cell, IsBlock, free_in, inside_split, asking, both_asks}
@@ -114,11 +114,6 @@ is_trapped_asked : (e : Event) (x : Asking) → Contains trapped.events e → as
 is_trapped_asked e x c = of_two (λ (d : Event). asking_of trapped d ≡ Some x → Contains both_asks x) trap_event (event_at second_block 3 1)
     (λ q. (0, omega arith, some_same (asking first_block 2) x q)) (λ q. (1, omega arith, some_same (asking second_block 3) x q)) e c
 
-is_trapped_cell : (x : First) → IsEntered trap_before_a_print [] 10 trapped x → Contains (map first_of trapped.cells) x
-unfolding mean part one many below
-is_trapped_cell x (inl c) = c
-is_trapped_cell x (inr c) = c.0
-
 not_done : (code : ℕ) (spot : Spot) → Trap code spot ≡ Done → ⊥
 not_done code spot e = cc
 
@@ -127,17 +122,15 @@ trapped-explained : Explained trap_before_a_print [] 10 trapped
 unfolding mean part one many below atom
 trapped-explained = record {
   ending = refl;
-  used = refl;
-  events_used = ap (map Some) trapped-asks;
-  sorted = pair_of_two (λ (d e : Event). comes_before d.path e.path ≡ true) trap_event (event_at second_block 3 1) refl;
-  own_path = of_two (λ (e : Event). e.ask.path ≡ e.path) trap_event (event_at second_block 3 1) refl refl;
-  past_later = λ e c. subst (λ (d : Event). comes_before first_block d.path ≡ true) (one_thing (event_at second_block 3 1) e c) refl;
-  none_past = λ d. absurd (not_done 5 (at 3 22) d);
-  past_within = omega arith;
+  events = record {
+    in_order = pair_of_two (λ (d e : Event). comes_before d.path e.path ≡ true) trap_event (event_at second_block 3 1) refl;
+    own_path = of_two (λ (e : Event). e.ask.path ≡ e.path) trap_event (event_at second_block 3 1) refl refl;
+    of_a_cell = of_two (λ (e : Event). e.cell < 1) trap_event (event_at second_block 3 1) (omega arith) (omega arith);
+  };
+  used = record { from = refl; asks = ap (map Some) trapped-asks };
+  past = record { within = omega arith; later = λ e c. subst (λ (d : Event). comes_before first_block d.path ≡ true) (one_thing (event_at second_block 3 1) e c) refl; none = λ d. absurd (not_done 5 (at 3 22) d) };
   asked = λ e x c q. subst (λ (l : List Asking). Contains l x) (sym trapped-asks_past) (is_trapped_asked e x c q);
-  of_a_cell = of_two (λ (e : Event). e.cell < 1) trap_event (event_at second_block 3 1) (omega arith) (omega arith);
-  cells = λ x. (λ c. inl c, is_trapped_cell x);
-  cells_sorted = (λ z c. absurd (no_thing z c), tt);
+  cells = inl (inl (0, omega arith, refl), ([], refl, refl));
   legal = trapped-legal;
   out = refl;
 }

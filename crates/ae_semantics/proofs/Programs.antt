@@ -1,5 +1,5 @@
 -- Words to write programs as plain data with.
-use Rattle.std.specs.Prelude.{◌≡◌, ℕ, nat_eq, if◌then◌else◌, ℤ, List, [], ◌∷◌, ◌++◌, map, Option, None, Some}
+use Rattle.std.specs.Prelude.{◌≡◌, ℕ, nat_eq, if◌then◌else◌, ℤ, List, [], ◌∷◌, ◌++◌, map, length, Option, None, Some}
 use Rattle.std.specs.Fmt.{signed_decimal}
 use Rattle.ae_text.specs.declared.refusal.Spot.{Spot}
 use Rattle.ae_code.specs.declared.tree.NameAt.{NameAt}
@@ -70,13 +70,13 @@ printed m = map (λ (x : Piece). x.bytes) m.log
 pub record Comes (p : Code) (ints : List ℤ) (fuel : ℕ) (seen : List Seen) (end : Ending) (pieces : List (List ℕ)) (count : ℕ) : Type 0 where
   pub ending : (mean p ints fuel seen).ending ≡ Some end
   pub out : printed (mean p ints fuel seen) ≡ pieces
-  pub used : (mean p ints fuel seen).used ≡ count
+  pub used : length (mean p ints fuel seen).used ≡ count
 
 -- it has no ending, for want of an observation that fits
 pub record Waits (p : Code) (ints : List ℤ) (fuel : ℕ) (seen : List Seen) (pieces : List (List ℕ)) (count : ℕ) : Type 0 where
   pub ending : (mean p ints fuel seen).ending ≡ None
   pub out : printed (mean p ints fuel seen) ≡ pieces
-  pub used : (mean p ints fuel seen).used ≡ count
+  pub used : length (mean p ints fuel seen).used ≡ count
 
 -- nothing comes out of a block
 abbrev pub nothing_out : Carried

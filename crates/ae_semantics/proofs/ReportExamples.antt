@@ -17,9 +17,9 @@ use Rattle.ae_rules.specs.Paths.{comes_before, begins, is_simple_at}
 use Rattle.ae_semantics.specs.Places.{CellName}
 use Rattle.ae_semantics.specs.Observations.{Piece, Image, OfLog, Carried, Ask, Answer, Gave, Trapped, Done}
 use Rattle.ae_semantics.specs.Meaning.{one, many, below}
-use Rattle.ae_semantics.specs.Means.{At, Asking, First, mean, bytes_of}
+use Rattle.ae_semantics.specs.Means.{At, Asking, mean, bytes_of}
 use Rattle.ae_semantics.specs.Atom.{atom, part}
-use Rattle.ae_semantics.specs.Report.{Event, Cell, Line, Report, AllDiffer, Leads, LeadsTo, Legal, Explained, mean_of, part_of, asking_of, IsEntered, first_of, Covers, IsOf, IsLater, Keeps, traced_part, Traced}
+use Rattle.ae_semantics.specs.Report.{Event, Cell, Line, Report, AllDiffer, Leads, LeadsTo, Legal, Explained, mean_of, part_of, asking_of, Covers, IsOf, IsLater, Keeps, traced_part, Traced}
 use Rattle.ae_semantics.proofs.ReportWords.{no_thing, of_two, of_three, pair_of_two, two_differ, some_same, carried_same, asking_same, two_same, and_false, not_both, unparted, part_so, fork_of, conflict_so, used_at, backwards, side_by_side, hidden, unused, rises_two, one_cell, by_test, nothing_given, one_line, two_lines, all_differ-so, no_line}
 use Rattle.ae_semantics.proofs.Programs.{at, name, path, need, top_method, line, nothing_out, number_out}
 
@@ -191,27 +191,20 @@ is_asked s t order pieces out trace e x c = of_two (λ (d : Event). asking_of (r
     (event_at first_block 2 s) (event_at second_block 3 t)
     (λ q. (0, omega arith, some_same (asking first_block 2) x q)) (λ q. (1, omega arith, some_same (asking second_block 3) x q)) e c
 
-is_cell_in : (s t : ℕ) (order : List ℕ) (pieces : List Piece) (out : List ℕ) (trace : List Line) (x : First) → IsEntered two_prints [] 10 (report s t order pieces out trace) x → Contains (map first_of (report s t order pieces out trace).cells) x
-unfolding mean one many below
-is_cell_in s t order pieces out trace x (inl c) = c
-is_cell_in s t order pieces out trace x (inr (c, some)) = absurd (no_thing some.0 some.1)
-
 explained : (s t : ℕ) (order : List ℕ) (pieces : List Piece) (out : List ℕ) (trace : List Line) → out ≡ bytes_of pieces ++ [] → Legal two_prints (report s t order pieces out trace)
     → Explained two_prints [] 10 (report s t order pieces out trace)
 unfolding mean part one many below atom
 explained s t order pieces out trace same legal = record {
   ending = refl;
-  used = refl;
-  events_used = ap (map Some) (asked_in s t order pieces out trace);
-  sorted = pair_of_two (λ (d e : Event). comes_before d.path e.path ≡ true) (event_at first_block 2 s) (event_at second_block 3 t) refl;
-  own_path = of_two (λ (e : Event). e.ask.path ≡ e.path) (event_at first_block 2 s) (event_at second_block 3 t) refl refl;
-  past_later = λ e c. absurd (no_thing e c);
-  none_past = λ d. refl;
-  past_within = omega arith;
+  events = record {
+    in_order = pair_of_two (λ (d e : Event). comes_before d.path e.path ≡ true) (event_at first_block 2 s) (event_at second_block 3 t) refl;
+    own_path = of_two (λ (e : Event). e.ask.path ≡ e.path) (event_at first_block 2 s) (event_at second_block 3 t) refl refl;
+    of_a_cell = of_two (λ (e : Event). e.cell < 1) (event_at first_block 2 s) (event_at second_block 3 t) (omega arith) (omega arith);
+  };
+  used = record { from = refl; asks = ap (map Some) (asked_in s t order pieces out trace) };
+  past = record { within = omega arith; later = λ e c. absurd (no_thing e c); none = λ d. refl };
   asked = λ e x c q. subst (λ (l : List Asking). Contains l x) (sym (asked_past s t order pieces out trace)) (is_asked s t order pieces out trace e x c q);
-  of_a_cell = of_two (λ (e : Event). e.cell < 1) (event_at first_block 2 s) (event_at second_block 3 t) (omega arith) (omega arith);
-  cells = λ x. (λ c. inl c, is_cell_in s t order pieces out trace x);
-  cells_sorted = (λ z c. absurd (no_thing z c), tt);
+  cells = inl (inl (0, omega arith, refl), ([], refl, refl));
   legal = legal;
   out = same;
 }
@@ -378,27 +371,20 @@ is_written_asked : (e : Event) (x : Asking) → Contains writing_first.events e 
 is_written_asked e x c = of_two (λ (d : Event). asking_of writing_first d ≡ Some x → Contains written_asks x) writing printing
     (λ q. (0, omega arith, some_same (record { cell = written_cell.name; ask = writing.ask }) x q)) (λ q. (1, omega arith, some_same (record { cell = written_cell.name; ask = printing.ask }) x q)) e c
 
-is_written_cell : (x : First) → IsEntered written_then_printed [] 10 writing_first x → Contains (map first_of writing_first.cells) x
-unfolding mean part one many below
-is_written_cell x (inl c) = c
-is_written_cell x (inr c) = c.0
-
 -- The block that prints asks with what the other one answered.
 writing_first-explained : Explained written_then_printed [] 10 writing_first
 unfolding mean part one many below atom
 writing_first-explained = record {
   ending = refl;
-  used = refl;
-  events_used = ap (map Some) writing_first-asks;
-  sorted = pair_of_two (λ (d e : Event). comes_before d.path e.path ≡ true) writing printing refl;
-  own_path = of_two (λ (e : Event). e.ask.path ≡ e.path) writing printing refl refl;
-  past_later = λ e c. absurd (no_thing e c);
-  none_past = λ d. refl;
-  past_within = omega arith;
+  events = record {
+    in_order = pair_of_two (λ (d e : Event). comes_before d.path e.path ≡ true) writing printing refl;
+    own_path = of_two (λ (e : Event). e.ask.path ≡ e.path) writing printing refl refl;
+    of_a_cell = of_two (λ (e : Event). e.cell < 1) writing printing (omega arith) (omega arith);
+  };
+  used = record { from = refl; asks = ap (map Some) writing_first-asks };
+  past = record { within = omega arith; later = λ e c. absurd (no_thing e c); none = λ d. refl };
   asked = λ e x c q. subst (λ (l : List Asking). Contains l x) (sym writing_first-asks_past) (is_written_asked e x c q);
-  of_a_cell = of_two (λ (e : Event). e.cell < 1) writing printing (omega arith) (omega arith);
-  cells = λ x. (λ c. inl c, is_written_cell x);
-  cells_sorted = (λ z c. absurd (no_thing z c), tt);
+  cells = inl (inl (0, omega arith, refl), ([], refl, refl));
   legal = writing_first-legal;
   out = one_line (line (pos 1));
 }

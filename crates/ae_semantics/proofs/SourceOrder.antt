@@ -1,17 +1,14 @@
 -- Runs that begin things in source order.
-use Rattle.std.proofs.Common.{◌≡◌, ◌<◌, inl, inr, refl, ap, sym, subst, ◌∙◌, arith, ℕ, zero, suc, nat_eq, nat_lt, Bool, true, false, ◌&&◌, ◌||◌, if◌then◌else◌, List, [], ◌∷◌, ◌++◌, map, Option, None, Some, Contains}
-use Rattle.std.specs.Prelude.{⊤}
+use Rattle.std.proofs.Common.{◌≡◌, ◌<◌, inl, inr, refl, ap, sym, subst, ◌∙◌, arith, ℕ, zero, suc, nat_eq, nat_lt, Bool, true, false, ◌&&◌, ◌||◌, if◌then◌else◌, List, [], ◌∷◌, ◌++◌, map, Contains}
 use Rattle.std.proofs.lemmas.List.{append_assoc, append-nil}
 use Rattle.std.proofs.lemmas.List.Elements.{Contains-append_cases}
 use Rattle.std.proofs.lemmas.Bool.{eqb-true}
 use Rattle.std.proofs.lemmas.Bool.Decides.{nat_tests}
-use Rattle.ae_text.specs.declared.refusal.Spot.{Spot}
 use Rattle.ae_rules.specs.Instances.{Instance}
 use Rattle.ae_rules.specs.Paths.{comes_before, later_of}
-use Rattle.ae_rules.specs.Verdict as rules
-use Rattle.ae_semantics.specs.Places.{Outcome, Fine, Traps, Lacks, State}
+use Rattle.ae_semantics.specs.Places.{State}
 use Rattle.ae_semantics.specs.Observations.{Mark, Ran, Turned, Entered, Asked, Used, Stopped, Notes}
-use Rattle.ae_semantics.specs.Runs.{Run, Went, Ends, Stops, Act, and_then, given, chosen}
+use Rattle.ae_semantics.specs.Runs.{Run, Went, Ends, Stops, Act, and_then}
 use Rattle.ae_semantics.specs.Means.{At, ran_in, turns_in, notes_of}
 use Rattle.ae_semantics.specs.Report.{turn_path, last_path}
 
@@ -203,9 +200,6 @@ pub record Adds {W : Type 0} (P : Instance → Type 0) (before : List Mark) (r :
   pub rises : Rises (places new)
   pub each : Every P (places new)
 
-abbrev pub Nowhere : Instance → Type 0
-Nowhere q = ⊥
-
 pub adds_none : {W : Type 0} (P : Instance → Type 0) (before : List Mark) (r : Run W) → (notes_of r).marks ≡ before → Adds P before r
 adds_none P before r e = record { new = []; added = e ∙ sym (append-nil before); rises = tt; each = tt }
 
@@ -227,14 +221,6 @@ adds_then P Q R before (Went s n) go f g h a k =
       each = subst (Every R) (sym e) (every_append R (places a.new) (places b.new) (every_as P R (places a.new) g a.each) (every_as Q R (places b.new) h b.each));
     }
 
--- what follows tells of no place
-pub adds_more : {W : Type 0} (P : Instance → Type 0) (before : List Mark) (r : Run W) (go : Act W) → Adds P before r → ((s : State) (n : Notes W) → Adds Nowhere n.marks (go s n)) → Adds P before (and_then r go)
-adds_more P before r go a k = adds_then P Nowhere P before r go (λ x y p q. absurd q) (λ x p. p) (λ x q. absurd q) a k
-
--- what came first tells of no place
-pub adds_behind : {W : Type 0} (P : Instance → Type 0) (before : List Mark) (r : Run W) (go : Act W) → Adds Nowhere before r → ((s : State) (n : Notes W) → Adds P n.marks (go s n)) → Adds P before (and_then r go)
-adds_behind P before r go a k = adds_then Nowhere P P before r go (λ x y p q. absurd p) (λ x p. absurd p) (λ x q. q) a k
-
 -- a mark without a place
 pub adds_silent : {W : Type 0} (P : Instance → Type 0) (before : List Mark) (m : Mark) (r : Run W) → ((ms : List Mark) → places (m ∷ ms) ≡ places ms) → Adds P (before ++ (m ∷ [])) r → Adds P before r
 adds_silent P before m r e a = record {
@@ -253,25 +239,6 @@ adds_place P R before m q r e f h g a = record {
   rises = subst Rises (sym (e a.new)) (every_as P (IsUpTo q) (places a.new) f a.each, a.rises);
   each = subst (Every R) (sym (e a.new)) (h, every_as P R (places a.new) g a.each);
 }
-
--- ---- the ways that runs are put together
-
-pub adds_given : {A W : Type 0} (P : Instance → Type 0) (o : Outcome A) (at : Spot) (n : Notes W) (f : A → Run W) → ((x : A) → o ≡ Fine x → Adds P n.marks (f x)) → Adds P n.marks (given o at n f)
-adds_given P (Fine x) at n f k = k x refl
-adds_given P (Traps code) at n f k = adds_none P n.marks _ refl
-adds_given P Lacks at n f k = adds_none P n.marks _ refl
-
-pub adds_chosen : {W : Type 0} (P : Instance → Type 0) (before : List Mark) (b : Bool) (f g : ⊤ → Run W) → Adds P before (f tt) → Adds P before (g tt) → Adds P before (chosen b f g)
-adds_chosen P before true f g a c = a
-adds_chosen P before false f g a c = c
-
-pub adds_if : {W : Type 0} (P : Instance → Type 0) (before : List Mark) (b : Bool) (r q : Run W) → Adds P before r → Adds P before q → Adds P before (if b then r else q)
-adds_if P before true r q a c = a
-adds_if P before false r q a c = c
-
-pub adds_option : {A W : Type 0} (P : Instance → Type 0) (before : List Mark) (o : Option A) (r : Run W) (f : A → Run W) → Adds P before r → ((x : A) → Adds P before (f x)) → Adds P before (rules.given o r f)
-adds_option P before None r f a k = a
-adds_option P before (Some x) r f a k = k x
 
 -- ---- where a run ended
 

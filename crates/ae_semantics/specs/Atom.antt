@@ -8,7 +8,7 @@ use Rattle.ae_rules.specs.Verdict.{given}
 use Rattle.ae_rules.specs.Lookups.{method_at}
 use Rattle.ae_rules.specs.Blocks.{Scene, or_else, scene}
 use Rattle.ae_semantics.specs.Values.{Store}
-use Rattle.ae_semantics.specs.Places.{Here, State, members}
+use Rattle.ae_semantics.specs.Places.{Here, State, group_of, members}
 use Rattle.ae_semantics.specs.Observations.{Piece, Image, OfStore, OfLog, Ask, Answer, Gave, Trapped, Spent, Seen, Query, Done, Trap, Fuel, Notes, Observer}
 use Rattle.ae_semantics.specs.Runs.{Run, Went, Ends, Stops, Where, Machine, flowing}
 use Rattle.ae_semantics.specs.Blocks.{else_uses, values_out}
@@ -71,7 +71,7 @@ pub record Atomed : Type 0 where
   pub asked : List Asking
 
 abbrev pub image_after : {W : Type 0} → ℕ → Image → State → Notes W → Image
-image_after g image s n = if nat_eq io g then OfLog n.log else given (members (s.groups g)) image OfStore
+image_after g image s n = if nat_eq io g then OfLog n.log else given (members (group_of s g)) image OfStore
 
 -- a block that ends the run leaves the image as it was, and its pieces are lost
 abbrev pub atomed : {W : Type 0} → Uses → ℕ → Image → State → Run W → Atomed

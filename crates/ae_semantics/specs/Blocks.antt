@@ -17,10 +17,10 @@ use Rattle.ae_rules.specs.Forms.{same_form}
 use Rattle.ae_rules.specs.Context.{Local, Context, each_name}
 use Rattle.ae_rules.specs.Uses.{outside, all_but, lines_use}
 use Rattle.ae_rules.specs.Blocks.{Scene}
-use Rattle.ae_semantics.specs.Values.{fits}
-use Rattle.ae_semantics.specs.Places.{CellName, Group, Here, Away, Bound, State, with_group, members}
+use Rattle.ae_semantics.specs.Values.{fits, is_low, all_low}
+use Rattle.ae_semantics.specs.Places.{CellName, Group, Here, Away, Bound, State, group_of, with_group, members}
 use Rattle.ae_semantics.specs.Contexts.{after, shuts_out}
-use Rattle.ae_semantics.specs.Observations.{Piece, Image, OfStore, OfLog, Carried, Ask, Answer, Gave, Trapped, Spent, Seen, OfBlock, OfCell, AtBlock, AtEnd, Trap, Fuel, Entered, Asked, Used, Notes}
+use Rattle.ae_semantics.specs.Observations.{Piece, Image, OfStore, OfLog, Carried, Ask, Answer, Gave, Trapped, Spent, Seen, OfBlock, OfCell, FromBlock, FromCell, Origin, AtBlock, AtEnd, Trap, Fuel, Entered, Asked, Used, Notes}
 use Rattle.ae_semantics.specs.Runs.{Run, Went, Ends, Stops, Act, and_then, marked, Where, locking, whole, Machine}
 
 -- ---- split blocks
@@ -31,7 +31,7 @@ cell_of here g = record { path = here.path; group = g }
 
 -- what there is of a group: its members, or the log where it is `io`
 abbrev pub image_of : {W : Type 0} → ℕ → State → Notes W → Option Image
-image_of g s n = if nat_eq io g then Some (OfLog n.log) else option_map OfStore (members (s.groups g))
+image_of g s n = if nat_eq io g then Some (OfLog n.log) else option_map OfStore (members (group_of s g))
 
 abbrev pub to_cell : {W : Type 0} → Where → ℕ → Image → Act W
 to_cell here g image s n =
@@ -48,8 +48,9 @@ abbrev pub all_go_away : {W : Type 0} → Where → List NameAt → Act W
 all_go_away here [] s n = Went s n
 all_go_away here (g ∷ gs) s n = and_then (goes_away here g.name s n) (all_go_away here gs)
 
+-- the members of a cell come back; where one of them is too high they do not fit
 abbrev pub store_back : {W : Type 0} → ℕ → Image → Act W
-store_back g (OfStore st) s n = Went (with_group g (Some (Here st)) s) n
+store_back g (OfStore st) s n = if all_low st then Went (with_group g (Some (Here st)) s) n else Stops n
 store_back g (OfLog pieces) s n = Stops n
 
 abbrev pub log_back : {W : Type 0} → Image → Act W
@@ -62,14 +63,15 @@ unless_stopped (Went s m) n = Went s m
 unless_stopped (Ends ending m) n = Ends ending m
 unless_stopped (Stops m) n = Stops n
 
-abbrev pub used : {W : Type 0} → List ℕ → W → Notes W → Notes W
-used path w n = record (marked (Used path) n) { watch = w }
+-- an observation from here is used
+abbrev pub used : {W : Type 0} → Origin → W → Notes W → Notes W
+used from w n = record (marked (Used from) n) { watch = w }
 
 -- what was observed of a cell comes back
 abbrev pub cell_back : {W : Type 0} → Where → ℕ → Seen × W → Act W
 cell_back here g (OfBlock a, w) s n = Stops n
 cell_back here g (OfCell image, w) s n = unless_stopped
-    (if nat_eq io g then log_back image s (used here.path w n) else store_back g image s (used here.path w n)) n
+    (if nat_eq io g then log_back image s (used (FromCell (cell_of here g)) w n) else store_back g image s (used (FromCell (cell_of here g)) w n)) n
 
 abbrev pub comes_back : {W : Type 0} → Machine W → Where → ℕ → Image → Act W
 comes_back m here g first s n = rules.given (m.observer n.watch (AtEnd (cell_of here g) first)) (Stops n) (λ seen. cell_back here g seen s n)
@@ -85,12 +87,11 @@ all_come_back m here (g ∷ gs) before log s n = and_then
 
 -- the cell of a group that is away
 abbrev pub cell_in : Option Group → Option CellName
-cell_in None = None
-cell_in (Some (Here st)) = None
 cell_in (Some (Away c)) = Some c
+cell_in _ = None
 
 abbrev pub cell_at : {W : Type 0} → ℕ → State → Notes W → Option CellName
-cell_at g s n = if nat_eq io g then n.cell else cell_in (s.groups g)
+cell_at g s n = if nat_eq io g then n.cell else cell_in (group_of s g)
 
 -- what an atomic block of a group uses of all else
 abbrev pub else_uses : Code → ℕ → Scene → Uses
@@ -100,20 +101,20 @@ else_uses p g b = all_but (resource.Group g) (outside b.start (lines_use p b.met
 abbrev pub values_in : Uses → State → Carried
 values_in u s = record {
   locals = λ x. if is_some (u (resource.Local x)) then s.locals x else None;
-  stores = λ g. if is_some (u (resource.Group g)) then members (s.groups g) else None;
+  stores = λ g. if is_some (u (resource.Group g)) then members (group_of s g) else None;
   pieces = None;
 }
 
 -- a group's members come out where the block uses all of it, or uses it and they went in
 abbrev pub store_out : Uses → State → ℕ → Bool
 store_out u before g = not (nat_eq io g) &&
-    (shuts_out (u (resource.Group g)) || (is_some (u (resource.Group g)) && is_some (members (before.groups g))))
+    (shuts_out (u (resource.Group g)) || (is_some (u (resource.Group g)) && is_some (members (group_of before g))))
 
 -- the values of what a block changes, and the pieces that it appended where it uses `io` beside its own group
 abbrev pub values_out : Uses → State → State → List Piece → Carried
 values_out u before s pieces = record {
   locals = λ x. if shuts_out (u (resource.Local x)) then s.locals x else None;
-  stores = λ g. if store_out u before g then members (s.groups g) else None;
+  stores = λ g. if store_out u before g then members (group_of s g) else None;
   pieces = if shuts_out (u (resource.Group io)) then Some pieces else None;
 }
 
@@ -124,7 +125,7 @@ same_presence (Some x) None test = false
 same_presence (Some x) (Some y) test = test x y
 
 abbrev pub fits_form : Code → Form → Bound → Bool
-fits_form p form b = same_form form b.form && fits p form b.value
+fits_form p form b = same_form form b.form && fits p form b.value && is_low b.value
 
 -- the permission of an object of which this is held, where its name stands for it
 abbrev pub perm_held : Held → Option Perm
@@ -150,9 +151,9 @@ wanted u later x = if shuts_out (u (resource.Local x)) then holds_now later x el
 abbrev pub name_fits : Code → Uses → Context → State → Carried → ℕ → Bool
 name_fits p u later before out x =
     same_presence (wanted u later x) (out.locals x) (fits_form p)
-    && (if store_out u before x then is_some (out.stores x) else not (is_some (out.stores x)))
+    && (if store_out u before x then rules.given (out.stores x) false all_low else not (is_some (out.stores x)))
 
--- values out have the names and forms that the block's place asks for
+-- values out have the names and forms that the block's place asks for, and none of them is too high
 abbrev pub out_fits : Code → Uses → Context → State → Carried → Bool
 out_fits p u later before out =
     each_name p (name_fits p u later before out)
@@ -178,9 +179,9 @@ answered p u later (Gave out) unused s n = if out_fits p u later s out then with
 answered p u later (Trapped code at) unused s n = Ends (Trap code at) n
 answered p u later (Spent at) unused s n = Ends (Fuel at) n
 
-abbrev pub block_back : {W : Type 0} → Code → Uses → Context → List ℕ → Seen × W → Act W
-block_back p u later path (OfCell image, w) s n = Stops n
-block_back p u later path (OfBlock a, w) s n = answered p u later a n s (used path w n)
+abbrev pub block_back : {W : Type 0} → Code → Uses → Context → Origin → Seen × W → Act W
+block_back p u later from (OfCell image, w) s n = Stops n
+block_back p u later from (OfBlock a, w) s n = answered p u later a n s (used from w n)
 
 -- what an atomic block asks
 abbrev pub ask_of : Where → ℕ → ℕ → Uses → State → Ask
@@ -194,7 +195,7 @@ ask_of here number fuel u s = record {
 }
 
 abbrev pub put_to : {W : Type 0} → Machine W → Ask → Uses → Context → Act W
-put_to m ask u later s n = rules.given (m.observer n.watch (AtBlock ask)) (Stops n) (λ seen. block_back m.code u later ask.path seen s n)
+put_to m ask u later s n = rules.given (m.observer n.watch (AtBlock ask)) (Stops n) (λ seen. block_back m.code u later (FromBlock ask.path) seen s n)
 
 -- a block of a group that is away asks the observer
 abbrev pub asks : {W : Type 0} → Machine W → Where → Spot → CellName → NameAt → ℕ → Lines → ℕ → Act W

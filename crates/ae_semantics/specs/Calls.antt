@@ -1,7 +1,5 @@
 -- A call in two halves: what goes into the method's body, and what comes back from it.
-use Rattle.std.specs.Prelude.{ℕ, ◌+◌, nat_eq, Bool, true, false, ◌&&◌, not, if◌then◌else◌, List, [], ◌∷◌, zip, filter_map, Option, None, Some}
-use Rattle.ae_code.specs.declared.tree.Need.{Need}
-use Rattle.ae_code.specs.declared.tree.Need.TheVariants as need
+use Rattle.std.specs.Prelude.{ℕ, ◌+◌, nat_eq, Bool, true, false, ◌&&◌, not, if◌then◌else◌, List, [], ◌∷◌, zip, filter_map, Option, None, Some, option_map}
 use Rattle.ae_code.specs.declared.tree.GroupNeed.{GroupNeed}
 use Rattle.ae_code.specs.Plain.{Definition, Code, Expression, Read, Invocation}
 use Rattle.ae_rules.specs.Verdict as rules
@@ -11,7 +9,7 @@ use Rattle.ae_rules.specs.Calls.{Callee, top_callee, callee_of, group_in, Slot, 
 use Rattle.ae_rules.specs.Judges.{start}
 use Rattle.ae_rules.specs.Instances.{param_names}
 use Rattle.ae_semantics.specs.Values.{Val}
-use Rattle.ae_semantics.specs.Places.{Outcome, Fine, ◌>>=◌, there, Group, Bound, State, with_local, with_group, Address, walk, write}
+use Rattle.ae_semantics.specs.Places.{Outcome, Fine, ◌>>=◌, there, Group, As, Bound, State, name_of, with_local, with_group, Address, walk, write}
 use Rattle.ae_semantics.specs.Expressions.{value}
 use Rattle.ae_semantics.specs.Runs.{Where}
 
@@ -47,10 +45,11 @@ taken [] xs y = None
 taken (t ∷ ts) [] y = None
 taken (t ∷ ts) (x ∷ xs) y = if nat_eq t.0 y then Some (record { form = t.1.form; value = x.value }) else taken ts xs y
 
--- each group of a need, as the caller has it
+-- Each group of a need, as the caller has it. Where two needs are for one group of the caller, the members stand under the name of the first.
 abbrev pub needed : (ℕ → ℕ) → State → List GroupNeed → ℕ → Option Group
 needed groups s [] g = None
-needed groups s (n ∷ ns) g = if nat_eq n.group.name g then s.groups (groups g) else needed groups s ns g
+needed groups s (n ∷ ns) g = if nat_eq n.group.name g then s.groups (groups g)
+    else (if nat_eq (groups n.group.name) (groups g) then option_map (λ x. As n.group.name) (needed groups s ns g) else needed groups s ns g)
 
 -- a call that is entered: the method, the caller's groups for its own, where its body stands, what the body begins with, and the arguments
 pub record Frame : Type 0 where
@@ -73,9 +72,13 @@ frame p here s c groups xs =
       state = record { locals = taken ts xs; groups = needed groups s c.method.needs; result = None };
     }
 
+-- the caller's name for a group of the method, under which what there is of it stands
+abbrev pub group_given : State → Callee → Invocation → ℕ → ℕ
+group_given s c i g = name_of s (group_in c i.groups g)
+
 -- the first half of a call
 abbrev pub enter : Code → Where → Invocation → State → Outcome Frame
-enter p here i s = called p s i >>= λ c. each_argument p s (givens i) >>= λ xs. Fine (frame p here s c (group_in c i.groups) xs)
+enter p here i s = called p s i >>= λ c. each_argument p s (givens i) >>= λ xs. Fine (frame p here s c (group_given s c i) xs)
 
 -- ---- what comes back
 
@@ -84,16 +87,15 @@ abbrev pub moved : List ℕ → State → State
 moved [] s = s
 moved (x ∷ xs) s = moved xs (with_local x None s)
 
-abbrev pub is_whole : Need → Bool
-is_whole need.Exclusive = true
-is_whole need.Shared = false
-is_whole need.Protected = true
+-- what the method left of a group; what stands under another name comes back under that one
+abbrev pub group_back : ℕ → Option Group → State → State
+group_back g (Some (As h)) s = s
+group_back g c s = with_group g c s
 
--- the groups that the method had to itself
+-- the groups of the needs
 abbrev pub groups_back : (ℕ → ℕ) → List GroupNeed → State → State → State
 groups_back groups [] after s = s
-groups_back groups (n ∷ ns) after s = groups_back groups ns after
-    (if is_whole n.need then with_group (groups n.group.name) (after.groups n.group.name) s else s)
+groups_back groups (n ∷ ns) after s = groups_back groups ns after (group_back (groups n.group.name) (after.groups n.group.name) s)
 
 abbrev pub comes_back : Slot → Bool
 comes_back t = is_unique t.form && not t.away

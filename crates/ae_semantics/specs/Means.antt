@@ -1,5 +1,5 @@
 -- The meaning of a whole program with observations, and its bytes.
-use Rattle.std.specs.Prelude.{ℕ, ℤ, ◌+◌, false, List, [], ◌∷◌, ◌++◌, Option, None, Some}
+use Rattle.std.specs.Prelude.{ℕ, ℤ, false, List, [], ◌∷◌, ◌++◌, Option, None, Some}
 use Rattle.ae_text.specs.declared.refusal.Spot.{Spot}
 use Rattle.ae_code.specs.Names.{main}
 use Rattle.ae_code.specs.Plain.{Definition, Code}
@@ -9,7 +9,7 @@ use Rattle.ae_rules.specs.Judges as judges
 use Rattle.ae_rules.specs.Instances.{Instance}
 use Rattle.ae_semantics.specs.Values.{Owned, Array}
 use Rattle.ae_semantics.specs.Places.{CellName, State}
-use Rattle.ae_semantics.specs.Observations.{Piece, Image, Ask, Seen, Ending, Done, Mark, Ran, Turned, Entered, Asked, Used, Stopped, Notes, Observer}
+use Rattle.ae_semantics.specs.Observations.{Piece, Image, Ask, Seen, Origin, Ending, Done, Mark, Ran, Turned, Entered, Asked, Used, Stopped, Notes, Observer}
 use Rattle.ae_semantics.specs.Runs.{Run, Went, Ends, Stops, Where, stopping, Machine}
 use Rattle.ae_semantics.specs.Calls.{takers, taken}
 use Rattle.ae_semantics.specs.Meaning.{block, below}
@@ -60,16 +60,11 @@ ending_of (Went s n) = Some Done
 ending_of (Ends ending n) = Some ending
 ending_of (Stops n) = None
 
-abbrev pub used_in : List Mark → ℕ
-used_in [] = 0
-used_in (Used path ∷ ms) = used_in ms + 1
-used_in (_ ∷ ms) = used_in ms
-
--- the paths of the blocks and cells whose observations were used
-abbrev pub used_paths : List Mark → List Instance
-used_paths [] = []
-used_paths (Used path ∷ ms) = path ∷ used_paths ms
-used_paths (_ ∷ ms) = used_paths ms
+-- where the observations that were used came from, in order
+abbrev pub origins_in : List Mark → List Origin
+origins_in [] = []
+origins_in (Used from ∷ ms) = from ∷ origins_in ms
+origins_in (_ ∷ ms) = origins_in ms
 
 -- a statement instance and its place
 pub record At : Type 0 where
@@ -129,8 +124,7 @@ stops_in (_ ∷ ms) = stops_in ms
 -- what a run comes to: its ending, where it has one, the log of `io`, and its cell where `io` is split at the end
 pub record Meant : Type 0 where
   pub ending : Option Ending
-  pub used : ℕ
-  pub used_paths : List Instance
+  pub used : List Origin
   pub ran : List At
   pub turns : List Turn
   pub firsts : List First
@@ -144,8 +138,7 @@ meant r =
     let n : Notes _ = notes_of r in
     record {
       ending = ending_of r;
-      used = used_in n.marks;
-      used_paths = used_paths n.marks;
+      used = origins_in n.marks;
       ran = ran_in n.marks;
       turns = turns_in n.marks;
       firsts = firsts_in n.marks;

@@ -41,6 +41,11 @@ pub data Seen : Type 0 where
   OfBlock : Answer → Seen
   OfCell : Image → Seen
 
+-- where an observation comes from: the atomic block at this path, or this cell at the end of its split block
+pub data Origin : Type 0 where
+  FromBlock : Instance → Origin
+  FromCell : CellName → Origin
+
 -- what is to be observed next: the answer of this block, or the cell, with what it held at first
 pub data Query : Type 0 where
   AtBlock : Ask → Query
@@ -58,7 +63,7 @@ pub data Mark : Type 0 where
   Turned : Instance → ℕ → Mark
   Entered : CellName → Image → Mark
   Asked : CellName → Ask → Mark
-  Used : Instance → Mark
+  Used : Origin → Mark
   Stopped : Instance → Option Ending → Mark
 
 -- what a run leaves beside its state: the log of `io`, the cell of `io` where it is split, the marks in order, and the observer

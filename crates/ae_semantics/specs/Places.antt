@@ -1,5 +1,5 @@
 -- Where a path leads, and how what stands there is read and changed.
-use Rattle.std.specs.Prelude.{ℕ, nat_eq, nat_lt, Bool, true, false, if◌then◌else◌, List, [], ◌∷◌, ◌++◌, Option, None, Some, option_map, slice_get}
+use Rattle.std.specs.Prelude.{ℕ, nat_eq, Bool, true, false, if◌then◌else◌, List, [], ◌∷◌, ◌++◌, Option, None, Some, option_map, slice_get}
 use Rattle.std.specs.Prelude as prelude
 use Rattle.ae_code.specs.declared.tree.NameAt.{NameAt}
 use Rattle.ae_code.specs.declared.tree.Path.{Path}
@@ -13,7 +13,7 @@ use Rattle.ae_code.specs.Plain.{Code}
 use Rattle.ae_rules.specs.Verdict.{given}
 use Rattle.ae_rules.specs.Lookups.{class_of, field_number, field_of_kind}
 use Rattle.ae_rules.specs.Walks.{owner}
-use Rattle.ae_semantics.specs.Values.{Val, Owned, Member, Tree, Object, Array, Values, Store, height, is_of_kind, fits, value_at, put}
+use Rattle.ae_semantics.specs.Values.{Val, Owned, Member, Tree, Object, Array, Values, Store, is_low, is_of_kind, fits, value_at, put}
 
 -- ---- outcomes
 
@@ -47,10 +47,11 @@ pub record CellName : Type 0 where
   pub path : List ℕ
   pub group : ℕ
 
--- a group's members are here, or its cell has them
+-- a group's members are here, or its cell has them, or they stand under that other name of the same group
 pub data Group : Type 0 where
   Here : Store → Group
   Away : CellName → Group
+  As : ℕ → Group
 
 -- a local that has a value, with the form of what it holds now: it is shared after `share`, and immutable after `freeze`
 pub record Bound : Type 0 where
@@ -69,17 +70,30 @@ with x new old y = if nat_eq x y then new else old y
 abbrev pub with_local : ℕ → Option Bound → State → State
 with_local x b s = record s { locals = with x b s.locals }
 
+-- a group's own name, or the other one under which its members stand
+abbrev pub other_name : ℕ → Option Group → ℕ
+other_name g (Some (As h)) = h
+other_name g _ = g
+
+-- the name under which what there is of a group stands
+abbrev pub name_of : State → ℕ → ℕ
+name_of s g = other_name g (s.groups g)
+
+-- what there is of a group, by whichever of its names
+abbrev pub group_of : State → ℕ → Option Group
+group_of s g = s.groups (name_of s g)
+
+-- something else of a group, by whichever of its names
 abbrev pub with_group : ℕ → Option Group → State → State
-with_group g c s = record s { groups = with g c s.groups }
+with_group g c s = record s { groups = with (name_of s g) c s.groups }
 
 -- the members of a group that is here
 abbrev pub members : Option Group → Option Store
-members None = None
 members (Some (Here st)) = Some st
-members (Some (Away c)) = None
+members _ = None
 
 abbrev pub store_of : State → ℕ → Outcome Store
-store_of s g = there (members (s.groups g))
+store_of s g = there (members (group_of s g))
 
 -- ---- walks
 
@@ -182,9 +196,9 @@ reach p s path = walk p s path >>= open_place p s
 
 -- ---- writes
 
--- a local or a member does not become higher than 1,000
+-- a local or a member that would become too high is trap 8
 abbrev pub low : Val → Outcome Val
-low v = if nat_lt 1000 (height v) then Traps 8 else Fine v
+low v = if is_low v then Fine v else Traps 8
 
 -- a value for a local; the form is that of what it holds now
 abbrev pub bind : ℕ → Form → Val → State → Outcome State

@@ -6,7 +6,7 @@ use Rattle.ae_rules.specs.Verdict.{given}
 use Rattle.ae_rules.specs.Instances.{Instance, Ordered, Conflict}
 use Rattle.ae_rules.specs.Paths.{comes_before, begins, later_of, is_simple_at}
 use Rattle.ae_semantics.specs.Places.{CellName}
-use Rattle.ae_semantics.specs.Observations.{Piece, Image, OfLog, Ask, Answer, Seen, OfBlock, OfCell, Query, AtBlock, AtEnd, Ending, Done, Trap, Fuel}
+use Rattle.ae_semantics.specs.Observations.{Piece, Image, OfLog, Ask, Answer, Seen, OfBlock, OfCell, Origin, FromBlock, FromCell, Query, AtBlock, AtEnd, Ending, Done, Trap, Fuel}
 use Rattle.ae_semantics.specs.Means.{At, Turn, First, Asking, Meant, mean, bytes}
 use Rattle.ae_semantics.specs.Atom.{atom, part}
 
@@ -49,31 +49,45 @@ abbrev pub AllPairs : {A : Type 0} → (A → A → Type 0) → List A → Type 
 AllPairs rel [] = Unit {0}
 AllPairs rel (x ∷ xs) = ((y : _) → Contains xs y → rel x y) × AllPairs rel xs
 
+-- the second list has those of the first that pass, in their order
+abbrev pub Picks : {A : Type 0} → (A → Type 0) → List A → List A → Type 0
+Picks passes [] ys = ys ≡ []
+Picks passes (x ∷ xs) ys = (passes x × ((rest : List _) × (ys ≡ x ∷ rest) × Picks passes xs rest)) ⊎ ((passes x → ⊥) × Picks passes xs ys)
+
 -- ---- observations in source order
 
--- an observation: a block's answer at its path, or what a cell holds at last, after all that lies in its split block
+-- an observation, and where it comes from
 pub record Item : Type 0 where
-  pub path : Instance
-  pub at_end : Bool
+  pub from : Origin
   pub seen : Seen
 
-abbrev pub item_before : Item → Item → Bool
-item_before a b = if begins a.path b.path then not a.at_end
-    else (if begins b.path a.path then b.at_end else comes_before a.path b.path)
+-- the path of the block, or of the cell's split block
+abbrev pub origin_path : Origin → Instance
+origin_path (FromBlock q) = q
+origin_path (FromCell c) = c.path
+
+abbrev pub is_of_cell : Origin → Bool
+is_of_cell (FromBlock q) = false
+is_of_cell (FromCell c) = true
+
+-- in source order, where a cell comes after all that lies in its split block
+abbrev pub origin_before : Origin → Origin → Bool
+origin_before a b = if begins (origin_path a) (origin_path b) then not (is_of_cell a)
+    else (if begins (origin_path b) (origin_path a) then is_of_cell b else comes_before (origin_path a) (origin_path b))
 
 abbrev pub inserted : Item → List Item → List Item
 inserted x [] = x ∷ []
-inserted x (y ∷ ys) = if item_before y x then y ∷ inserted x ys else x ∷ y ∷ ys
+inserted x (y ∷ ys) = if origin_before y.from x.from then y ∷ inserted x ys else x ∷ y ∷ ys
 
 abbrev pub sorted : List Item → List Item
 sorted [] = []
 sorted (x ∷ xs) = inserted x (sorted xs)
 
 abbrev pub event_item : Event → Item
-event_item e = record { path = e.path; at_end = false; seen = OfBlock e.out }
+event_item e = record { from = FromBlock e.path; seen = OfBlock e.out }
 
 abbrev pub cell_item : Cell → Item
-cell_item c = record { path = c.name.path; at_end = true; seen = OfCell c.last }
+cell_item c = record { from = FromCell c.name; seen = OfCell c.last }
 
 -- the answers of the events and what the cells hold at last, in source order; the cells of one block in written order
 abbrev pub items : Report → List Item
@@ -203,10 +217,9 @@ Concerns p c e = (begins c.path e.path ≡ true) ⊎ Ordered p c.path e.path
 abbrev pub ConcernsSome : Code → Report → CellName → Type 0
 ConcernsSome p r c = (e : Event) × Contains (past_events r) e × Concerns p c e
 
--- the split block is entered by the meaning, or past its ending where a past event concerns it
-abbrev pub IsEntered : Code → List ℤ → ℕ → Report → First → Type 0
-IsEntered p ints fuel r x = Contains (mean_of p ints fuel r).firsts x
-    ⊎ (Contains (part_of p ints fuel r).firsts x × ConcernsSome p r x.cell)
+-- what is entered past the ending counts as entered where the meaning enters it too, or a past event concerns it
+abbrev pub IsReported : Code → List ℤ → ℕ → Report → First → Type 0
+IsReported p ints fuel r x = Contains (mean_of p ints fuel r).firsts x ⊎ ConcernsSome p r x.cell
 
 -- the pieces that a block appended to its group's log
 abbrev pub appended : Image → Image → List Piece
@@ -237,19 +250,33 @@ pieces_from p r c i (x ∷ xs) = if is_cell c x
 abbrev pub io_pieces : Code → Report → Meant → List Piece
 io_pieces p r m = given m.cell [] (λ c. pieces_from p r c 0 r.cells)
 
+-- the events are in source order, each at the path of what it asks, and of one of the report's cells
+pub record AreEvents (r : Report) : Type 0 where
+  pub in_order : AllPairs (λ d e. comes_before d.path e.path ≡ true) r.events
+  pub own_path : (e : Event) → Contains r.events e → e.ask.path ≡ e.path
+  pub of_a_cell : (e : Event) → Contains r.events e → e.cell < length r.cells
+
+-- the observations that the meaning uses are the first ones of the report, and what it asks is what the events before the past ones ask
+pub record AreUsed (m : Meant) (r : Report) : Type 0 where
+  pub from : m.used ≡ take (length m.used) (map (λ (x : Item). x.from) (items r))
+  pub asks : map Some m.asked ≡ event_askings r (used_events r)
+
+-- the past events come after the ending, and where the program went through there are none
+pub record ArePast (m : Meant) (r : Report) : Type 0 where
+  pub within : r.past < suc (length r.events)
+  pub later : (e : Event) → Contains (past_events r) e → comes_before (ended_at m) e.path ≡ true
+  pub none : r.ending ≡ Done → r.past ≡ 0
+
+-- The meaning with the report's observations ends as the report says. It uses the first of them, and the events behind these are past its
+-- ending; what each event asks, the meaning past what stopped asks too. The cells are those of the split blocks that count as entered,
+-- in the order in which the meaning past what stopped enters them, each with what it held then. The order is legal, and the bytes are the meaning's.
 pub record Explained (p : Code) (ints : List ℤ) (fuel : ℕ) (r : Report) : Type 0 where
   pub ending : (mean_of p ints fuel r).ending ≡ Some r.ending
-  pub used : (mean_of p ints fuel r).used_paths ≡ take (mean_of p ints fuel r).used (map (λ (x : Item). x.path) (items r))
-  pub events_used : map Some (mean_of p ints fuel r).asked ≡ event_askings r (used_events r)
-  pub sorted : AllPairs (λ d e. comes_before d.path e.path ≡ true) r.events
-  pub own_path : (e : Event) → Contains r.events e → e.ask.path ≡ e.path
-  pub past_later : (e : Event) → Contains (past_events r) e → comes_before (ended_at (mean_of p ints fuel r)) e.path ≡ true
-  pub none_past : r.ending ≡ Done → r.past ≡ 0
-  pub past_within : r.past < suc (length r.events)
+  pub events : AreEvents r
+  pub used : AreUsed (mean_of p ints fuel r) r
+  pub past : ArePast (mean_of p ints fuel r) r
   pub asked : (e : Event) (x : Asking) → Contains r.events e → asking_of r e ≡ Some x → Contains (part_of p ints fuel r).asked x
-  pub of_a_cell : (e : Event) → Contains r.events e → e.cell < length r.cells
-  pub cells : (x : First) → Contains (map first_of r.cells) x ↔ IsEntered p ints fuel r x
-  pub cells_sorted : AllPairs (λ (c d : Cell). comes_before d.name.path c.name.path ≡ false) r.cells
+  pub cells : Picks (IsReported p ints fuel r) (part_of p ints fuel r).firsts (map first_of r.cells)
   pub legal : Legal p r
   pub out : r.out ≡ bytes (mean_of p ints fuel r) (io_pieces p r (mean_of p ints fuel r))
 

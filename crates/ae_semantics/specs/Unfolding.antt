@@ -10,7 +10,7 @@ use Rattle.ae_code.specs.Plain.{Lines, End, Next, Code}
 use Rattle.ae_rules.specs.Verdict.{given}
 use Rattle.ae_rules.specs.Uses.{lines_use}
 use Rattle.ae_rules.specs.Blocks.{Scene, scene_uses}
-use Rattle.ae_semantics.specs.Places.{State}
+use Rattle.ae_semantics.specs.Places.{State, group_of}
 use Rattle.ae_semantics.specs.Contexts.{shuts_out}
 use Rattle.ae_semantics.specs.Observations.{Piece, Answer, Seen, OfBlock, OfCell, Query, AtBlock, AtEnd, Ending, Notes, Observer}
 use Rattle.ae_semantics.specs.Runs.{Run, Went, Ends, Stops, Act, Where, Order, flow_step, flow_close, Machine}
@@ -366,7 +366,7 @@ trail_of p ints fuel tree = trail p ints fuel (observed tree)
 -- the two moments have the same values where the mode of use passes the test, and the same result
 pub record Agrees (test : Option Mode → Bool) (u : Uses) (a b : Moment) : Type 0 where
   pub locals : (x : ℕ) → test (u (resource.Local x)) ≡ true → a.state.locals x ≡ b.state.locals x
-  pub groups : (g : ℕ) → test (u (resource.Group g)) ≡ true → a.state.groups g ≡ b.state.groups g
+  pub groups : (g : ℕ) → test (u (resource.Group g)) ≡ true → group_of a.state g ≡ group_of b.state g
   pub result : a.state.result ≡ b.state.result
   pub log : shuts_out (u (resource.Group io)) ≡ true → a.log ≡ b.log
 
@@ -472,6 +472,7 @@ pub record StandsFor (p : Code) (ints : List ℤ) (fuel : ℕ) (tree : Frame) : 
   -- the events and the cells are what is observed
   pub each_event : (e : Happened) → Contains (events tree) e → IsAsked (part_of p ints fuel tree) tree e
   pub each_cell : (c : Cell) → Contains (cells tree) c → IsOfEntered (part_of p ints fuel tree) tree c
-  -- all else that the meaning runs is under way, or keeps its place after what is under way
+  -- All else that the meaning runs is under way, or keeps its place after what is under way. A statement whose block is being run counts
+  -- as under way until the block is put away, also where nothing in it is left to do.
   pub all_others : (x : At) → Contains (part_of p ints fuel tree).ran x
       → LiesIn (finished tree) x.path ⊎ LiesIn (under_way tree) x.path ⊎ IsAfter p (under_way tree) x.path

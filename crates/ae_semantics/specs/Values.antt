@@ -1,5 +1,6 @@
 -- Values: numbers, truths, null, trees of objects, and references to the members of a group.
-use Rattle.std.specs.Prelude.{ℕ, zero, suc, ◌+◌, nat_eq, max, ℤ, Bool, true, false, ◌&&◌, List, [], ◌∷◌, length, Option, None, Some}
+use Rattle.std.specs.Prelude.{ℕ, zero, suc, ◌+◌, nat_eq, nat_lt, max, ℤ, Bool, true, false, ◌&&◌, List, [], ◌∷◌, length, Option, None, Some}
+use Rattle.std.specs.List.{list_all}
 use Rattle.ae_code.specs.declared.tree.Class.{Class}
 use Rattle.ae_code.specs.declared.form.Perm.{Perm}
 use Rattle.ae_code.specs.declared.form.Perm.TheVariants as perm
@@ -51,6 +52,13 @@ abbrev mutual
   pub highest : Values → ℕ
   highest NoValue = 0
   highest (AndValue v xs) = max (height v) (highest xs)
+
+-- a local or a member is not higher than 1,000
+abbrev pub is_low : Val → Bool
+is_low v = nat_lt (height v) 1001
+
+abbrev pub all_low : Store → Bool
+all_low st = list_all (λ t. is_low (Owned t)) st
 
 -- ---- which value fits which form
 
