@@ -370,17 +370,28 @@ if_held : (b : Bool) (u v bound : Uses) → Held u bound → Held v bound → He
 if_held true u v bound h k = h
 if_held false u v bound h k = k
 
+-- what is used where nothing runs, seen from outside it
+nowhere_held : (c : Context) (bound u : Uses) → Held u nothing → Held (outside c u) bound
+nowhere_held c bound u h = record {
+  less = less_then _ (outside c nothing) bound (less_outside c u nothing h.less) (less_then _ nothing bound (outside_less c nothing) (less_nothing bound));
+  fit = fit_outside c u h.fit;
+}
+
 next_number : (p : Code) → Accepts p → (i : ℕ) (q : List ℕ) → Along p q → Along p (i ∷ q)
 next_number p acc i q ih (InBlock locked s) bound g =
     held_bound _ (scene_uses p s i) bound (in_scene p acc locked s g.0 i q ih (statement_at s.lines i) refl) (less_then (scene_uses p s i) (all_uses p s) bound (block_less p s.method s.lines s.start i) g.1)
 next_number p acc zero q ih (AtChoice locked s None) bound g =
     if_held (is_empty q) _ _ bound (held_nothing bound) (from_block p s.start s bound _ g.1 (ih (InBlock locked s) (all_uses p s) (g.0, less_itself (all_uses p s))))
-next_number p acc (suc i) q ih (AtChoice locked s None) bound g =
-    if_held (is_empty q) _ _ bound (held_nothing bound) (record { less = less_then _ (outside s.start nothing) bound (less_outside s.start _ nothing (ih Nowhere nothing tt).less) (less_then _ nothing bound (outside_less s.start nothing) (less_nothing bound)); fit = fit_outside s.start _ (ih Nowhere nothing tt).fit })
+next_number p acc (suc zero) q ih (AtChoice locked s None) bound g =
+    if_held (is_empty q) _ _ bound (held_nothing bound) (nowhere_held s.start bound _ (ih Nowhere nothing tt))
+next_number p acc (suc (suc i)) q ih (AtChoice locked s None) bound g =
+    if_held (is_empty q) _ _ bound (held_nothing bound) (nowhere_held s.start bound _ (ih Nowhere nothing tt))
 next_number p acc zero q ih (AtChoice locked s (Some t)) bound g =
     if_held (is_empty q) _ _ bound (held_nothing bound) (from_block p s.start s bound _ g.1 (ih (InBlock locked s) (all_uses p s) (g.0, less_itself (all_uses p s))))
-next_number p acc (suc i) q ih (AtChoice locked s (Some t)) bound g =
+next_number p acc (suc zero) q ih (AtChoice locked s (Some t)) bound g =
     if_held (is_empty q) _ _ bound (held_nothing bound) (from_block p s.start t bound _ g.3 (ih (InBlock locked t) (all_uses p t) (g.2, less_itself (all_uses p t))))
+next_number p acc (suc (suc i)) q ih (AtChoice locked s (Some t)) bound g =
+    if_held (is_empty q) _ _ bound (held_nothing bound) (nowhere_held s.start bound _ (ih Nowhere nothing tt))
 next_number p acc i q ih (AtLoop locked uses s) bound g =
     if_held (is_empty q) _ _ bound (record { less = g.2; fit = g.3 }) (from_block p s.start s bound _ g.1 (ih (InBlock locked s) (all_uses p s) (g.0, less_itself (all_uses p s))))
 next_number p acc i q ih Nowhere bound g = if_held (is_empty q) _ _ bound (held_nothing bound) (held_nothing bound)
@@ -408,9 +419,11 @@ some_parting x y h = cc
 good_next : (p : Code) → Accepts p → (at : Point) → IsGoodAt p at → (i : ℕ) → IsGoodAt p (inside p at i)
 good_next p acc (InBlock locked s) g i = good_inside p acc locked s g.1.0 i (statement_at s.lines i) refl
 good_next p acc (AtChoice locked s None) g zero = (all_uses p s, (g.1.0, less_itself (all_uses p s)))
-good_next p acc (AtChoice locked s None) g (suc i) = (nothing, tt)
+good_next p acc (AtChoice locked s None) g (suc zero) = (nothing, tt)
+good_next p acc (AtChoice locked s None) g (suc (suc i)) = (nothing, tt)
 good_next p acc (AtChoice locked s (Some t)) g zero = (all_uses p s, (g.1.0, less_itself (all_uses p s)))
-good_next p acc (AtChoice locked s (Some t)) g (suc i) = (all_uses p t, (g.1.2, less_itself (all_uses p t)))
+good_next p acc (AtChoice locked s (Some t)) g (suc (suc i)) = (nothing, tt)
+good_next p acc (AtChoice locked s (Some t)) g (suc zero) = (all_uses p t, (g.1.2, less_itself (all_uses p t)))
 good_next p acc (AtLoop locked uses s) g i = (all_uses p s, (g.1.0, less_itself (all_uses p s)))
 good_next p acc Nowhere g i = (nothing, tt)
 

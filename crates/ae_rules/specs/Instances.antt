@@ -9,6 +9,7 @@ use Rattle.ae_code.specs.declared.form.Form.{Form}
 use Rattle.ae_code.specs.Form.{bare_names}
 use Rattle.ae_code.specs.Names.{io, main, this}
 use Rattle.ae_code.specs.Uses.{statement_at}
+use Rattle.ae_code.specs.Limits.{count}
 use Rattle.ae_code.specs.Edges.{IsConflict, Uses, Before}
 use Rattle.ae_code.specs.Plain.{Expression, Invocation, RightSide, Value, Taken, Zeros, Made, Returned, Lines, Definition, Code}
 use Rattle.ae_code.specs.Plain.{Action, Declares, Assigns, Calls, Chooses, ChoosesElse, Repeats, Splits, Locks}
@@ -81,7 +82,8 @@ abbrev pub inside : Code → Point → ℕ → Point
 inside p (InBlock locked s) i = given (statement_at s.lines i) Nowhere (λ a.
     point_of (context_at p s.method s.lines s.start i) (in_statement p locked s.method a))
 inside p (AtChoice locked s other) zero = InBlock locked s
-inside p (AtChoice locked s other) (suc n) = given other Nowhere (InBlock locked)
+inside p (AtChoice locked s other) (suc zero) = given other Nowhere (InBlock locked)
+inside p (AtChoice locked s other) (suc (suc n)) = Nowhere
 inside p (AtLoop locked uses s) turn = InBlock locked s
 inside p Nowhere i = Nowhere
 
@@ -112,10 +114,11 @@ parting p q r = parting_from p (first_point p) q r
 
 -- ---- which is first
 
--- Inside one atomic block source order holds; else a chain of edges leads from the one statement to the other, or they are two turns of a loop.
+-- Inside one atomic block source order holds among what is there; else a chain of edges leads from the one statement to the other, or they are two
+-- turns of a loop.
 abbrev pub IsFirstAt : Code → Point → ℕ → ℕ → Type 0
-IsFirstAt p (InBlock locked s) i j = ((locked ≡ true) × (i < j)) ⊎ Before (scene_uses p s) i j
-IsFirstAt p (AtChoice locked s other) i j = (locked ≡ true) × (i < j)
+IsFirstAt p (InBlock locked s) i j = ((locked ≡ true) × (i < j) × (j < count s.lines)) ⊎ Before (scene_uses p s) i j
+IsFirstAt p (AtChoice locked s other) i j = (locked ≡ true) × (i < j) × (j < 2)
 IsFirstAt p (AtLoop locked uses s) i j = i < j
 IsFirstAt p Nowhere i j = ⊥
 
