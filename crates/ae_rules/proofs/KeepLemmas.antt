@@ -246,20 +246,20 @@ mutual
   statement_keeps p m at (Calls i) c = next (judge_call p c i) λ d e. gives ((call_keeps p c i).value d e)
   statement_keeps p m at (Chooses e n b) c =
       next (is_value p c f.Bool e) λ _ _.
-      next (judge_lines p m b c >>= end_block p c b) λ d h.
+      next (judge_lines p m b c >>= end_block p c b) λ d _.
       asks (hold_alike p c d c) _ _ λ _.
-      gives ((block_keeps p m b c c (same_locals c) (lines_keep p m b c)).value d h)
+      gives (keeps_all c)
   statement_keeps p m at (ChoosesElse e n b k b') c =
       next (is_value p c f.Bool e) λ _ _.
-      next (judge_lines p m b c >>= end_block p c b) λ d h.
-      next (judge_lines p m b' c >>= end_block p c b') λ d' _.
+      next (judge_lines p m b c >>= end_block p c b) λ d _.
+      next (judge_lines p m b' c >>= end_block p c b') λ d' h.
       asks (hold_alike p c d d') _ _ λ _.
-      gives ((block_keeps p m b c c (same_locals c) (lines_keep p m b c)).value d h)
+      gives ((block_keeps p m b' c c (same_locals c) (lines_keep p m b' c)).value d' h)
   statement_keeps p m at (Repeats e n b) c =
       next (is_value p c f.Bool e) λ _ _.
-      next (judge_lines p m b c >>= end_block p c b) λ d h.
+      next (judge_lines p m b c >>= end_block p c b) λ d _.
       asks (hold_alike p c d c) _ _ λ _.
-      gives ((block_keeps p m b c c (same_locals c) (lines_keep p m b c)).value d h)
+      gives (keeps_all c)
   statement_keeps p m at (Groups g) c = asks (not (is_visible c g.name)) _ _ λ v. gives (keeps_group g.name group.Exclusive c v)
   statement_keeps p m at (Splits gs n b) c =
       next (in_turn (may_split c) gs no_names) λ names _.

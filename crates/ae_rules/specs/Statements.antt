@@ -180,12 +180,13 @@ held_back q = q
 abbrev pub while_locked : ℕ → Context → Context
 while_locked g c = record c { group = λ h. if nat_eq g h then Some group.Protected else held_back (c.group h) }
 
--- after both branches each local from outside holds the same
+-- after both branches each local from outside holds the same; a branch that is missing leaves the context as it was
 abbrev pub branches_meet : Code → Context → Spot → Context → Context → Verdict Context
-branches_meet p c at d e = require (hold_alike p c d e) rule.BranchesDiffer at >> Holds d
+branches_meet p c at d e = require (hold_alike p c d e) rule.BranchesDiffer at >> Holds e
 
+-- after a turn each local from outside holds what it held
 abbrev pub loop_keeps : Code → Context → Spot → Context → Verdict Context
-loop_keeps p c at d = require (hold_alike p c d c) rule.LoopChanges at >> Holds d
+loop_keeps p c at d = require (hold_alike p c d c) rule.LoopChanges at >> Holds c
 
 abbrev mutual
   -- a statement of a method, at its place: its premises in order, and the context after it
