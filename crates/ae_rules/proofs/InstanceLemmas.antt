@@ -22,7 +22,8 @@ use Rattle.ae_rules.specs.Verdict.{Verdict, Holds, Broken, ◌>>=◌, given}
 use Rattle.ae_rules.specs.Context.{Context}
 use Rattle.ae_rules.specs.Into.{Source, Null, From, source}
 use Rattle.ae_rules.specs.Forms.{is_unique, is_object}
-use Rattle.ae_rules.specs.Calls.{Callee, Slot, group_in, slots, givens, wanted}
+use Rattle.ae_rules.specs.Calls.{Callee, Slot, group_in, slots, givens}
+use Rattle.ae_rules.specs.Groups.{wanted}
 use Rattle.ae_rules.specs.Statements.{judge_statement}
 use Rattle.ae_rules.specs.Judges.{start, need_for, needed, knows}
 use Rattle.ae_rules.specs.Uses.{nothing, same_resource, one, reads, writes, ◌∪◌, of_each, of_judged, of_found, is_seen, outside, all_but, walk_uses, given_uses, argument_uses, need_uses, callee_uses, statement_uses, lines_use, context_at, block_uses}

@@ -1,4 +1,5 @@
 pub mod VerdictLemmas
+mod GroupLemmas
 mod LawLemmas
 mod CallLemmas
 mod MoveLemmas

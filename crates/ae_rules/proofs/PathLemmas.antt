@@ -16,20 +16,21 @@ use Rattle.ae_code.specs.Edges.{IsConflict, Uses, Before}
 use Rattle.ae_code.specs.Names.{main}
 use Rattle.ae_code.specs.Plain.{Invocation, RightSide, Value, Taken, Zeros, Made, Returned, Lines, End, Next, Definition, Code}
 use Rattle.ae_code.specs.Plain.{Action, Declares, Assigns, Stores, StoresAt, Calls, Chooses, ChoosesElse, Repeats, Groups, Splits, Locks, Freezes, Shares, Prints, PrintsText, Asserts, Returns}
-use Rattle.ae_rules.specs.Verdict.{Verdict, Holds, Broken, ◌>>=◌, found, each, in_turn, given, require}
+use Rattle.ae_rules.specs.Verdict.{Verdict, Holds, Broken, ◌>>=◌, found, each, given, require}
 use Rattle.ae_rules.specs.Forms.{is_object}
-use Rattle.ae_rules.specs.Lookups.{Names, is_empty, method_at, top_number, top_called, class_of, groups_of, method_number}
+use Rattle.ae_rules.specs.Lookups.{is_empty, method_at, top_number, top_called, class_of, groups_of, method_number}
 use Rattle.ae_code.specs.Form.{bare_names}
-use Rattle.ae_rules.specs.Table.{table_verdict, no_names}
+use Rattle.ae_rules.specs.Table.{table_verdict}
 use Rattle.ae_rules.specs.Context.{Local, Context}
 use Rattle.ae_rules.specs.Walks.{walk}
 use Rattle.ae_rules.specs.Expressions.{is_value}
 use Rattle.ae_rules.specs.Calls.{Callee, callee_at, callee_in, callee_of, top_callee, judge_callee}
-use Rattle.ae_rules.specs.Statements.{may_split, while_split, may_lock, while_locked, end_block, branches_meet, loop_keeps, judge_statement, judge_lines}
+use Rattle.ae_rules.specs.Groups.{may_split_all, may_lock}
+use Rattle.ae_rules.specs.Statements.{while_split, while_locked, end_block, branches_meet, loop_keeps, judge_statement, judge_lines}
 use Rattle.ae_rules.specs.Judges.{start, judge_method, Accepts}
-use Rattle.ae_rules.specs.Uses.{nothing, writes, together, ◌∪◌, of_judged, of_found, outside, all_but, value_uses, call_uses, right_uses, callee_uses, split_start, statement_uses, lines_use, context_at}
+use Rattle.ae_rules.specs.Uses.{nothing, writes, together, ◌∪◌, of_judged, of_found, outside, all_but, value_uses, call_uses, right_uses, callee_uses, statement_uses, lines_use, context_at}
 use Rattle.ae_rules.specs.Blocks.{Scene, scene_uses}
-use Rattle.ae_rules.specs.Instances.{Point, InBlock, AtChoice, AtLoop, Nowhere, block_at, body, point_of, in_statement, inside, first_point, Parting, parting_from, IsFirstAt, body_outside, statement_outside, outside_of, uses_from}
+use Rattle.ae_rules.specs.Instances.{Point, InBlock, AtChoice, AtLoop, Nowhere, body, point_of, in_statement, inside, first_point, Parting, parting_from, IsFirstAt, body_outside, statement_outside, outside_of, uses_from}
 use Rattle.ae_rules.proofs.SeenLemmas.{found_is}
 use Rattle.ae_rules.proofs.VisibleLemmas.{uses_are_allowed}
 use Rattle.ae_rules.proofs.VisibleLemmas as judged_lines
@@ -159,23 +160,6 @@ bodies p a c i k e = method_judged p k.method a (callee_method p c i.on i.method
 held_right : (u v w : Uses) → Held u w → Held u (v ∪ w)
 held_right u v w h = record { less = less_right u v w h.less; fit = h.fit }
 
--- ---- split blocks
-
-split_good : (p : Code) (locked : Bool) (m : Definition) (b : Lines) (v : Verdict Context) → ((d : Context) → v ≡ Holds d → JudgedLines p m b d)
-    → Good p (point_of v (λ d. InBlock locked (block_at m b d))) (of_judged v (lines_use p m b))
-split_good p locked m b (Holds d) h = (h d refl, less_itself (lines_use p m b d))
-split_good p locked m b (Broken rule at) h = tt
-
-split_judged : (p : Code) (m : Definition) (b : Lines) (c e : Context) (v : Verdict Names) → (v >>= λ names. (judge_lines p m b (while_split names c) >>= end_block p c b)) ≡ Holds e
-    → (d : Context) → (v >>= λ names. Holds (while_split names c)) ≡ Holds d → JudgedLines p m b d
-split_judged p m b c e (Holds names) h d k =
-    let r = first_holds (judge_lines p m b (while_split names c)) (end_block p c b) e h in
-    (r.0, subst (λ (x : Context). judge_lines p m b x ≡ Holds r.0) (one_value k) r.1)
-  where
-    one_value : Holds (while_split names c) ≡ Holds d → while_split names c ≡ d
-    one_value q = cc
-split_judged p m b c e (Broken rule at) h d k = absurd (cc)
-
 -- ---- statements
 
 nowhere_out : (p : Code) (m : Definition) (a : Action) (c : Context) → Held nothing (statement_uses p m a c)
@@ -270,14 +254,16 @@ step p acc locked m at (Repeats e n b) c d h =
       out = λ u w. record { less = less_then (outside c u) u all (outside_less c u) w.less; fit = fit_outside c u w.fit };
     }
 step p acc locked m at (Splits gs n b) c d h =
-    let bound : Uses = of_judged (split_start c gs) (lines_use p m b) in
+    let bound : Uses = lines_use p m b (while_split gs c) in
+    let r = first_holds (may_split_all c.group gs) (λ _. judge_lines p m b (while_split gs c) >>= end_block p c b) d h in
+    let l = first_holds (judge_lines p m b (while_split gs c)) (end_block p c b) d r.2 in
     record {
       bound = bound;
-      good = split_good p locked m b (split_start c gs) (split_judged p m b c d (in_turn (may_split c) gs no_names) h);
+      good = ((l.0, l.1), less_itself bound);
       out = λ u w. record { less = less_right (outside c u) _ (outside c bound) (less_outside c u bound w.less); fit = fit_outside c u w.fit };
     }
 step p acc locked m at (Locks g n b) c d h =
-    let r = first_holds (may_lock c g) (λ _. judge_lines p m b (while_locked g.name c) >>= end_block p c b) d h in
+    let r = first_holds (may_lock c.group g) (λ _. judge_lines p m b (while_locked g.name c) >>= end_block p c b) d h in
     let l = first_holds (judge_lines p m b (while_locked g.name c)) (end_block p c b) d r.2 in
     lock_step p locked m g n b c (l.0, l.1)
 step p acc locked m at (Stores path e) c d h = record { bound = nothing; good = tt; out = λ u w. nowhere_out p m (Stores path e) c }

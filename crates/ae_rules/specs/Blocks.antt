@@ -6,9 +6,9 @@ use Rattle.ae_code.specs.Plain.{Action, Chooses, ChoosesElse, Repeats, Splits, L
 use Rattle.ae_rules.specs.Verdict.{Verdict, Holds, Broken, given}
 use Rattle.ae_rules.specs.Lookups.{method_at}
 use Rattle.ae_rules.specs.Context.{Context}
-use Rattle.ae_rules.specs.Statements.{while_locked, judge_statement}
+use Rattle.ae_rules.specs.Statements.{while_split, while_locked, judge_statement}
 use Rattle.ae_rules.specs.Judges.{start}
-use Rattle.ae_rules.specs.Uses.{split_start, block_uses}
+use Rattle.ae_rules.specs.Uses.{block_uses}
 use Rattle.ae_rules.specs.Edges.{graph}
 
 -- a block of a method, and the context in which it begins
@@ -37,7 +37,7 @@ abbrev mutual
   scene_in p m n (Chooses e k b) c = this_or m n k b c (scene_among p m n b c)
   scene_in p m n (ChoosesElse e k b l b') c = or_else (this_or m n k b c (scene_among p m n b c)) (this_or m n l b' c (scene_among p m n b' c))
   scene_in p m n (Repeats e k b) c = this_or m n k b c (scene_among p m n b c)
-  scene_in p m n (Splits gs k b) c = if_judged (split_start c gs) (λ d. this_or m n k b d (scene_among p m n b d))
+  scene_in p m n (Splits gs k b) c = this_or m n k b (while_split gs c) (scene_among p m n b (while_split gs c))
   scene_in p m n (Locks g k b) c = this_or m n k b (while_locked g.name c) (scene_among p m n b (while_locked g.name c))
   scene_in p m n _ c = None
 

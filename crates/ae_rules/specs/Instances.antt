@@ -19,9 +19,9 @@ use Rattle.ae_rules.specs.Lookups.{top_called, is_empty}
 use Rattle.ae_rules.specs.Context.{Context}
 use Rattle.ae_rules.specs.Into.{Source, Null, From, source}
 use Rattle.ae_rules.specs.Calls.{Callee, judge_callee, Slot, group_in, if_some, slots, givens}
-use Rattle.ae_rules.specs.Statements.{while_locked}
+use Rattle.ae_rules.specs.Statements.{while_split, while_locked}
 use Rattle.ae_rules.specs.Judges.{start}
-use Rattle.ae_rules.specs.Uses.{nothing, one, reads, together, ◌∪◌, of_each, of_judged, of_found, outside, all_but, split_start, statement_uses, context_at}
+use Rattle.ae_rules.specs.Uses.{nothing, one, reads, together, ◌∪◌, of_each, of_judged, of_found, outside, all_but, statement_uses, context_at}
 use Rattle.ae_rules.specs.Blocks.{Scene, scene_uses}
 
 -- A statement as it runs: the numbers of the statements that lead to it, each inside the one before. After an `if` stands
@@ -73,7 +73,7 @@ in_statement p locked m (Calls i) c = in_call p locked c i
 in_statement p locked m (Chooses e n b) c = AtChoice locked (block_at m b c) None
 in_statement p locked m (ChoosesElse e n b k b') c = AtChoice locked (block_at m b c) (Some (block_at m b' c))
 in_statement p locked m (Repeats e n b) c = AtLoop locked (statement_uses p m (Repeats e n b) c) (block_at m b c)
-in_statement p locked m (Splits gs n b) c = point_of (split_start c gs) (λ d. InBlock locked (block_at m b d))
+in_statement p locked m (Splits gs n b) c = InBlock locked (block_at m b (while_split gs c))
 in_statement p locked m (Locks g n b) c = InBlock true (block_at m b (while_locked g.name c))
 in_statement p locked m _ c = Nowhere
 

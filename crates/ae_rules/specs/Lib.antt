@@ -4,6 +4,7 @@ pub mod Forms
 pub mod Lookups
 pub mod Types
 pub mod Table
+pub mod Groups
 pub mod Context
 pub mod Walks
 pub mod Expressions

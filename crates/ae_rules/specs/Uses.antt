@@ -21,14 +21,14 @@ use Rattle.ae_code.specs.Plain.{Expression, Number, Truth, Nothing, Read, Item, 
 use Rattle.ae_code.specs.Plain.{Action, Declares, Assigns, Stores, StoresAt, Calls, Chooses, ChoosesElse, Repeats, Groups, Splits, Locks, Freezes, Shares, Prints, PrintsText, Asserts, Returns}
 use Rattle.ae_rules.specs.declared.held.Held.{Held}
 use Rattle.ae_rules.specs.declared.held.Held.TheVariants as held
-use Rattle.ae_rules.specs.Verdict.{Verdict, Holds, Broken, ◌>>=◌, in_turn, given}
+use Rattle.ae_rules.specs.Verdict.{Verdict, Holds, Broken, ◌>>=◌, given}
 use Rattle.ae_rules.specs.Lookups.{class_called, field_form}
-use Rattle.ae_rules.specs.Table.{no_names}
-use Rattle.ae_rules.specs.Context.{Local, Context, known}
+use Rattle.ae_rules.specs.Groups.{Wanted, wanted, known}
+use Rattle.ae_rules.specs.Context.{Local, Context}
 use Rattle.ae_rules.specs.Walks.{Place, step, walk, owner}
 use Rattle.ae_rules.specs.Into.{Source, Null, From, source, moves}
-use Rattle.ae_rules.specs.Calls.{Callee, judge_callee, Slot, group_in, slots, givens, Wanted, wanted}
-use Rattle.ae_rules.specs.Statements.{may_split, while_split, while_locked, judge_statement}
+use Rattle.ae_rules.specs.Calls.{Callee, judge_callee, Slot, group_in, slots, givens}
+use Rattle.ae_rules.specs.Statements.{while_split, while_locked, judge_statement}
 
 -- ---- uses put together
 
@@ -86,7 +86,7 @@ of_found o uses = given o nothing uses
 -- a resource that is visible in this context
 abbrev pub is_seen : Context → Resource → Bool
 is_seen c (resource.Local x) = is_some (c.local x)
-is_seen c (resource.Group g) = known c g
+is_seen c (resource.Group g) = known c.group g
 
 -- the uses of what is visible in this context
 abbrev pub outside : Context → Uses → Uses
@@ -221,10 +221,6 @@ store_uses p c path e = write_uses p c (owner path) ∪ of_judged (walk p c path
 abbrev pub return_uses : Code → Definition → Context → Expression → Uses
 return_uses p m c e = of_found m.result (λ t. into_uses p c (form t) e)
 
--- the context in which a split block begins
-abbrev pub split_start : Context → List NameAt → Verdict Context
-split_start c gs = in_turn (may_split c) gs no_names >>= λ names. Holds (while_split names c)
-
 abbrev mutual
   -- the uses of a statement of a method, in the context before it
   pub statement_uses : Code → Definition → Action → Context → Uses
@@ -237,7 +233,7 @@ abbrev mutual
   statement_uses p m (ChoosesElse e n b k b') c = value_uses p c e ∪ outside c (lines_use p m b c) ∪ outside c (lines_use p m b' c)
   statement_uses p m (Repeats e n b) c = value_uses p c e ∪ outside c (lines_use p m b c)
   statement_uses p m (Groups g) c = whole g.name
-  statement_uses p m (Splits gs n b) c = of_each (λ (g : NameAt). whole g.name) gs ∪ outside c (of_judged (split_start c gs) (lines_use p m b))
+  statement_uses p m (Splits gs n b) c = of_each (λ (g : NameAt). whole g.name) gs ∪ outside c (lines_use p m b (while_split gs c))
   statement_uses p m (Locks g n b) c = together g.name ∪ all_but (resource.Group g.name) (outside c (lines_use p m b (while_locked g.name c)))
   statement_uses p m (Freezes x) c = writes x.name
   statement_uses p m (Shares x g) c = writes x.name ∪ whole g.name
