@@ -16,7 +16,7 @@ use Rattle.ae_code.specs.Edges.{IsConflict, Uses, Before}
 use Rattle.ae_code.specs.Names.{main}
 use Rattle.ae_code.specs.Plain.{Invocation, RightSide, Value, Taken, Zeros, Made, Returned, Lines, End, Next, Definition, Code}
 use Rattle.ae_code.specs.Plain.{Action, Declares, Assigns, Stores, StoresAt, Calls, Chooses, ChoosesElse, Repeats, Groups, Splits, Locks, Freezes, Shares, Prints, PrintsText, Asserts, Returns}
-use Rattle.ae_rules.specs.Verdict.{Verdict, Holds, Broken, ◌>>=◌, found, each, given, require}
+use Rattle.ae_rules.specs.Verdict.{Verdict, Holds, Broken, ◌>>=◌, found, each, given, judged, require}
 use Rattle.ae_rules.specs.Forms.{is_object}
 use Rattle.ae_rules.specs.Lookups.{is_empty, method_at, top_number, top_called, class_of, groups_of, method_number}
 use Rattle.ae_code.specs.Form.{bare_names}
@@ -28,9 +28,9 @@ use Rattle.ae_rules.specs.Calls.{Callee, callee_at, callee_in, callee_of, top_ca
 use Rattle.ae_rules.specs.Groups.{may_split_all, may_lock}
 use Rattle.ae_rules.specs.Statements.{while_split, while_locked, end_block, branches_meet, loop_keeps, judge_statement, judge_lines}
 use Rattle.ae_rules.specs.Judges.{start, judge_method, Accepts}
-use Rattle.ae_rules.specs.Uses.{nothing, writes, together, ◌∪◌, of_judged, of_found, outside, all_but, value_uses, call_uses, right_uses, callee_uses, statement_uses, lines_use, context_at}
-use Rattle.ae_rules.specs.Blocks.{Scene, scene_uses}
-use Rattle.ae_rules.specs.Instances.{Point, InBlock, AtChoice, AtLoop, Nowhere, body, point_of, in_statement, inside, first_point, Parting, parting_from, IsFirstAt, body_outside, statement_outside, outside_of, uses_from}
+use Rattle.ae_rules.specs.Uses.{nothing, writes, together, ◌∪◌, of_judged, of_found, outside, all_but, value_uses, call_uses, right_uses, callee_uses, statement_uses, lines_use, contexts, context_at}
+use Rattle.ae_rules.specs.Blocks.{Scene, body, scene_uses}
+use Rattle.ae_rules.specs.Instances.{Point, InBlock, AtChoice, AtLoop, Nowhere, in_statement, inside, first_point, Parting, parting_from, IsFirstAt, body_outside, statement_outside, outside_of, uses_from}
 use Rattle.ae_rules.proofs.SeenLemmas.{found_is}
 use Rattle.ae_rules.proofs.VisibleLemmas.{uses_are_allowed}
 use Rattle.ae_rules.proofs.VisibleLemmas as judged_lines
@@ -143,7 +143,7 @@ abbrev called_uses : Code → Verdict Callee → Uses
 called_uses p v = of_judged v (λ (k : Callee). body_uses p k.method)
 
 call_good : (p : Code) (locked : Bool) (v : Verdict Callee) → ((k : Callee) → v ≡ Holds k → JudgedLines p k.method k.method.body (start p k.method))
-    → Good p (point_of v (λ (k : Callee). InBlock locked (body p k.method))) (called_uses p v)
+    → Good p (judged v Nowhere (λ (k : Callee). InBlock locked (body p k.method))) (called_uses p v)
 call_good p locked (Holds k) h = (h k refl, less_itself (body_uses p k.method))
 call_good p locked (Broken rule at) h = tt
 
@@ -279,11 +279,11 @@ step p acc locked m at (Returns e) c d h = record { bound = nothing; good = tt; 
 -- ---- a statement of a block
 
 -- the context before a statement of a judged block, in which it is judged
-record Located (p : Code) (m : Definition) (a : Action) (v : Verdict Context) : Type 0 where
+record Located (p : Code) (m : Definition) (a : Action) (v : Option Context) : Type 0 where
   before : Context
   after : Context
   at : Spot
-  is : v ≡ Holds before
+  is : v ≡ Some before
   judged : judge_statement p m at a before ≡ Holds after
 
 some_action : (a b : Action) → Some a ≡ Some b → a ≡ b
@@ -297,11 +297,11 @@ located p m (Next at s rest) c d zero a h e =
 located p m (Next at s rest) c d (suc i) a h e =
     let r = first_holds (judge_statement p m at s c) (judge_lines p m rest) d h in
     let l : Located p m a (context_at p m rest r.0 i) = located p m rest r.0 d i a r.2 e in
-    record { before = l.before; after = l.after; at = l.at; is = ap (λ v. v >>= λ x. context_at p m rest x i) r.1 ∙ l.is; judged = l.judged }
+    record { before = l.before; after = l.after; at = l.at; is = ap (λ v. slice_get (judged v [] (contexts p m rest)) i) r.1 ∙ l.is; judged = l.judged }
 
 -- what holds of the statement and its context holds of what is looked up
-picked : (o : Option Action) (v : Verdict Context) (a : Action) (c : Context) (g h : Action → Context → Uses) → o ≡ Some a → v ≡ Holds c → Held (g a c) (h a c)
-    → Held (of_found o (λ s. of_judged v (g s))) (of_found o (λ s. of_judged v (h s)))
+picked : (o : Option Action) (v : Option Context) (a : Action) (c : Context) (g h : Action → Context → Uses) → o ≡ Some a → v ≡ Some c → Held (g a c) (h a c)
+    → Held (of_found o (λ s. of_found v (g s))) (of_found o (λ s. of_found v (h s)))
 picked o v a c g h e k w = rw e (rw k w)
 
 held_bound : (u v w : Uses) → Held u v → Less v w → Held u w
@@ -311,10 +311,10 @@ held_bound u v w h k = record { less = less_then u v w h.less k; fit = h.fit }
 abbrev Along : Code → List ℕ → Type 0
 Along p q = (at : Point) (bound : Uses) → Good p at bound → Held (uses_from p at q) bound
 
-inside_is : (p : Code) (locked : Bool) (s : Scene) (i : ℕ) (a : Action) (c : Context) → statement_at s.lines i ≡ Some a → context_at p s.method s.lines s.start i ≡ Holds c
+inside_is : (p : Code) (locked : Bool) (s : Scene) (i : ℕ) (a : Action) (c : Context) → statement_at s.lines i ≡ Some a → context_at p s.method s.lines s.start i ≡ Some c
     → inside p (InBlock locked s) i ≡ in_statement p locked s.method a c
 inside_is p locked s i a c e k =
-    ap (λ o. given o Nowhere (λ x. point_of (context_at p s.method s.lines s.start i) (in_statement p locked s.method x))) e ∙ ap (λ v. point_of v (in_statement p locked s.method a)) k
+    ap (λ o. given o Nowhere (λ x. given (context_at p s.method s.lines s.start i) Nowhere (in_statement p locked s.method x))) e ∙ ap (λ v. given v Nowhere (in_statement p locked s.method a)) k
 
 fit_statement : (p : Code) (m : Definition) (at : Spot) (a : Action) (c d : Context) → judge_statement p m at a c ≡ Holds d → Held (statement_uses p m a c) (statement_uses p m a c)
 fit_statement p m at a c d h = record { less = less_itself (statement_uses p m a c); fit = fit_within d (statement_uses p m a c) (λ r n e. uses_are_allowed p m at a c d r n h e) }
@@ -393,7 +393,7 @@ IsGoodAt p at = (bound : Uses) × Good p at bound
 
 good_inside : (p : Code) → Accepts p → (locked : Bool) (s : Scene) → IsGood p s → (i : ℕ) (o : Option Action) → statement_at s.lines i ≡ o → IsGoodAt p (inside p (InBlock locked s) i)
 good_inside p acc locked s j i None e =
-    subst (IsGoodAt p) (sym (ap (λ (o : Option Action). given o Nowhere (λ x. point_of (context_at p s.method s.lines s.start i) (in_statement p locked s.method x))) e)) (nothing, tt)
+    subst (IsGoodAt p) (sym (ap (λ (o : Option Action). given o Nowhere (λ x. given (context_at p s.method s.lines s.start i) Nowhere (in_statement p locked s.method x))) e)) (nothing, tt)
 good_inside p acc locked s j i (Some a) e =
     let l : Located p s.method a (context_at p s.method s.lines s.start i) = located p s.method s.lines s.start j.0 i a j.1 e in
     let st : Step p locked s.method a l.before = step p acc locked s.method l.at a l.before l.after l.judged in

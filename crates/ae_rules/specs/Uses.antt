@@ -1,5 +1,5 @@
 -- What a statement uses of each local and each group. The context before it says what is held.
-use Rattle.std.specs.Prelude.{ℕ, zero, suc, nat_eq, Bool, false, if◌then◌else◌, List, [], ◌∷◌, map, zip, Option, None, Some, is_some}
+use Rattle.std.specs.Prelude.{ℕ, nat_eq, Bool, false, if◌then◌else◌, List, [], ◌∷◌, map, zip, slice_get, Option, None, Some, is_some}
 use Rattle.ae_text.specs.declared.refusal.Spot.{Spot}
 use Rattle.ae_code.specs.declared.tree.NameAt.{NameAt}
 use Rattle.ae_code.specs.declared.tree.Path.{Path}
@@ -21,7 +21,7 @@ use Rattle.ae_code.specs.Plain.{Expression, Number, Truth, Nothing, Read, Item, 
 use Rattle.ae_code.specs.Plain.{Action, Declares, Assigns, Stores, StoresAt, Calls, Chooses, ChoosesElse, Repeats, Groups, Splits, Locks, Freezes, Shares, Prints, PrintsText, Asserts, Returns}
 use Rattle.ae_rules.specs.declared.held.Held.{Held}
 use Rattle.ae_rules.specs.declared.held.Held.TheVariants as held
-use Rattle.ae_rules.specs.Verdict.{Verdict, Holds, Broken, ◌>>=◌, given}
+use Rattle.ae_rules.specs.Verdict.{Verdict, given, judged}
 use Rattle.ae_rules.specs.Lookups.{class_called, field_form}
 use Rattle.ae_rules.specs.Groups.{Wanted, wanted, known}
 use Rattle.ae_rules.specs.Context.{Local, Context}
@@ -76,8 +76,7 @@ of_each uses (x ∷ xs) = uses x ∪ of_each uses xs
 
 -- the uses of what a verdict gives; none, where a rule is broken
 abbrev pub of_judged : {A : Type 0} → Verdict A → (A → Uses) → Uses
-of_judged (Holds x) uses = uses x
-of_judged (Broken rule at) uses = nothing
+of_judged v uses = judged v nothing uses
 
 -- the uses of what is there
 abbrev pub of_found : {A : Type 0} → Option A → (A → Uses) → Uses
@@ -249,12 +248,15 @@ abbrev mutual
 
 -- ---- the statements of a block
 
--- the context before statement i of a block that begins in this one
-abbrev pub context_at : Code → Definition → Lines → Context → ℕ → Verdict Context
-context_at p m End c i = Holds c
-context_at p m (Next at a rest) c zero = Holds c
-context_at p m (Next at a rest) c (suc i) = judge_statement p m at a c >>= λ d. context_at p m rest d i
+-- the context before each statement of a block that begins in this one, as far as the statements are judged
+abbrev pub contexts : Code → Definition → Lines → Context → List Context
+contexts p m End c = []
+contexts p m (Next at a rest) c = c ∷ judged (judge_statement p m at a c) [] (contexts p m rest)
+
+-- the context before statement i of a block
+abbrev pub context_at : Code → Definition → Lines → Context → ℕ → Option Context
+context_at p m b c i = slice_get (contexts p m b c) i
 
 -- how statement i of a block uses each resource; the block begins in this context
 abbrev pub block_uses : Code → Definition → Lines → Context → ℕ → Uses
-block_uses p m b c i = of_found (statement_at b i) (λ a. of_judged (context_at p m b c i) (statement_uses p m a))
+block_uses p m b c i = of_found (statement_at b i) (λ a. of_found (context_at p m b c i) (statement_uses p m a))
