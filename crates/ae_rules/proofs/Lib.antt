@@ -18,5 +18,6 @@ mod InstanceExamples
 mod LessLemmas
 mod InstanceLemmas
 mod PathLemmas
+mod BlockLemmas
 mod CaseLemmas
 mod CaseUseLemmas

@@ -91,10 +91,10 @@ callee_method p c (Some path) x k e =
     let t = first_holds (require (is_object w.0.form) rule.TypeMismatch path.root.at) _ k w.2 in
     form_method p w.0.form x.name k (found_is (callee_of p w.0.form x.name) rule.UnknownMethod x.at k t.2)
 
-abbrev JudgedLines : Code → Definition → Lines → Context → Type 0
+abbrev pub JudgedLines : Code → Definition → Lines → Context → Type 0
 JudgedLines p m b c = (d : Context) × (judge_lines p m b c ≡ Holds d)
 
-method_judged : (p : Code) (m : Definition) → Accepts p → IsMethod p m → JudgedLines p m m.body (start p m)
+pub method_judged : (p : Code) (m : Definition) → Accepts p → IsMethod p m → JudgedLines p m m.body (start p m)
 method_judged p m a n =
     let t = first_holds (table_verdict p) _ tt a in
     let h = each_holds (judge_method p) p.methods tt n.0 m t.2 n.1 in
@@ -206,7 +206,7 @@ lock_step p locked m g n b c j = record {
   };
 }
 
-lines_then_end : (p : Code) (m : Definition) (b : Lines) (c : Context) (x : Context) (next : Context → Verdict Context) (d : Context) → ((judge_lines p m b x >>= end_block p c b) >>= next) ≡ Holds d → JudgedLines p m b x
+pub lines_then_end : (p : Code) (m : Definition) (b : Lines) (c : Context) (x : Context) (next : Context → Verdict Context) (d : Context) → ((judge_lines p m b x >>= end_block p c b) >>= next) ≡ Holds d → JudgedLines p m b x
 lines_then_end p m b c x next d h =
     let r = first_holds (judge_lines p m b x >>= end_block p c b) next d h in
     let l = first_holds (judge_lines p m b x) (end_block p c b) r.0 r.1 in

@@ -20,4 +20,5 @@ pub mod Instances
 pub mod Paths
 pub mod Stands
 pub mod Laws
+pub mod BlockLaws
 pub mod Cases

@@ -1,4 +1,5 @@
 // Laws over the rules alone.
+ghost use Rattle.ae_rules.specs.BlockLaws.{BlocksAreReached};
 ghost use Rattle.ae_rules.specs.Cases.{BuiltDeclaresOne, TodayIsACase, TodaysUsesAreACase};
 ghost use Rattle.ae_rules.specs.Laws.{JudgedOrBroken, NeverBoth, AcceptedOrBroken, NeverAcceptedAndBroken, FirstIsOne, TakenIsGivenBack, NothingToTake, CallsGiveBack, GivenAwayIsGone, MovesByItsText, StatementsKeep, SplitIsUndone};
 ghost use Rattle.ae_rules.specs.EdgeLaws.{EdgesGoForward, ChainsGoForward, ConflictsAreOrdered, UsesAreAllowed, PredsAreEdges, ConflictsAreFirst};
@@ -61,6 +62,11 @@ pub fn statements_keep_what_is_visible()
 /// After a split block its groups are as they were, once those that the block declared are forgotten.
 pub fn a_split_block_is_undone()
     ensures { SplitIsUndone }
+{}
+
+/// Each block of an accepted program is there with the context in which it begins, in the order of the text, and each statement in it is reached.
+pub fn every_block_is_reached()
+    ensures { BlocksAreReached }
 {}
 
 /// An edge leads from a statement to a later one.
