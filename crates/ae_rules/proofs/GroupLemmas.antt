@@ -1,7 +1,7 @@
 -- Groups that a split block or an atomic block changes, and changes back.
 use Rattle.std.proofs.Common.{◌≡◌, refl, sym, ap, ◌∙◌, subst, ℕ, nat_eq, Bool, true, false, ◌||◌, not, if◌then◌else◌, List, [], ◌∷◌, Option, None, Some}
 use Rattle.std.specs.Prelude.{is_some}
-use Rattle.std.proofs.lemmas.Bool.{eqb-true, eq-eqb}
+use Rattle.std.proofs.lemmas.Bool.{eqb-true}
 use mathlib.Core.Path.{fun_ext}
 use Rattle.ae_code.specs.declared.tree.NameAt.{NameAt}
 use Rattle.ae_code.specs.Form.{bare_names}
@@ -18,9 +18,9 @@ use Rattle.ae_rules.proofs.VerdictLemmas.{Yields, gives, next, asks, always}
 abbrev pub AreExclusive : Groups → Names → Type 0
 AreExclusive gs names = (g : ℕ) → names g ≡ true → group_is group.Exclusive gs g ≡ true
 
-new_if : (gs : Groups) (g y : ℕ) (a b : Bool) → nat_eq y g ≡ a → (b ≡ true → group_is group.Exclusive gs y ≡ true) → group_is group.Exclusive gs g ≡ true → (a || b) ≡ true
+new_if : (gs : Groups) (g y : ℕ) (a b : Bool) → nat_eq g y ≡ a → (b ≡ true → group_is group.Exclusive gs y ≡ true) → group_is group.Exclusive gs g ≡ true → (a || b) ≡ true
     → group_is group.Exclusive gs y ≡ true
-new_if gs g y true b q h e k = subst (λ (z : ℕ). group_is group.Exclusive gs z ≡ true) (sym (eqb-true y g q)) e
+new_if gs g y true b q h e k = subst (λ (z : ℕ). group_is group.Exclusive gs z ≡ true) (eqb-true g y q) e
 new_if gs g y false b q h e k = h k
 
 split_exclusive : (gs : Groups) (g : NameAt) (earlier : Names) → Yields (λ _. group_is group.Exclusive gs g.name ≡ true) (may_split gs g earlier)
@@ -36,7 +36,7 @@ list_exclusive gs [] earlier = always (λ y e. absurd (cc))
 list_exclusive gs (x ∷ xs) earlier =
     next (may_split gs x earlier) λ names e.
     record {
-      value = λ t h y k. new_if gs x.name y (nat_eq y x.name) (has_name (bare_names xs) y) refl ((list_exclusive gs xs names).value t h y) ((split_exclusive gs x earlier).value names e) k;
+      value = λ t h y k. new_if gs x.name y (nat_eq x.name y) (has_name (bare_names xs) y) refl ((list_exclusive gs xs names).value t h y) ((split_exclusive gs x earlier).value names e) k;
     }
 
 -- ---- a split block is undone
@@ -53,21 +53,14 @@ unknown : (o : Option GroupPerm) → not (is_some o) ≡ true → None ≡ o
 unknown None e = refl
 unknown (Some q) e = absurd (cc)
 
-not_other_way : (x y : ℕ) → nat_eq y x ≡ false → nat_eq x y ≡ false
-not_other_way x y e = by (nat_eq x y) refl
-  where
-    by : (b : Bool) → nat_eq x y ≡ b → b ≡ false
-    by true h = absurd (let same : nat_eq y x ≡ true = eq-eqb y x (sym (eqb-true x y h)) in cc)
-    by false h = refl
-
 passed_if : (b : Bool) (x y : Option GroupPerm) → b ≡ false → (if b then x else y) ≡ y
 passed_if true x y e = absurd (cc)
 passed_if false x y e = refl
 
-forgotten_if : (x y : ℕ) (a b : Bool) (gs after : Groups) → nat_eq y x ≡ a → not (known gs x) ≡ true → (if b then None else after y) ≡ with_group x group.Exclusive gs y
+forgotten_if : (x y : ℕ) (a b : Bool) (gs after : Groups) → nat_eq x y ≡ a → not (known gs x) ≡ true → (if b then None else after y) ≡ with_group x group.Exclusive gs y
     → (if a || b then None else after y) ≡ gs y
-forgotten_if x y true b gs after e n h = unknown (gs x) n ∙ ap gs (sym (eqb-true y x e))
-forgotten_if x y false b gs after e n h = h ∙ passed_if (nat_eq x y) (Some group.Exclusive) (gs y) (not_other_way x y e)
+forgotten_if x y true b gs after e n h = unknown (gs x) n ∙ ap gs (eqb-true x y e)
+forgotten_if x y false b gs after e n h = h ∙ passed_if (nat_eq x y) (Some group.Exclusive) (gs y) e
 
 -- a group that is declared was not known, and is exclusive then
 pub declared_is : (g : NameAt) (gs : Groups) → Yields (λ hs. (not (known gs g.name) ≡ true) × (with_group g.name group.Exclusive gs ≡ hs)) (declare g gs)
@@ -80,7 +73,7 @@ declared_forgotten (x ∷ xs) gs =
     next (declare x gs) λ hs e.
     let k = (declared_is x gs).value hs e in
     record {
-      value = λ after h y. forgotten_if x.name y (nat_eq y x.name) (has_name (bare_names xs) y) gs after refl k.0 ((declared_forgotten xs hs).value after h y ∙ ap (λ (z : Groups). z y) (sym k.1));
+      value = λ after h y. forgotten_if x.name y (nat_eq x.name y) (has_name (bare_names xs) y) gs after refl k.0 ((declared_forgotten xs hs).value after h y ∙ ap (λ (z : Groups). z y) (sym k.1));
     }
 
 entered : (gs : List NameAt) (before : Groups) → Yields (λ inside. AreExclusive before (has_name (bare_names gs)) × (inside ≡ shared_in gs before)) (enter_split gs before)

@@ -27,7 +27,7 @@ is_empty (x ∷ xs) = false
 
 -- the name is one of these
 abbrev pub has_name : List ℕ → Names
-has_name xs y = list_any (nat_eq y) xs
+has_name xs y = list_any (λ x. nat_eq x y) xs
 
 abbrev pub class_at : Code → ℕ → Option Class
 class_at p n = slice_get p.classes n
