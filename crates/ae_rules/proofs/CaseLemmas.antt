@@ -24,7 +24,8 @@ use Rattle.ae_rules.specs.declared.held.GroupPerm.{GroupPerm}
 use Rattle.ae_rules.specs.declared.held.GroupPerm.TheVariants as group
 use Rattle.ae_rules.specs.Verdict.{Verdict, Holds, Broken, ◌>>=◌, ◌>>◌, fine, require, found, in_turn, given}
 use Rattle.ae_rules.specs.Forms.{is_object}
-use Rattle.ae_rules.specs.Context.{Local, Context, held_of, same_group_perm, known, is_visible, with_local, with_held, moved, closed}
+use Rattle.ae_rules.specs.Groups.{same_group_perm, known}
+use Rattle.ae_rules.specs.Context.{Local, Context, held_of, is_visible, with_local, with_held, moved, closed}
 use Rattle.ae_rules.specs.Walks.{step}
 use Rattle.ae_rules.specs.Expressions.{place, Numbers, operands, result_form, has_form, both_have, judge_operands, judge_value, is_value}
 use Rattle.ae_rules.specs.Statements.{judge_right, judge_let, judge_assign, prints, groups_stay, end_block, judge_statement, judge_lines}
@@ -78,7 +79,7 @@ seen false = None
 -- the visible names are integers, and `io` alone is known and exclusive
 pub record Alike (scope : Scope) (c : Context) : Type 0 where
   pub locals : (x : ℕ) → c.local x ≡ seen (scope x)
-  pub groups : (g : ℕ) → known c g ≡ nat_eq io g
+  pub groups : (g : ℕ) → known c.group g ≡ nat_eq io g
   pub prints : c.group io ≡ Some group.Exclusive
 
 is_seen : (b : Bool) → is_some (seen b) ≡ b
@@ -221,7 +222,7 @@ free_agrees : (c : Context) (scope : Scope) → Alike scope c → (x : NameAt)
 free_agrees c scope k x =
     let local : is_some (c.local x.name) ≡ scope x.name = ap is_some (k.locals x.name) ∙ is_seen (scope x.name) in
     let may : Bool → Bool → Type 0 = λ b a. Agrees (Stays scope) (free x.name x.at scope) (require (not (b || a)) rule.DuplicateLocal x.at) in
-    subst (λ b. may b (known c x.name)) (sym local) (subst (may (scope x.name)) (sym (k.groups x.name)) (free_if (nat_eq io x.name) (scope x.name) scope x.at))
+    subst (λ b. may b (known c.group x.name)) (sym local) (subst (may (scope x.name)) (sym (k.groups x.name)) (free_if (nat_eq io x.name) (scope x.name) scope x.at))
 
 declared_if : (b r : Bool) (o : Option Local) → o ≡ seen r → (if b then Some number else o) ≡ seen (b || r)
 declared_if true r o e = refl

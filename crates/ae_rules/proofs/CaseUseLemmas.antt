@@ -1,5 +1,6 @@
 -- What the statements that run today use by the whole rules is what they use by today's.
 use Rattle.std.proofs.Common.{arith, ◌≡◌, refl, sym, subst, ap, ap₂, ◌∙◌, ℕ, zero, suc, nat_eq, Bool, true, false, ◌||◌, if◌then◌else◌, List, [], ◌∷◌, Option, None, Some}
+use Rattle.std.specs.Prelude.{slice_get}
 use Rattle.ae_text.specs.declared.refusal.Spot.{Spot}
 use Rattle.ae_text.specs.declared.refusal.Rule.TheVariants as rule
 use Rattle.std.proofs.lemmas.Bool.Decides.{nat_tests}
@@ -19,12 +20,12 @@ use Rattle.ae_code.specs.Built.{IsBuiltExpression, IsBuiltRight, IsBuiltAction, 
 use Rattle.ae_code.specs.Judgement.{Accepted, Scope, nobody, then_judge, judge_right as judge_right_small, judge_action, judge, judge_methods, IsHeld}
 use Rattle.ae_code.specs.Judgement.{Verdict as Small, Holds as Fits, Broken as Fails}
 use Rattle.ae_code.specs.Uses.{reads as reads_name, reads_right, read_if, use_of, statement_at, use_at}
-use Rattle.ae_rules.specs.Verdict.{Verdict, Holds, Broken, ◌>>=◌}
+use Rattle.ae_rules.specs.Verdict.{Verdict, Holds, Broken, judged}
 use Rattle.ae_rules.specs.Context.{Local, Context}
 use Rattle.ae_rules.specs.Statements.{judge_statement}
 use Rattle.ae_rules.specs.Judges.{start}
-use Rattle.ae_rules.specs.Uses.{nothing, writes, whole, ◌∪◌, stronger, of_found, of_judged, steps_use, value_uses, right_uses, statement_uses, context_at, block_uses}
-use Rattle.ae_rules.specs.Blocks.{Scene, scene, scene_among, scene_uses}
+use Rattle.ae_rules.specs.Uses.{nothing, writes, whole, ◌∪◌, stronger, of_found, steps_use, value_uses, right_uses, statement_uses, contexts, block_uses}
+use Rattle.ae_rules.specs.Blocks.{Scene, scene, scenes_among, scene_numbered, scene_uses}
 use Rattle.ae_rules.specs.Cases.{DeclaresOne, TodaysUsesAreACase}
 use Rattle.ae_rules.proofs.CaseLemmas.{number, seen, Alike, After, action_agrees, main_method, with_main, same_main, is_with_main, starts_alike}
 
@@ -159,7 +160,7 @@ first_held (Fails rule at) next h = h
 -- what is used behind a statement that both judge
 behind : (p : Code) (m : Definition) (rest : Lines) (i : ℕ) (r : Resource) (v : Small) (w : Verdict Context) → After v w → IsHeld (then_judge v (judge rest))
     → ((s : Scope) (d : Context) → Alike s d → IsHeld (judge rest s) → block_uses p m rest d i r ≡ use_at rest i r)
-    → of_found (statement_at rest i) (λ a. of_judged (w >>= λ d. context_at p m rest d i) (statement_uses p m a)) r ≡ use_at rest i r
+    → of_found (statement_at rest i) (λ a. of_found (slice_get (judged w [] (contexts p m rest)) i) (statement_uses p m a)) r ≡ use_at rest i r
 behind p m rest i r (Fits s) (Holds d) a h next = next s d a.same h
 behind p m rest i r (Fits s) (Broken rule at) a h next = absurd a.same
 behind p m rest i r (Fails rule at) w a h next = absurd h
@@ -196,7 +197,7 @@ is_itself n = grind (arith, nat_tests)
 
 body_scene : (p : Code) (m : Definition) (s : Scene) → scene p m m.no ≡ Some s → record { method = m; lines = m.body; start = start p m } ≡ s
 body_scene p m s e =
-    let o : Option Scene = scene_among p m m.no m.body (start p m) in
+    let o : Option Scene = scene_numbered m.no (scenes_among p m true m.body (start p m)) in
     let own : scene p m m.no ≡ Some (record { method = m; lines = m.body; start = start p m }) = ap (λ b. if b then Some (record { method = m; lines = m.body; start = start p m }) else o) (is_itself m.no) in
     some_same (sym own ∙ e)
   where

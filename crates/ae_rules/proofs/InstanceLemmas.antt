@@ -1,9 +1,8 @@
 -- Instances that conflict and part at two statements of a block are ordered.
 use Rattle.ae_code.specs.Edges.{Uses}
 use Rattle.std.proofs.Common.{◌≡◌, inl, inr, refl, ap, ◌∙◌, subst, ℕ, zero, suc, nat_eq, Bool, true, false, if◌then◌else◌, List, [], ◌∷◌, map, Option, None, Some}
-use Rattle.std.specs.Prelude.{zip}
+use Rattle.std.specs.Prelude.{zip, slice_get}
 use Rattle.std.proofs.lemmas.Bool.{eqb-true}
-use Rattle.ae_text.specs.declared.refusal.Spot.{Spot}
 use Rattle.ae_code.specs.declared.tree.Need.{Need}
 use Rattle.ae_code.specs.declared.tree.Need.TheVariants as need_of
 use Rattle.ae_code.specs.declared.tree.GroupNeed.{GroupNeed}
@@ -18,14 +17,15 @@ use Rattle.ae_code.specs.declared.form.Form.TheVariants as f
 use Rattle.ae_code.specs.Uses.{statement_at}
 use Rattle.ae_code.specs.Plain.{Expression, Invocation, Lines, End, Next, Definition, Code, Action}
 use Rattle.ae_rules.specs.declared.held.GroupPerm.TheVariants as group
-use Rattle.ae_rules.specs.Verdict.{Verdict, Holds, Broken, ◌>>=◌, given}
+use Rattle.ae_rules.specs.Verdict.{Verdict, Holds, Broken, given, judged}
 use Rattle.ae_rules.specs.Context.{Context}
 use Rattle.ae_rules.specs.Into.{Source, Null, From, source}
 use Rattle.ae_rules.specs.Forms.{is_unique, is_object}
-use Rattle.ae_rules.specs.Calls.{Callee, Slot, group_in, slots, givens, wanted}
+use Rattle.ae_rules.specs.Calls.{Callee, Slot, group_in, slots, givens}
+use Rattle.ae_rules.specs.Groups.{wanted}
 use Rattle.ae_rules.specs.Statements.{judge_statement}
 use Rattle.ae_rules.specs.Judges.{start, need_for, needed, knows}
-use Rattle.ae_rules.specs.Uses.{nothing, same_resource, one, reads, writes, ◌∪◌, of_each, of_judged, of_found, is_seen, outside, all_but, walk_uses, given_uses, argument_uses, need_uses, callee_uses, statement_uses, lines_use, context_at, block_uses}
+use Rattle.ae_rules.specs.Uses.{nothing, same_resource, one, reads, writes, ◌∪◌, of_each, of_judged, of_found, is_seen, outside, all_but, walk_uses, given_uses, argument_uses, need_uses, callee_uses, statement_uses, lines_use, contexts, block_uses}
 use Rattle.ae_rules.specs.EdgeLaws.{group_allows, is_allowed}
 use Rattle.ae_rules.specs.Instances.{renamed, source_outside, param_outside, param_names, params_given, group_names, callee_outside, body_outside, lock_outside}
 use Rattle.ae_rules.proofs.SeenLemmas.{Inside, one_if, same_is, of_two}
@@ -36,20 +36,23 @@ some_is x y e = cc
 
 -- ---- blocks
 
+abbrev no_contexts : List Context
+no_contexts = []
+
 -- a statement of a block uses at most what the block uses
 pub block_less : (p : Code) (m : Definition) (b : Lines) (c : Context) (i : ℕ) → Less (block_uses p m b c i) (lines_use p m b c)
 block_less p m End c i = less_nothing nothing
 block_less p m (Next at a rest) c zero = less_left (statement_uses p m a c) (statement_uses p m a c) (of_judged (judge_statement p m at a c) (lines_use p m rest)) (less_itself (statement_uses p m a c))
 block_less p m (Next at a rest) c (suc i) = later (λ d. block_less p m rest d i) (judge_statement p m at a c)
   where
-    none : (o : Option Action) (rule : _) (spot : Spot) → Less (of_found o (λ s. of_judged (Broken rule spot >>= λ (d : Context). context_at p m rest d i) (statement_uses p m s))) nothing
-    none None rule spot = less_nothing nothing
-    none (Some s) rule spot = less_nothing nothing
+    none : (o : Option Action) → Less (of_found o (λ s. of_found (slice_get no_contexts i) (statement_uses p m s))) nothing
+    none None = less_nothing nothing
+    none (Some s) = less_nothing nothing
 
     later : ((d : Context) → Less (block_uses p m rest d i) (lines_use p m rest d)) → (v : Verdict Context)
-        → Less (of_found (statement_at rest i) (λ s. of_judged (v >>= λ d. context_at p m rest d i) (statement_uses p m s))) (statement_uses p m a c ∪ of_judged v (lines_use p m rest))
+        → Less (of_found (statement_at rest i) (λ s. of_found (slice_get (judged v [] (contexts p m rest)) i) (statement_uses p m s))) (statement_uses p m a c ∪ of_judged v (lines_use p m rest))
     later there (Holds d) = less_right _ (statement_uses p m a c) (lines_use p m rest d) (there d)
-    later there (Broken rule spot) = less_right _ (statement_uses p m a c) nothing (none (statement_at rest i) rule spot)
+    later there (Broken rule spot) = less_right _ (statement_uses p m a c) nothing (none (statement_at rest i))
 
 -- ---- a call
 

@@ -1,5 +1,5 @@
 -- What a judged statement leaves as it was.
-use Rattle.std.proofs.Common.{◌≡◌, refl, ap, ◌∙◌, ℕ, nat_eq, Bool, true, false, ◌||◌, not, if◌then◌else◌, List, [], ◌∷◌, map, Option, None, Some}
+use Rattle.std.proofs.Common.{◌≡◌, refl, ap, ◌∙◌, subst, ℕ, nat_eq, Bool, true, false, ◌||◌, not, if◌then◌else◌, List, [], ◌∷◌, map, Option, None, Some}
 use Rattle.std.specs.Prelude.{is_some, option_map, length, zip}
 use Rattle.std.proofs.lemmas.Bool.{eqb-true}
 use Rattle.ae_text.specs.declared.refusal.Spot.{Spot}
@@ -23,14 +23,16 @@ use Rattle.ae_rules.specs.Verdict.{Verdict, ◌>>=◌, found, in_turn, given}
 use Rattle.ae_rules.specs.Shares.{Share, splits, joins}
 use Rattle.ae_rules.specs.Forms.{is_ints}
 use Rattle.ae_rules.specs.Lookups.{class_called, field_form}
-use Rattle.ae_rules.specs.Table.{no_names}
 use Rattle.ae_rules.specs.Types.{forms_type, groups_fit, is_group}
-use Rattle.ae_rules.specs.Context.{Local, Context, is_visible, held_in, held_of, opens, known, with_held, with_local, with_group, moved, closed, hold_alike}
+use Rattle.ae_rules.specs.Context.{Local, Context, is_visible, held_in, held_of, with_held, with_local, moved, closed, hold_alike}
 use Rattle.ae_rules.specs.Walks.{walk, write_access, owner_write_access}
 use Rattle.ae_rules.specs.Expressions.{place, judge_value, is_value}
 use Rattle.ae_rules.specs.Into.{into, made_into, unique_of}
-use Rattle.ae_rules.specs.Calls.{Filled, Outcome, no_roots, apart, fills, judge_new, judge_callee, judge_call, Called, Slot, slots, givens, group_in, to_slot, wanted, needs_met, Part, parts, given_back, after_call}
-use Rattle.ae_rules.specs.Statements.{judge_take, result_into, judge_right, judge_let, judge_assign, is_moved, judge_store, judge_store_at, holds_alone, judge_share, prints, judge_return, groups_stay, end_block, may_split, while_split, may_lock, while_locked, judge_statement, judge_lines}
+use Rattle.ae_rules.specs.Groups.{Groups as GroupsKnown}
+use Rattle.ae_rules.specs.Groups.{opens, known, declare, with_group, wanted, needs_met, may_split_all, may_lock}
+use Rattle.ae_rules.specs.Calls.{Filled, Outcome, no_roots, apart, fills, judge_new, judge_callee, judge_call, Called, Slot, slots, givens, group_in, to_slot, Part, parts, given_back, after_call}
+use Rattle.ae_rules.specs.Statements.{judge_take, result_into, judge_right, judge_let, judge_assign, is_moved, judge_store, judge_store_at, holds_alone, judge_share, prints, judge_return, groups_stay, end_block, while_split, while_locked, judge_statement, judge_lines}
+use Rattle.ae_rules.proofs.GroupLemmas.{declared_is}
 use Rattle.ae_rules.proofs.VerdictLemmas.{Yields, gives, next, asks, turns}
 use Rattle.ae_rules.specs.Laws.{Keeps, StatementsKeep}
 
@@ -64,10 +66,9 @@ no_local : (a b : Bool) → not (a || b) ≡ true → a ≡ true → ⊥
 no_local true b e h = cc
 no_local false b e h = cc
 
-no_group : (a b : Bool) → not (a || b) ≡ true → b ≡ true → ⊥
-no_group true b e h = cc
-no_group false true e h = cc
-no_group false false e h = cc
+no_group : (b : Bool) → not b ≡ true → b ≡ true → ⊥
+no_group true e h = cc
+no_group false e h = cc
 
 there : {A : Type 0} (o : Option A) (x : A) → o ≡ Some x → is_some o ≡ true
 there None x e = cc
@@ -82,11 +83,11 @@ new_if c d x y new l true n v k e = absurd (no_local _ _ v (there (c.local x) l 
 keeps_local : (x : ℕ) (t : Form) (c d : Context) → not (is_visible c x) ≡ true → Keeps c d → Keeps c (with_local x t d)
 keeps_local x t c d v k = record { local = λ y l e. new_if c d x y _ l (nat_eq x y) refl v k e; group = k.group }
 
-group_if : (c : Context) (x y : ℕ) (new q : GroupPerm) (b : Bool) → nat_eq x y ≡ b → not (is_visible c x) ≡ true → c.group y ≡ Some q → (if b then Some new else c.group y) ≡ Some q
+group_if : (c : Context) (x y : ℕ) (new q : GroupPerm) (b : Bool) → nat_eq x y ≡ b → not (known c.group x) ≡ true → c.group y ≡ Some q → (if b then Some new else c.group y) ≡ Some q
 group_if c x y new q false n v e = e
-group_if c x y new q true n v e = absurd (no_group _ _ v (there (c.group x) q (ap c.group (eqb-true x y n) ∙ e)))
+group_if c x y new q true n v e = absurd (no_group _ v (there (c.group x) q (ap c.group (eqb-true x y n) ∙ e)))
 
-keeps_group : (g : ℕ) (q : GroupPerm) (c : Context) → not (is_visible c g) ≡ true → Keeps c (with_group g q c)
+keeps_group : (g : ℕ) (q : GroupPerm) (c : Context) → not (known c.group g) ≡ true → Keeps c (record c { group = with_group g q c.group })
 keeps_group g q c v = record { local = λ x l e. (l.held, e); group = λ h r e. group_if c g h q r (nat_eq g h) refl v e }
 
 inside_if : (b : Bool) (o : Option Local) (l : Local) → b ≡ true → (h : Held) × (o ≡ Some (record l { held = h })) → (h : Held) × ((if b then o else None) ≡ Some (record l { held = h }))
@@ -126,11 +127,11 @@ keeps_after_call (x ∷ xs) c = keeps_part x xs (keeps_after_call xs) c (splits 
 call_keeps : (p : Code) (c : Context) (i : Invocation) → Yields (λ (d : Called). Keeps c d.after) (judge_call p c i)
 call_keeps p c i =
     next (judge_callee p c i.on i.method) λ m _.
-    next (groups_fit (known c) (length m.method.groups) i.method.at i.groups) λ _ _.
+    next (groups_fit (known c.group) (length m.method.groups) i.method.at i.groups) λ _ _.
     asks (nat_eq (length i.args) (length m.method.params)) _ _ λ _.
     let pairs : List (Slot × Expression) = zip (slots p (group_in m i.groups) m.method) (givens i) in
     next (in_turn (to_slot p c) pairs no_roots) λ _ _.
-    next (needs_met c i.method.at (map (wanted (group_in m i.groups)) m.method.needs)) λ _ _.
+    next (needs_met c.group i.method.at (map (wanted (group_in m i.groups)) m.method.needs)) λ _ _.
     gives (keeps_after_call (parts c pairs) c)
 
 -- ---- new objects and right sides
@@ -144,7 +145,7 @@ fill_keeps p c x s k =
 new_keeps : (p : Code) (c : Context) (x : NameAt) (gs : List NameAt) (args : List Expression) → Yields (λ (d : Outcome). Keeps c d.after) (judge_new p c x gs args)
 new_keeps p c x gs args =
     next (found (class_called p x.name) rule.UnknownClass x.at) λ (k : Class) _.
-    next (groups_fit (known c) (length k.groups) x.at gs) λ _ _.
+    next (groups_fit (known c.group) (length k.groups) x.at gs) λ _ _.
     asks (nat_eq (length args) (length k.fields)) _ _ λ _.
     let pairs : List (Form × Expression) = zip (map (field_form k (bare_names gs)) k.fields) args in
     let empty : Filled = record { roots = no_roots; after = c } in
@@ -174,7 +175,7 @@ right_keeps p c target (Returned i) =
 
 let_keeps : (p : Code) (c : Context) (t : Ty) (x : NameAt) (e : RightSide) → Yields (Keeps c) (judge_let p c t x e)
 let_keeps p c t x e =
-    next (forms_type p (known c) false t) λ _ _.
+    next (forms_type p (known c.group) false t) λ _ _.
     asks (not (is_visible c x.name)) _ _ λ v.
     next (judge_right p c (form t) e) λ d h.
     gives (keeps_local x.name (form t) c d v ((right_keeps p c (form t) e).value d h))
@@ -206,12 +207,12 @@ store_at_keeps p c path i e =
 share_keeps : (c : Context) (x g : NameAt) → Yields (Keeps c) (judge_share c x g)
 share_keeps c x g =
     next (holds_alone c x) λ _ _.
-    next (is_group (known c) g) λ _ _.
-    asks (opens c g.name) _ _ λ _.
+    next (is_group (known c.group) g) λ _ _.
+    asks (opens c.group g.name) _ _ λ _.
     gives (keeps_held x.name (held.Shared g.name) c)
 
 print_keeps : (c : Context) (at : Spot) → Yields (Keeps c) (prints c at)
-print_keeps c at = asks (opens c io) _ _ λ _. gives (keeps_all c)
+print_keeps c at = asks (opens c.group io) _ _ λ _. gives (keeps_all c)
 
 return_keeps : (p : Code) (m : Definition) (c : Context) (e : Expression) (at : Spot) → Yields (Keeps c) (judge_return p m c e at)
 return_keeps p m c e at =
@@ -246,26 +247,29 @@ mutual
   statement_keeps p m at (Calls i) c = next (judge_call p c i) λ d e. gives ((call_keeps p c i).value d e)
   statement_keeps p m at (Chooses e n b) c =
       next (is_value p c f.Bool e) λ _ _.
-      next (judge_lines p m b c >>= end_block p c b) λ d h.
+      next (judge_lines p m b c >>= end_block p c b) λ d _.
       asks (hold_alike p c d c) _ _ λ _.
-      gives ((block_keeps p m b c c (same_locals c) (lines_keep p m b c)).value d h)
+      gives (keeps_all c)
   statement_keeps p m at (ChoosesElse e n b k b') c =
       next (is_value p c f.Bool e) λ _ _.
-      next (judge_lines p m b c >>= end_block p c b) λ d h.
-      next (judge_lines p m b' c >>= end_block p c b') λ d' _.
+      next (judge_lines p m b c >>= end_block p c b) λ d _.
+      next (judge_lines p m b' c >>= end_block p c b') λ d' h.
       asks (hold_alike p c d d') _ _ λ _.
-      gives ((block_keeps p m b c c (same_locals c) (lines_keep p m b c)).value d h)
+      gives ((block_keeps p m b' c c (same_locals c) (lines_keep p m b' c)).value d' h)
   statement_keeps p m at (Repeats e n b) c =
       next (is_value p c f.Bool e) λ _ _.
-      next (judge_lines p m b c >>= end_block p c b) λ d h.
+      next (judge_lines p m b c >>= end_block p c b) λ d _.
       asks (hold_alike p c d c) _ _ λ _.
-      gives ((block_keeps p m b c c (same_locals c) (lines_keep p m b c)).value d h)
-  statement_keeps p m at (Groups g) c = asks (not (is_visible c g.name)) _ _ λ v. gives (keeps_group g.name group.Exclusive c v)
+      gives (keeps_all c)
+  statement_keeps p m at (Groups g) c =
+      asks (not (is_some (c.local g.name))) _ _ λ _.
+      next (declare g c.group) λ gs h.
+      gives (subst (λ (hs : GroupsKnown). Keeps c (record c { group = hs })) ((declared_is g c.group).value gs h).1 (keeps_group g.name group.Exclusive c ((declared_is g c.group).value gs h).0))
   statement_keeps p m at (Splits gs n b) c =
-      next (in_turn (may_split c) gs no_names) λ names _.
-      block_keeps p m b c (while_split names c) (same_locals c) (lines_keep p m b (while_split names c))
+      next (may_split_all c.group gs) λ _ _.
+      block_keeps p m b c (while_split gs c) (same_locals c) (lines_keep p m b (while_split gs c))
   statement_keeps p m at (Locks g n b) c =
-      next (may_lock c g) λ _ _.
+      next (may_lock c.group g) λ _ _.
       block_keeps p m b c (while_locked g.name c) (same_locals c) (lines_keep p m b (while_locked g.name c))
   statement_keeps p m at (Freezes x) c = next (holds_alone c x) λ _ _. gives (keeps_held x.name held.Immutable c)
   statement_keeps p m at (Shares x g) c = share_keeps c x g

@@ -1,6 +1,7 @@
 -- Proofs of the laws.
-use Rattle.std.proofs.Common.{◌≡◌, ◌⊎◌, inl, inr, refl, subst, ℕ, zero, suc, nat_eq, nat_lt, Bool, true, false, if◌then◌else◌, Option, None, Some}
+use Rattle.std.proofs.Common.{◌≡◌, ◌⊎◌, inl, inr, refl, ap, subst, ℕ, arith, nat_eq, nat_lt, ◌+◌, ◌-◌, ◌&&◌, Bool, true, false, if◌then◌else◌, Option, None, Some}
 use Rattle.std.proofs.lemmas.Bool.{eq-eqb}
+use Rattle.std.proofs.lemmas.Bool.Decides.{nat_tests}
 use Rattle.ae_text.specs.declared.refusal.Spot.{Spot}
 use Rattle.ae_text.specs.declared.refusal.Rule.{Rule}
 use Rattle.ae_code.specs.declared.form.Perm.{Perm}
@@ -8,7 +9,7 @@ use Rattle.ae_code.specs.declared.form.Perm.TheVariants as need
 use Rattle.ae_rules.specs.declared.held.Held.{Held}
 use Rattle.ae_rules.specs.declared.held.Held.TheVariants as held
 use Rattle.ae_rules.specs.Verdict.{Verdict, Holds, Broken}
-use Rattle.ae_rules.specs.Shares.{Share, most_lent, splits, joins, lend, lend_more}
+use Rattle.ae_rules.specs.Shares.{Share, most_lent, splits, joins, lend, lend_more, one_less}
 use Rattle.ae_rules.specs.Statements.{judge_statement}
 use Rattle.ae_rules.specs.Judges.{verdict}
 use Rattle.ae_rules.specs.Laws.{JudgedOrBroken, NeverBoth, AcceptedOrBroken, NeverAcceptedAndBroken, FirstIsOne, TakenIsGivenBack, NothingToTake}
@@ -54,13 +55,24 @@ abbrev Rejoins : Held → Option Share → Type 0
 Rejoins whole None = Unit {0}
 Rejoins whole (Some share) = joins share.1 share.0 ≡ Some whole
 
-lent_rejoins : (b : Bool) (n : ℕ) → Rejoins (held.Split (suc n)) (if b then lend (held.Split (suc (suc n))) else None)
-lent_rejoins true n = refl
-lent_rejoins false n = tt
+abbrev no_held : Option Held
+no_held = None
+
+lent_back_if : (a b : Bool) (n k : ℕ) → a ≡ false → b ≡ false → k ≡ n → (if a then no_held else Some (if b then held.Unique else held.Split k)) ≡ Some (held.Split n)
+lent_back_if true b n k e h i = absurd (cc)
+lent_back_if false true n k e h i = absurd (cc)
+lent_back_if false false n k e h i = ap (λ (x : ℕ). Some (held.Split x)) i
+
+lent_back : (n : ℕ) → nat_lt 0 n ≡ true → one_less (n + 1) ≡ Some (held.Split n)
+lent_back n h = lent_back_if (nat_eq (n + 1) 0) (nat_eq (n + 1) 1) n ((n + 1) - 1) (grind (arith, nat_tests, h)) (grind (arith, nat_tests, h)) (omega arith)
+
+lent_rejoins : (a b : Bool) (n : ℕ) → nat_lt 0 n ≡ a → Rejoins (held.Split n) (if a && b then lend (held.Split (n + 1)) else None)
+lent_rejoins true true n h = lent_back n h
+lent_rejoins true false n h = tt
+lent_rejoins false b n h = tt
 
 more_rejoins : (n : ℕ) → Rejoins (held.Split n) (lend_more n)
-more_rejoins zero = tt
-more_rejoins (suc n) = lent_rejoins (nat_lt (suc n) most_lent) n
+more_rejoins n = lent_rejoins (nat_lt 0 n) (nat_lt n most_lent) n refl
 
 shared_joins : (g : ℕ) (b : Bool) → b ≡ true → (if b then Some (held.Shared g) else None) ≡ Some (held.Shared g)
 shared_joins g true e = refl

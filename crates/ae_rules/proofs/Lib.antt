@@ -1,4 +1,5 @@
 pub mod VerdictLemmas
+mod GroupLemmas
 mod LawLemmas
 mod CallLemmas
 mod MoveLemmas
@@ -17,5 +18,6 @@ mod InstanceExamples
 mod LessLemmas
 mod InstanceLemmas
 mod PathLemmas
+mod BlockLemmas
 mod CaseLemmas
 mod CaseUseLemmas

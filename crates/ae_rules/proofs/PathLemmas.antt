@@ -16,20 +16,21 @@ use Rattle.ae_code.specs.Edges.{IsConflict, Uses, Before}
 use Rattle.ae_code.specs.Names.{main}
 use Rattle.ae_code.specs.Plain.{Invocation, RightSide, Value, Taken, Zeros, Made, Returned, Lines, End, Next, Definition, Code}
 use Rattle.ae_code.specs.Plain.{Action, Declares, Assigns, Stores, StoresAt, Calls, Chooses, ChoosesElse, Repeats, Groups, Splits, Locks, Freezes, Shares, Prints, PrintsText, Asserts, Returns}
-use Rattle.ae_rules.specs.Verdict.{Verdict, Holds, Broken, ◌>>=◌, found, each, in_turn, given, require}
+use Rattle.ae_rules.specs.Verdict.{Verdict, Holds, Broken, ◌>>=◌, found, each, given, judged, require}
 use Rattle.ae_rules.specs.Forms.{is_object}
-use Rattle.ae_rules.specs.Lookups.{Names, is_empty, method_at, top_number, top_called, class_of, groups_of, method_number}
+use Rattle.ae_rules.specs.Lookups.{is_empty, method_at, top_number, top_called, class_of, groups_of, method_number}
 use Rattle.ae_code.specs.Form.{bare_names}
-use Rattle.ae_rules.specs.Table.{table_verdict, no_names}
+use Rattle.ae_rules.specs.Table.{table_verdict}
 use Rattle.ae_rules.specs.Context.{Local, Context}
 use Rattle.ae_rules.specs.Walks.{walk}
 use Rattle.ae_rules.specs.Expressions.{is_value}
 use Rattle.ae_rules.specs.Calls.{Callee, callee_at, callee_in, callee_of, top_callee, judge_callee}
-use Rattle.ae_rules.specs.Statements.{may_split, while_split, may_lock, while_locked, end_block, branches_meet, loop_keeps, judge_statement, judge_lines}
+use Rattle.ae_rules.specs.Groups.{may_split_all, may_lock}
+use Rattle.ae_rules.specs.Statements.{while_split, while_locked, end_block, branches_meet, loop_keeps, judge_statement, judge_lines}
 use Rattle.ae_rules.specs.Judges.{start, judge_method, Accepts}
-use Rattle.ae_rules.specs.Uses.{nothing, writes, together, ◌∪◌, of_judged, of_found, outside, all_but, value_uses, call_uses, right_uses, callee_uses, split_start, statement_uses, lines_use, context_at}
-use Rattle.ae_rules.specs.Blocks.{Scene, scene_uses}
-use Rattle.ae_rules.specs.Instances.{Point, InBlock, AtChoice, AtLoop, Nowhere, block_at, body, point_of, in_statement, inside, first_point, Parting, parting_from, IsFirstAt, body_outside, statement_outside, outside_of, uses_from}
+use Rattle.ae_rules.specs.Uses.{nothing, writes, together, ◌∪◌, of_judged, of_found, outside, all_but, value_uses, call_uses, right_uses, callee_uses, statement_uses, lines_use, contexts, context_at}
+use Rattle.ae_rules.specs.Blocks.{Scene, body, scene_uses}
+use Rattle.ae_rules.specs.Instances.{Point, InBlock, AtChoice, AtLoop, Nowhere, in_statement, inside, first_point, Parting, parting_from, IsFirstAt, body_outside, statement_outside, outside_of, uses_from}
 use Rattle.ae_rules.proofs.SeenLemmas.{found_is}
 use Rattle.ae_rules.proofs.VisibleLemmas.{uses_are_allowed}
 use Rattle.ae_rules.proofs.VisibleLemmas as judged_lines
@@ -90,10 +91,10 @@ callee_method p c (Some path) x k e =
     let t = first_holds (require (is_object w.0.form) rule.TypeMismatch path.root.at) _ k w.2 in
     form_method p w.0.form x.name k (found_is (callee_of p w.0.form x.name) rule.UnknownMethod x.at k t.2)
 
-abbrev JudgedLines : Code → Definition → Lines → Context → Type 0
+abbrev pub JudgedLines : Code → Definition → Lines → Context → Type 0
 JudgedLines p m b c = (d : Context) × (judge_lines p m b c ≡ Holds d)
 
-method_judged : (p : Code) (m : Definition) → Accepts p → IsMethod p m → JudgedLines p m m.body (start p m)
+pub method_judged : (p : Code) (m : Definition) → Accepts p → IsMethod p m → JudgedLines p m m.body (start p m)
 method_judged p m a n =
     let t = first_holds (table_verdict p) _ tt a in
     let h = each_holds (judge_method p) p.methods tt n.0 m t.2 n.1 in
@@ -142,7 +143,7 @@ abbrev called_uses : Code → Verdict Callee → Uses
 called_uses p v = of_judged v (λ (k : Callee). body_uses p k.method)
 
 call_good : (p : Code) (locked : Bool) (v : Verdict Callee) → ((k : Callee) → v ≡ Holds k → JudgedLines p k.method k.method.body (start p k.method))
-    → Good p (point_of v (λ (k : Callee). InBlock locked (body p k.method))) (called_uses p v)
+    → Good p (judged v Nowhere (λ (k : Callee). InBlock locked (body p k.method))) (called_uses p v)
 call_good p locked (Holds k) h = (h k refl, less_itself (body_uses p k.method))
 call_good p locked (Broken rule at) h = tt
 
@@ -158,23 +159,6 @@ bodies p a c i k e = method_judged p k.method a (callee_method p c i.on i.method
 
 held_right : (u v w : Uses) → Held u w → Held u (v ∪ w)
 held_right u v w h = record { less = less_right u v w h.less; fit = h.fit }
-
--- ---- split blocks
-
-split_good : (p : Code) (locked : Bool) (m : Definition) (b : Lines) (v : Verdict Context) → ((d : Context) → v ≡ Holds d → JudgedLines p m b d)
-    → Good p (point_of v (λ d. InBlock locked (block_at m b d))) (of_judged v (lines_use p m b))
-split_good p locked m b (Holds d) h = (h d refl, less_itself (lines_use p m b d))
-split_good p locked m b (Broken rule at) h = tt
-
-split_judged : (p : Code) (m : Definition) (b : Lines) (c e : Context) (v : Verdict Names) → (v >>= λ names. (judge_lines p m b (while_split names c) >>= end_block p c b)) ≡ Holds e
-    → (d : Context) → (v >>= λ names. Holds (while_split names c)) ≡ Holds d → JudgedLines p m b d
-split_judged p m b c e (Holds names) h d k =
-    let r = first_holds (judge_lines p m b (while_split names c)) (end_block p c b) e h in
-    (r.0, subst (λ (x : Context). judge_lines p m b x ≡ Holds r.0) (one_value k) r.1)
-  where
-    one_value : Holds (while_split names c) ≡ Holds d → while_split names c ≡ d
-    one_value q = cc
-split_judged p m b c e (Broken rule at) h d k = absurd (cc)
 
 -- ---- statements
 
@@ -222,7 +206,7 @@ lock_step p locked m g n b c j = record {
   };
 }
 
-lines_then_end : (p : Code) (m : Definition) (b : Lines) (c : Context) (x : Context) (next : Context → Verdict Context) (d : Context) → ((judge_lines p m b x >>= end_block p c b) >>= next) ≡ Holds d → JudgedLines p m b x
+pub lines_then_end : (p : Code) (m : Definition) (b : Lines) (c : Context) (x : Context) (next : Context → Verdict Context) (d : Context) → ((judge_lines p m b x >>= end_block p c b) >>= next) ≡ Holds d → JudgedLines p m b x
 lines_then_end p m b c x next d h =
     let r = first_holds (judge_lines p m b x >>= end_block p c b) next d h in
     let l = first_holds (judge_lines p m b x) (end_block p c b) r.0 r.1 in
@@ -270,14 +254,16 @@ step p acc locked m at (Repeats e n b) c d h =
       out = λ u w. record { less = less_then (outside c u) u all (outside_less c u) w.less; fit = fit_outside c u w.fit };
     }
 step p acc locked m at (Splits gs n b) c d h =
-    let bound : Uses = of_judged (split_start c gs) (lines_use p m b) in
+    let bound : Uses = lines_use p m b (while_split gs c) in
+    let r = first_holds (may_split_all c.group gs) (λ _. judge_lines p m b (while_split gs c) >>= end_block p c b) d h in
+    let l = first_holds (judge_lines p m b (while_split gs c)) (end_block p c b) d r.2 in
     record {
       bound = bound;
-      good = split_good p locked m b (split_start c gs) (split_judged p m b c d (in_turn (may_split c) gs no_names) h);
+      good = ((l.0, l.1), less_itself bound);
       out = λ u w. record { less = less_right (outside c u) _ (outside c bound) (less_outside c u bound w.less); fit = fit_outside c u w.fit };
     }
 step p acc locked m at (Locks g n b) c d h =
-    let r = first_holds (may_lock c g) (λ _. judge_lines p m b (while_locked g.name c) >>= end_block p c b) d h in
+    let r = first_holds (may_lock c.group g) (λ _. judge_lines p m b (while_locked g.name c) >>= end_block p c b) d h in
     let l = first_holds (judge_lines p m b (while_locked g.name c)) (end_block p c b) d r.2 in
     lock_step p locked m g n b c (l.0, l.1)
 step p acc locked m at (Stores path e) c d h = record { bound = nothing; good = tt; out = λ u w. nowhere_out p m (Stores path e) c }
@@ -293,11 +279,11 @@ step p acc locked m at (Returns e) c d h = record { bound = nothing; good = tt; 
 -- ---- a statement of a block
 
 -- the context before a statement of a judged block, in which it is judged
-record Located (p : Code) (m : Definition) (a : Action) (v : Verdict Context) : Type 0 where
+record Located (p : Code) (m : Definition) (a : Action) (v : Option Context) : Type 0 where
   before : Context
   after : Context
   at : Spot
-  is : v ≡ Holds before
+  is : v ≡ Some before
   judged : judge_statement p m at a before ≡ Holds after
 
 some_action : (a b : Action) → Some a ≡ Some b → a ≡ b
@@ -311,11 +297,11 @@ located p m (Next at s rest) c d zero a h e =
 located p m (Next at s rest) c d (suc i) a h e =
     let r = first_holds (judge_statement p m at s c) (judge_lines p m rest) d h in
     let l : Located p m a (context_at p m rest r.0 i) = located p m rest r.0 d i a r.2 e in
-    record { before = l.before; after = l.after; at = l.at; is = ap (λ v. v >>= λ x. context_at p m rest x i) r.1 ∙ l.is; judged = l.judged }
+    record { before = l.before; after = l.after; at = l.at; is = ap (λ v. slice_get (judged v [] (contexts p m rest)) i) r.1 ∙ l.is; judged = l.judged }
 
 -- what holds of the statement and its context holds of what is looked up
-picked : (o : Option Action) (v : Verdict Context) (a : Action) (c : Context) (g h : Action → Context → Uses) → o ≡ Some a → v ≡ Holds c → Held (g a c) (h a c)
-    → Held (of_found o (λ s. of_judged v (g s))) (of_found o (λ s. of_judged v (h s)))
+picked : (o : Option Action) (v : Option Context) (a : Action) (c : Context) (g h : Action → Context → Uses) → o ≡ Some a → v ≡ Some c → Held (g a c) (h a c)
+    → Held (of_found o (λ s. of_found v (g s))) (of_found o (λ s. of_found v (h s)))
 picked o v a c g h e k w = rw e (rw k w)
 
 held_bound : (u v w : Uses) → Held u v → Less v w → Held u w
@@ -325,10 +311,10 @@ held_bound u v w h k = record { less = less_then u v w h.less k; fit = h.fit }
 abbrev Along : Code → List ℕ → Type 0
 Along p q = (at : Point) (bound : Uses) → Good p at bound → Held (uses_from p at q) bound
 
-inside_is : (p : Code) (locked : Bool) (s : Scene) (i : ℕ) (a : Action) (c : Context) → statement_at s.lines i ≡ Some a → context_at p s.method s.lines s.start i ≡ Holds c
+inside_is : (p : Code) (locked : Bool) (s : Scene) (i : ℕ) (a : Action) (c : Context) → statement_at s.lines i ≡ Some a → context_at p s.method s.lines s.start i ≡ Some c
     → inside p (InBlock locked s) i ≡ in_statement p locked s.method a c
 inside_is p locked s i a c e k =
-    ap (λ o. given o Nowhere (λ x. point_of (context_at p s.method s.lines s.start i) (in_statement p locked s.method x))) e ∙ ap (λ v. point_of v (in_statement p locked s.method a)) k
+    ap (λ o. given o Nowhere (λ x. given (context_at p s.method s.lines s.start i) Nowhere (in_statement p locked s.method x))) e ∙ ap (λ v. given v Nowhere (in_statement p locked s.method a)) k
 
 fit_statement : (p : Code) (m : Definition) (at : Spot) (a : Action) (c d : Context) → judge_statement p m at a c ≡ Holds d → Held (statement_uses p m a c) (statement_uses p m a c)
 fit_statement p m at a c d h = record { less = less_itself (statement_uses p m a c); fit = fit_within d (statement_uses p m a c) (λ r n e. uses_are_allowed p m at a c d r n h e) }
@@ -370,17 +356,28 @@ if_held : (b : Bool) (u v bound : Uses) → Held u bound → Held v bound → He
 if_held true u v bound h k = h
 if_held false u v bound h k = k
 
+-- what is used where nothing runs, seen from outside it
+nowhere_held : (c : Context) (bound u : Uses) → Held u nothing → Held (outside c u) bound
+nowhere_held c bound u h = record {
+  less = less_then _ (outside c nothing) bound (less_outside c u nothing h.less) (less_then _ nothing bound (outside_less c nothing) (less_nothing bound));
+  fit = fit_outside c u h.fit;
+}
+
 next_number : (p : Code) → Accepts p → (i : ℕ) (q : List ℕ) → Along p q → Along p (i ∷ q)
 next_number p acc i q ih (InBlock locked s) bound g =
     held_bound _ (scene_uses p s i) bound (in_scene p acc locked s g.0 i q ih (statement_at s.lines i) refl) (less_then (scene_uses p s i) (all_uses p s) bound (block_less p s.method s.lines s.start i) g.1)
 next_number p acc zero q ih (AtChoice locked s None) bound g =
     if_held (is_empty q) _ _ bound (held_nothing bound) (from_block p s.start s bound _ g.1 (ih (InBlock locked s) (all_uses p s) (g.0, less_itself (all_uses p s))))
-next_number p acc (suc i) q ih (AtChoice locked s None) bound g =
-    if_held (is_empty q) _ _ bound (held_nothing bound) (record { less = less_then _ (outside s.start nothing) bound (less_outside s.start _ nothing (ih Nowhere nothing tt).less) (less_then _ nothing bound (outside_less s.start nothing) (less_nothing bound)); fit = fit_outside s.start _ (ih Nowhere nothing tt).fit })
+next_number p acc (suc zero) q ih (AtChoice locked s None) bound g =
+    if_held (is_empty q) _ _ bound (held_nothing bound) (nowhere_held s.start bound _ (ih Nowhere nothing tt))
+next_number p acc (suc (suc i)) q ih (AtChoice locked s None) bound g =
+    if_held (is_empty q) _ _ bound (held_nothing bound) (nowhere_held s.start bound _ (ih Nowhere nothing tt))
 next_number p acc zero q ih (AtChoice locked s (Some t)) bound g =
     if_held (is_empty q) _ _ bound (held_nothing bound) (from_block p s.start s bound _ g.1 (ih (InBlock locked s) (all_uses p s) (g.0, less_itself (all_uses p s))))
-next_number p acc (suc i) q ih (AtChoice locked s (Some t)) bound g =
+next_number p acc (suc zero) q ih (AtChoice locked s (Some t)) bound g =
     if_held (is_empty q) _ _ bound (held_nothing bound) (from_block p s.start t bound _ g.3 (ih (InBlock locked t) (all_uses p t) (g.2, less_itself (all_uses p t))))
+next_number p acc (suc (suc i)) q ih (AtChoice locked s (Some t)) bound g =
+    if_held (is_empty q) _ _ bound (held_nothing bound) (nowhere_held s.start bound _ (ih Nowhere nothing tt))
 next_number p acc i q ih (AtLoop locked uses s) bound g =
     if_held (is_empty q) _ _ bound (record { less = g.2; fit = g.3 }) (from_block p s.start s bound _ g.1 (ih (InBlock locked s) (all_uses p s) (g.0, less_itself (all_uses p s))))
 next_number p acc i q ih Nowhere bound g = if_held (is_empty q) _ _ bound (held_nothing bound) (held_nothing bound)
@@ -396,7 +393,7 @@ IsGoodAt p at = (bound : Uses) × Good p at bound
 
 good_inside : (p : Code) → Accepts p → (locked : Bool) (s : Scene) → IsGood p s → (i : ℕ) (o : Option Action) → statement_at s.lines i ≡ o → IsGoodAt p (inside p (InBlock locked s) i)
 good_inside p acc locked s j i None e =
-    subst (IsGoodAt p) (sym (ap (λ (o : Option Action). given o Nowhere (λ x. point_of (context_at p s.method s.lines s.start i) (in_statement p locked s.method x))) e)) (nothing, tt)
+    subst (IsGoodAt p) (sym (ap (λ (o : Option Action). given o Nowhere (λ x. given (context_at p s.method s.lines s.start i) Nowhere (in_statement p locked s.method x))) e)) (nothing, tt)
 good_inside p acc locked s j i (Some a) e =
     let l : Located p s.method a (context_at p s.method s.lines s.start i) = located p s.method s.lines s.start j.0 i a j.1 e in
     let st : Step p locked s.method a l.before = step p acc locked s.method l.at a l.before l.after l.judged in
@@ -408,9 +405,11 @@ some_parting x y h = cc
 good_next : (p : Code) → Accepts p → (at : Point) → IsGoodAt p at → (i : ℕ) → IsGoodAt p (inside p at i)
 good_next p acc (InBlock locked s) g i = good_inside p acc locked s g.1.0 i (statement_at s.lines i) refl
 good_next p acc (AtChoice locked s None) g zero = (all_uses p s, (g.1.0, less_itself (all_uses p s)))
-good_next p acc (AtChoice locked s None) g (suc i) = (nothing, tt)
+good_next p acc (AtChoice locked s None) g (suc zero) = (nothing, tt)
+good_next p acc (AtChoice locked s None) g (suc (suc i)) = (nothing, tt)
 good_next p acc (AtChoice locked s (Some t)) g zero = (all_uses p s, (g.1.0, less_itself (all_uses p s)))
-good_next p acc (AtChoice locked s (Some t)) g (suc i) = (all_uses p t, (g.1.2, less_itself (all_uses p t)))
+good_next p acc (AtChoice locked s (Some t)) g (suc (suc i)) = (nothing, tt)
+good_next p acc (AtChoice locked s (Some t)) g (suc zero) = (all_uses p t, (g.1.2, less_itself (all_uses p t)))
 good_next p acc (AtLoop locked uses s) g i = (all_uses p s, (g.1.0, less_itself (all_uses p s)))
 good_next p acc Nowhere g i = (nothing, tt)
 

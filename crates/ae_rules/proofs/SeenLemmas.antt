@@ -22,17 +22,15 @@ use Rattle.ae_rules.specs.declared.held.GroupPerm.TheVariants as group
 use Rattle.ae_rules.specs.Verdict.{Verdict, Holds, Broken, require, found, each, in_turn, given}
 use Rattle.ae_rules.specs.Lookups.{field_of}
 use Rattle.ae_rules.specs.Forms.{is_ints}
-use Rattle.ae_rules.specs.Context.{Local, Context, group_is, same_group_perm, opens, access}
+use Rattle.ae_rules.specs.Groups.{group_is, same_group_perm, opens}
+use Rattle.ae_rules.specs.Context.{Local, Context, access}
 use Rattle.ae_rules.specs.Walks.{Place, step, walk, owner, write_access, owner_write_access}
 use Rattle.ae_rules.specs.Expressions.{place, Operands, Numbers, Truths, Equals, operands, Compared, path_beside_null, beside_null, has_form, both_have, two_alike, equal_operands, judge_operands, judge_value, is_value}
 use Rattle.ae_rules.specs.Uses.{nothing, same_resource, one, reads, writes, whole, together, stronger, ◌∪◌, of_each, of_judged, of_found, is_seen, outside, all_but, reach, steps_use, walk_uses, path_uses, end_uses, root_written, write_uses, value_uses}
 use Rattle.ae_rules.specs.EdgeLaws.{is_of_local, group_allows, is_allowed}
-use Rattle.ae_rules.proofs.VerdictLemmas.{Yields, gives, next, asks}
+use Rattle.ae_rules.proofs.VerdictLemmas.{Yields, gives, next, asks, always}
 
 -- ---- verdicts
-
-pub always : {A : Type 0} {P : Type 0} {v : Verdict A} → P → Yields (λ _. P) v
-always h = record { value = λ x e. h }
 
 pub weaker : {A : Type 0} {P Q : A → Type 0} {v : Verdict A} → ((x : A) → P x → Q x) → Yields P v → Yields Q v
 weaker h y = record { value = λ x e. h x (y.value x e) }
@@ -168,24 +166,24 @@ shared_allows (Some group.Protected) e = absurd (cc)
 shared_allows (Some group.HeldBack) e = absurd (cc)
 shared_allows (Some group.None) e = absurd (cc)
 
-pub in_exclusive : (c : Context) (g : ℕ) → group_is group.Exclusive c g ≡ true → Within c (whole g)
+pub in_exclusive : (c : Context) (g : ℕ) → group_is group.Exclusive c.group g ≡ true → Within c (whole g)
 in_exclusive c g e = in_one c mode.GroupWhole (resource.Group g) (exclusive_allows (c.group g) e)
 
-pub in_shared : (c : Context) (g : ℕ) → group_is group.Shared c g ≡ true → Within c (together g)
+pub in_shared : (c : Context) (g : ℕ) → group_is group.Shared c.group g ≡ true → Within c (together g)
 in_shared c g e = in_one c mode.GroupShared (resource.Group g) (shared_allows (c.group g) e)
 
 either : (a b : Bool) → (a || b) ≡ true → (a ≡ true) ⊎ (b ≡ true)
 either true b e = inl refl
 either false b e = inr e
 
-pub in_open : (c : Context) (g : ℕ) → opens c g ≡ true → Within c (whole g)
-in_open c g e = in_one c mode.GroupWhole (resource.Group g) (elim (either (group_is group.Exclusive c g) (group_is group.Protected c g) e) [ inl h ↦ exclusive_allows (c.group g) h | inr h ↦ protected_allows (c.group g) h ])
+pub in_open : (c : Context) (g : ℕ) → opens c.group g ≡ true → Within c (whole g)
+in_open c g e = in_one c mode.GroupWhole (resource.Group g) (elim (either (group_is group.Exclusive c.group g) (group_is group.Protected c.group g) e) [ inl h ↦ exclusive_allows (c.group g) h | inr h ↦ protected_allows (c.group g) h ])
 
 -- ---- paths
 
 pub in_reach : (c : Context) (at : Spot) (h : Held) (x : ⊤) → access c at h ≡ Holds x → Within c (reach h)
-in_reach c at (held.Shared g) x e = in_open c g (required (opens c g) _ at x e)
-in_reach c at (held.Inner g) x e = in_open c g (required (opens c g) _ at x e)
+in_reach c at (held.Shared g) x e = in_open c g (required (opens c.group g) _ at x e)
+in_reach c at (held.Inner g) x e = in_open c g (required (opens c.group g) _ at x e)
 in_reach c at held.Unique x e = in_nothing c
 in_reach c at (held.Split n) x e = in_nothing c
 in_reach c at held.Immutable x e = in_nothing c

@@ -30,3 +30,6 @@ asks false rule at h = breaks
 pub turns : {A S : Type 0} {P : S → Type 0} (f : A → S → Verdict S) → ((x : A) (s : S) → P s → Yields P (f x s)) → (xs : List A) (s : S) → P s → Yields P (in_turn f xs s)
 turns f h [] s k = gives k
 turns f h (x ∷ xs) s k = next (f x s) (λ t e. turns f h xs t ((h x s k).value t e))
+
+pub always : {A : Type 0} {P : Type 0} {v : Verdict A} → P → Yields (λ _. P) v
+always h = record { value = λ x e. h }

@@ -1,8 +1,8 @@
 -- What a judged statement uses is visible and allowed: calls, right sides and statements.
 use Rattle.ae_code.specs.Edges.{Uses}
-use Rattle.std.proofs.Common.{◌≡◌, inl, inr, refl, sym, ap, ◌∙◌, subst, ℕ, nat_eq, Bool, true, false, ◌&&◌, ◌||◌, not, if◌then◌else◌, List, map, Option, None, Some}
+use Rattle.std.proofs.Common.{◌≡◌, inl, inr, refl, sym, ap, ◌∙◌, subst, ℕ, nat_eq, Bool, true, false, ◌&&◌, not, if◌then◌else◌, List, map, Option, None, Some}
 use Rattle.std.specs.Prelude.{is_some, length, zip, ⊤}
-use Rattle.std.proofs.lemmas.Bool.{eqb-true, eq-eqb}
+use Rattle.std.proofs.lemmas.Bool.{eq-eqb}
 use Rattle.ae_text.specs.declared.refusal.Spot.{Spot}
 use Rattle.ae_text.specs.declared.refusal.Rule.TheVariants as rule
 use Rattle.ae_code.specs.declared.tree.NameAt.{NameAt}
@@ -27,21 +27,24 @@ use Rattle.ae_rules.specs.declared.held.GroupPerm.{GroupPerm}
 use Rattle.ae_rules.specs.declared.held.GroupPerm.TheVariants as group
 use Rattle.ae_rules.specs.Verdict.{Verdict, Holds, ◌>>=◌, found, in_turn, given}
 use Rattle.ae_rules.specs.Forms.{is_object, is_ints, is_unique}
-use Rattle.ae_rules.specs.Lookups.{Names, class_called, field_form}
-use Rattle.ae_rules.specs.Table.{no_names, and_also}
+use Rattle.ae_rules.specs.Lookups.{Names, has_name, class_called, field_form}
+use Rattle.ae_rules.specs.Table.{no_names}
 use Rattle.ae_rules.specs.Types.{forms_type, groups_fit, is_group}
-use Rattle.ae_rules.specs.Context.{Local, Context, group_is, same_group_perm, opens, known, is_visible}
+use Rattle.ae_rules.specs.Groups.{Groups as GroupsKnown}
+use Rattle.ae_rules.specs.Groups.{group_is, same_group_perm, opens, known, declare, Wanted, wanted, any_clash, need_met, needs_met, may_split, may_split_all, may_lock, held_back}
+use Rattle.ae_rules.specs.Context.{Local, Context, is_visible}
 use Rattle.ae_rules.specs.Walks.{Place, walk, owner, write_access, owner_write_access}
 use Rattle.ae_rules.specs.Expressions.{place, judge_value, is_value}
 use Rattle.ae_rules.specs.Into.{Source, Null, From, source, path_into, source_into, moves, into}
-use Rattle.ae_rules.specs.Calls.{Roots, Filled, no_roots, apart, fills, judge_new, Callee, judge_callee, judge_callee_with, judge_call, Slot, slots, givens, group_in, source_to_param, to_form, to_slot, Wanted, wanted, any_clash, need_met, needs_met}
-use Rattle.ae_rules.specs.Statements.{judge_take, judge_right, judge_let, judge_assign, judge_store, judge_store_at, holds_alone, judge_share, prints, judge_return, may_split, while_split, may_lock, held_back, while_locked, end_block, judge_statement, judge_lines}
-use Rattle.ae_rules.specs.Uses.{same_resource, writes, whole, together, ◌∪◌, of_each, of_judged, of_found, is_seen, outside, all_but, walk_uses, path_uses, write_uses, value_uses, source_uses, into_uses, root_lent, given_uses, argument_uses, need_uses, callee_uses, call_uses, made_uses, right_uses, assign_uses, store_uses, return_uses, split_start, statement_uses, lines_use}
+use Rattle.ae_rules.specs.Calls.{Roots, Filled, no_roots, apart, fills, judge_new, Callee, judge_callee, judge_callee_with, judge_call, Slot, slots, givens, group_in, source_to_param, to_form, to_slot}
+use Rattle.ae_rules.specs.Statements.{judge_take, judge_right, judge_let, judge_assign, judge_store, judge_store_at, holds_alone, judge_share, prints, judge_return, while_split, while_locked, end_block, judge_statement, judge_lines}
+use Rattle.ae_rules.specs.Uses.{same_resource, writes, whole, together, ◌∪◌, of_each, of_judged, of_found, is_seen, outside, all_but, walk_uses, path_uses, write_uses, value_uses, source_uses, into_uses, root_lent, given_uses, argument_uses, need_uses, callee_uses, call_uses, made_uses, right_uses, assign_uses, store_uses, return_uses, statement_uses, lines_use}
 use Rattle.ae_rules.specs.Laws.{Keeps}
 use Rattle.ae_rules.specs.EdgeLaws.{is_of_local, group_allows, is_allowed, UsesAreAllowed}
-use Rattle.ae_rules.proofs.VerdictLemmas.{Yields, gives, next, asks, turns}
+use Rattle.ae_rules.proofs.GroupLemmas.{AreExclusive, declared_is, list_exclusive}
+use Rattle.ae_rules.proofs.VerdictLemmas.{Yields, gives, next, asks, always}
 use Rattle.ae_rules.proofs.KeepLemmas.{statements_keep}
-use Rattle.ae_rules.proofs.SeenLemmas.{always, weaker, found_is, required, Within, in_nothing, in_read, in_changed, in_exclusive, in_shared, in_open, Inside, of_two, in_both, in_judged, in_found, in_outside, in_turns, in_each, there, one_there, root_seen, in_walk, in_path, in_write, in_owner, in_value, in_is_value}
+use Rattle.ae_rules.proofs.SeenLemmas.{weaker, found_is, required, Within, in_nothing, in_read, in_changed, in_exclusive, in_shared, in_open, Inside, of_two, in_both, in_judged, in_found, in_outside, in_turns, in_each, there, one_there, root_seen, in_walk, in_path, in_write, in_owner, in_value, in_is_value}
 
 -- what is found is the thing of which it holds
 here : {A : Type 0} (c : Context) (o : Option A) (u : A → Uses) (x : A) → o ≡ Some x → Within c (u x) → Within c (of_found o u)
@@ -95,28 +98,28 @@ in_argument p c (f.Object q k) away e before =
     next (found (source e) rule.TypeMismatch (place e)) λ s h.
     weaker (λ _ z. here c (source e) (given_uses p c q) s (found_is (source e) rule.TypeMismatch (place e) s h) z) (in_given p c q k away s (place e) before)
 
-in_need : (c : Context) (at : Spot) (n : Wanted) → Yields (λ _. Within c (need_uses n)) (need_met c at n)
-in_need c at (need_of.Exclusive, g) = record { value = λ u e. in_exclusive c g (required (group_is group.Exclusive c g) _ at u e) }
+in_need : (c : Context) (at : Spot) (n : Wanted) → Yields (λ _. Within c (need_uses n)) (need_met c.group at n)
+in_need c at (need_of.Exclusive, g) = record { value = λ u e. in_exclusive c g (required (group_is group.Exclusive c.group g) _ at u e) }
 in_need c at (need_of.Shared, g) =
-    asks (not (group_is group.HeldBack c g)) _ _ λ _.
-    record { value = λ u e. in_shared c g (required (group_is group.Shared c g) _ at u e) }
-in_need c at (need_of.Protected, g) = record { value = λ u e. in_open c g (required (opens c g) _ at u e) }
+    asks (not (group_is group.HeldBack c.group g)) _ _ λ _.
+    record { value = λ u e. in_shared c g (required (group_is group.Shared c.group g) _ at u e) }
+in_need c at (need_of.Protected, g) = record { value = λ u e. in_open c g (required (opens c.group g) _ at u e) }
 
-in_needs : (c : Context) (at : Spot) (ns : List Wanted) → Yields (λ _. Within c (of_each need_uses ns)) (needs_met c at ns)
-in_needs c at ns = asks (not (any_clash ns)) _ _ λ _. in_each c (need_met c at) need_uses (in_need c at) ns
+in_needs : (c : Context) (at : Spot) (ns : List Wanted) → Yields (λ _. Within c (of_each need_uses ns)) (needs_met c.group at ns)
+in_needs c at ns = asks (not (any_clash ns)) _ _ λ _. in_each c (need_met c.group at) need_uses (in_need c at) ns
 
 abbrev argument : Code → Context → Slot × Expression → Uses
 argument p c x = argument_uses p c x.0.form x.1
 
 in_callee : (p : Code) (c : Context) (i : Invocation) (m : Callee) → Yields (λ _. Within c (callee_uses p c i m)) (judge_callee_with p c i m)
 in_callee p c i m =
-    next (groups_fit (known c) (length m.method.groups) i.method.at i.groups) λ _ _.
+    next (groups_fit (known c.group) (length m.method.groups) i.method.at i.groups) λ _ _.
     asks (nat_eq (length i.args) (length m.method.params)) _ _ λ _.
     let new : ℕ → ℕ = group_in m i.groups in
     let pairs : List (Slot × Expression) = zip (slots p new m.method) (givens i) in
     let ns : List Wanted = map (wanted new) m.method.needs in
     next (in_turn (to_slot p c) pairs no_roots) λ roots e.
-    next (needs_met c i.method.at ns) λ u h.
+    next (needs_met c.group i.method.at ns) λ u h.
     always (in_both c (of_each (argument p c) pairs) (of_each need_uses ns)
     ((in_turns c (to_slot p c) (argument p c) (λ x s. in_argument p c x.0.form x.0.away x.1 s) pairs no_roots).value roots e)
     ((in_needs c i.method.at ns).value u h))
@@ -140,7 +143,7 @@ filled p c x = into_uses p c x.0 x.1
 in_new : (p : Code) (c : Context) (x : NameAt) (gs : List NameAt) (args : List Expression) → Yields (λ _. Within c (made_uses p c x gs args)) (judge_new p c x gs args)
 in_new p c x gs args =
     next (found (class_called p x.name) rule.UnknownClass x.at) λ (k : Class) e.
-    next (groups_fit (known c) (length k.groups) x.at gs) λ _ _.
+    next (groups_fit (known c.group) (length k.groups) x.at gs) λ _ _.
     asks (nat_eq (length args) (length k.fields)) _ _ λ _.
     let pairs : List (Form × Expression) = zip (map (field_form k (bare_names gs)) k.fields) args in
     let empty : Filled = record { roots = no_roots; after = c } in
@@ -212,14 +215,14 @@ same_name x = eq-eqb x x refl
 
 in_let : (p : Code) (c : Context) (t : Ty) (x : NameAt) (e : RightSide) → Yields (λ _. Within c (right_uses p c (form t) e)) (judge_let p c t x e)
 in_let p c t x e =
-    next (forms_type p (known c) false t) λ _ _.
+    next (forms_type p (known c.group) false t) λ _ _.
     asks (not (is_visible c x.name)) _ _ λ _.
     next (judge_right p c (form t) e) λ d h.
     always ((in_right p c (form t) e).value d h)
 
 new_seen : (p : Code) (c : Context) (t : Ty) (x : NameAt) (e : RightSide) → Yields (λ (d : Context). is_seen d (resource.Local x.name) ≡ true) (judge_let p c t x e)
 new_seen p c t x e =
-    next (forms_type p (known c) false t) λ _ _.
+    next (forms_type p (known c.group) false t) λ _ _.
     asks (not (is_visible c x.name)) _ _ λ _.
     next (judge_right p c (form t) e) λ d h.
     gives (in_first (nat_eq x.name x.name) _ _ (same_name x.name))
@@ -258,12 +261,12 @@ in_alone c x =
 in_share : (c : Context) (x g : NameAt) → Yields (λ _. Within c (writes x.name ∪ whole g.name)) (judge_share c x g)
 in_share c x g =
     next (holds_alone c x) λ u e.
-    next (is_group (known c) g) λ _ _.
-    asks (opens c g.name) _ _ λ h.
+    next (is_group (known c.group) g) λ _ _.
+    asks (opens c.group g.name) _ _ λ h.
     always (in_both c (writes x.name) (whole g.name) ((in_alone c x).value u e) (in_open c g.name h))
 
 in_prints : (c : Context) (at : Spot) → Yields (λ _. Within c (whole io)) (prints c at)
-in_prints c at = asks (opens c io) _ _ λ h. always (in_open c io h)
+in_prints c at = asks (opens c.group io) _ _ λ h. always (in_open c io h)
 
 in_return : (p : Code) (m : Definition) (c : Context) (e : Expression) (at : Spot) → Yields (λ _. Within c (return_uses p m c e)) (judge_return p m c e at)
 in_return p m c e at =
@@ -271,18 +274,18 @@ in_return p m c e at =
     next (into p c (form t) e) λ name z.
     always (here c m.result _ t (found_is m.result rule.TypeMismatch at t h) ((in_into p c (form t) e).value name z))
 
-in_split : (c : Context) (g : NameAt) (earlier : Names) → Yields (λ _. Within c (whole g.name)) (may_split c g earlier)
+in_split : (c : Context) (g : NameAt) (earlier : Names) → Yields (λ _. Within c (whole g.name)) (may_split c.group g earlier)
 in_split c g earlier =
-    asks (known c g.name) _ _ λ _.
+    asks (known c.group g.name) _ _ λ _.
     asks (not (earlier g.name)) _ _ λ _.
-    asks (group_is group.Exclusive c g.name) _ _ λ h.
+    asks (group_is group.Exclusive c.group g.name) _ _ λ h.
     always (in_exclusive c g.name h)
 
-in_lock : (c : Context) (g : NameAt) → Yields (λ _. Within c (together g.name)) (may_lock c g)
+in_lock : (c : Context) (g : NameAt) → Yields (λ _. Within c (together g.name)) (may_lock c.group g)
 in_lock c g =
-    asks (known c g.name) _ _ λ _.
-    asks (not (group_is group.HeldBack c g.name)) _ _ λ _.
-    record { value = λ u e. in_shared c g.name (required (group_is group.Shared c g.name) _ g.at u e) }
+    asks (known c.group g.name) _ _ λ _.
+    asks (not (group_is group.HeldBack c.group g.name)) _ _ λ _.
+    record { value = λ u e. in_shared c g.name (required (group_is group.Shared c.group g.name) _ g.at u e) }
 
 -- ---- blocks
 
@@ -316,31 +319,19 @@ opened_if true (Some group.Protected) n h e = absurd (no_truth (h refl))
 opened_if true (Some group.HeldBack) n h e = absurd (no_truth (h refl))
 opened_if true (Some group.None) n h e = absurd (no_truth (h refl))
 
--- the groups of a split list are exclusive
-abbrev AreExclusive : Context → Names → Type 0
-AreExclusive c names = (g : ℕ) → names g ≡ true → group_is group.Exclusive c g ≡ true
-
-new_if : (c : Context) (g y : ℕ) (a b : Bool) → nat_eq g y ≡ a → (b ≡ true → group_is group.Exclusive c y ≡ true) → group_is group.Exclusive c g ≡ true → (a || b) ≡ true → group_is group.Exclusive c y ≡ true
-new_if c g y true b q h e k = subst (λ (z : ℕ). group_is group.Exclusive c z ≡ true) (eqb-true g y q) e
-new_if c g y false b q h e k = h k
-
-new_or_earlier : (c : Context) (g : ℕ) (earlier : Names) (y : ℕ) → AreExclusive c earlier → group_is group.Exclusive c g ≡ true → and_also g earlier y ≡ true → group_is group.Exclusive c y ≡ true
-new_or_earlier c g earlier y h e k = new_if c g y (nat_eq g y) (earlier y) refl (h y) e k
-
-split_exclusive : (c : Context) (g : NameAt) (earlier : Names) → AreExclusive c earlier → Yields (AreExclusive c) (may_split c g earlier)
-split_exclusive c g earlier h =
-    asks (known c g.name) _ _ λ _.
-    asks (not (earlier g.name)) _ _ λ _.
-    asks (group_is group.Exclusive c g.name) _ _ λ e.
-    gives (λ y k. new_or_earlier c g.name earlier y h e k)
+split_list : (c : Context) (gs : List NameAt) → Yields (λ _. Within c (of_each (λ (g : NameAt). whole g.name) gs) × AreExclusive c.group (has_name (bare_names gs))) (may_split_all c.group gs)
+split_list c gs =
+    next (in_turn (may_split c.group) gs no_names) λ names e.
+    always ((in_turns c (may_split c.group) (λ (g : NameAt). whole g.name) (in_split c) gs no_names).value names e, (list_exclusive c.group gs no_names).value names e)
 
 shared_known : (b : Bool) (o : Option GroupPerm) → is_some o ≡ true → is_some (if b then Some group.Shared else o) ≡ true
 shared_known true o e = refl
 shared_known false o e = e
 
-split_opens : (c : Context) (names : Names) → AreExclusive c names → (r : Resource) → Opens c (while_split names c) r
-split_opens c names h (resource.Local x) n s = (s, λ e. e)
-split_opens c names h (resource.Group g) n s = (shared_known (names g) (c.group g) s, λ e. opened_if (names g) (c.group g) n (h g) e)
+split_opens : (c : Context) (gs : List NameAt) → AreExclusive c.group (has_name (bare_names gs)) → (r : Resource) → Opens c (while_split gs c) r
+split_opens c gs h (resource.Local x) n s = (s, λ e. e)
+split_opens c gs h (resource.Group g) n s =
+    (shared_known (has_name (bare_names gs) g) (c.group g) s, λ e. opened_if (has_name (bare_names gs) g) (c.group g) n (h g) e)
 
 back_known : (o : Option GroupPerm) → is_some o ≡ true → is_some (held_back o) ≡ true
 back_known None e = absurd (cc)
@@ -418,16 +409,9 @@ in_next p m c d a at rest e k v h r n u s =
 nothing_used : (n : Mode) → None ≡ Some n → ⊥
 nothing_used n e = cc
 
-none_exclusive : (c : Context) → AreExclusive c no_names
-none_exclusive c g e = absurd (no_truth e)
-
 new_exclusive : (b : Bool) (o : Option GroupPerm) → b ≡ true → given (if b then Some group.Exclusive else o) false (same_group_perm group.Exclusive) ≡ true
 new_exclusive true o e = refl
 new_exclusive false o e = absurd (cc)
-
-in_start : (c : Context) (gs : List NameAt) (names : Names) → in_turn (may_split c) gs no_names ≡ Holds names → (uses : Context → Uses)
-    → Inside (while_split names c) (uses (while_split names c)) → Inside (while_split names c) (of_judged (split_start c gs) uses)
-in_start c gs names e uses h = subst (λ v. Inside (while_split names c) (of_judged (v >>= λ ns. Holds (while_split ns c)) uses)) (sym e) h
 
 mutual
   visible : (p : Code) (m : Definition) (at : Spot) (a : Action) (c : Context) → Yields (Visible p m a c) (judge_statement p m at a c)
@@ -436,7 +420,11 @@ mutual
         in_both d (writes x.name) (right_uses p c (form t) e) (in_changed d x.name ((new_seen p c t x e).value d h))
         (within_later c d (right_uses p c (form t) e) (statements_keep p m at (Declares t x e) c d h) ((in_let p c t x e).value d h));
   }
-  visible p m at (Groups g) c = asks (not (is_visible c g.name)) _ _ λ _. gives (in_exclusive _ g.name (new_exclusive (nat_eq g.name g.name) _ (same_name g.name)))
+  visible p m at (Groups g) c =
+      asks (not (is_some (c.local g.name))) _ _ λ _.
+      next (declare g c.group) λ gs h.
+      gives (in_exclusive (record c { group = gs }) g.name (subst (λ (hs : GroupsKnown). group_is group.Exclusive hs g.name ≡ true) ((declared_is g c.group).value gs h).1
+      (new_exclusive (nat_eq g.name g.name) (c.group g.name) (same_name g.name))))
   visible p m at (Assigns x e) c = kept p m at (Assigns x e) c (in_assign p c x e)
   visible p m at (Stores path e) c = kept p m at (Stores path e) c (in_store p c path e (place e))
   visible p m at (StoresAt path i e) c = kept p m at (StoresAt path i e) c (in_store_at p c path i e)
@@ -457,13 +445,13 @@ mutual
       next (judge_lines p m b c >>= end_block p c b) λ d k.
       always (in_condition p c e (lines_use p m b c) u h ((ended p c b (Inside c (lines_use p m b c)) (judge_lines p m b c) (inside p m b c)).value d k)))
   visible p m at (Splits gs n b) c = kept p m at (Splits gs n b) c (
-      next (in_turn (may_split c) gs no_names) λ names e.
-      weaker (λ _ k. in_both c (of_each (λ (g : NameAt). whole g.name) gs) (outside c (of_judged (split_start c gs) (lines_use p m b)))
-      ((in_turns c (may_split c) (λ (g : NameAt). whole g.name) (in_split c) gs no_names).value names e)
-      (in_block c (while_split names c) _ (split_opens c names ((turns (may_split c) (split_exclusive c) gs no_names (none_exclusive c)).value names e)) (in_start c gs names e (lines_use p m b) k)))
-      (ended p c b (Inside (while_split names c) (lines_use p m b (while_split names c))) (judge_lines p m b (while_split names c)) (inside p m b (while_split names c))))
+      next (may_split_all c.group gs) λ u e.
+      let all = (split_list c gs).value u e in
+      weaker (λ _ k. in_both c (of_each (λ (g : NameAt). whole g.name) gs) (outside c (lines_use p m b (while_split gs c)))
+      all.0 (in_block c (while_split gs c) (lines_use p m b (while_split gs c)) (split_opens c gs all.1) k))
+      (ended p c b (Inside (while_split gs c) (lines_use p m b (while_split gs c))) (judge_lines p m b (while_split gs c)) (inside p m b (while_split gs c))))
   visible p m at (Locks g n b) c = kept p m at (Locks g n b) c (
-      next (may_lock c g) λ u e.
+      next (may_lock c.group g) λ u e.
       weaker (λ _ k. in_both c (together g.name) _ ((in_lock c g).value u e) (in_locked c g.name (lines_use p m b (while_locked g.name c)) k))
       (ended p c b (Inside (while_locked g.name c) (lines_use p m b (while_locked g.name c))) (judge_lines p m b (while_locked g.name c)) (inside p m b (while_locked g.name c))))
   visible p m at (Freezes x) c = kept p m at (Freezes x) c (next (holds_alone c x) λ u e. always ((in_alone c x).value u e))

@@ -1,14 +1,14 @@
--- The blocks of a method by their numbers, with the context in which each begins, and the graph of each.
+-- The blocks of a method in the order in which they are opened, each with the context in which it begins, and the graph of each.
+use Rattle.std.specs.Prelude.{ℕ, nat_eq, Bool, true, false, if◌then◌else◌, List, [], ◌∷◌, ◌++◌, length, Option, None, Some, option_map}
 use Rattle.ae_code.specs.Edges.{BlockUses}
-use Rattle.std.specs.Prelude.{ℕ, nat_eq, if◌then◌else◌, List, length, Option, None, Some, option_map}
 use Rattle.ae_code.specs.Limits.{count}
 use Rattle.ae_code.specs.Plain.{Action, Chooses, ChoosesElse, Repeats, Splits, Locks, Lines, End, Next, Definition, Code}
-use Rattle.ae_rules.specs.Verdict.{Verdict, Holds, Broken, given}
+use Rattle.ae_rules.specs.Verdict.{given, judged}
 use Rattle.ae_rules.specs.Lookups.{method_at}
 use Rattle.ae_rules.specs.Context.{Context}
-use Rattle.ae_rules.specs.Statements.{while_locked, judge_statement}
+use Rattle.ae_rules.specs.Statements.{while_split, while_locked, judge_statement}
 use Rattle.ae_rules.specs.Judges.{start}
-use Rattle.ae_rules.specs.Uses.{split_start, block_uses}
+use Rattle.ae_rules.specs.Uses.{block_uses}
 use Rattle.ae_rules.specs.Edges.{graph}
 
 -- a block of a method, and the context in which it begins
@@ -17,38 +17,81 @@ pub record Scene : Type 0 where
   pub lines : Lines
   pub start : Context
 
+abbrev pub block_at : Definition → Lines → Context → Scene
+block_at m b c = record { method = m; lines = b; start = c }
+
+-- the body of a method
+abbrev pub body : Code → Definition → Scene
+body p m = block_at m m.body (start p m)
+
 -- the first, or else the second
 abbrev pub or_else : {A : Type 0} → Option A → Option A → Option A
 or_else None o = o
 or_else (Some x) o = Some x
 
--- what comes of what a verdict gives
-abbrev pub if_judged : {A B : Type 0} → Verdict A → (A → Option B) → Option B
-if_judged (Holds x) next = next x
-if_judged (Broken rule at) next = None
+-- ---- as text
 
--- block k, where it has number n, or else what is found inside it
-abbrev pub this_or : Definition → ℕ → ℕ → Lines → Context → Option Scene → Option Scene
-this_or m n k b c inside = if nat_eq n k then Some (record { method = m; lines = b; start = c }) else inside
+-- a block's number and its statements
+abbrev pub Numbered : Type 0
+Numbered = ℕ × Lines
 
 abbrev mutual
-  -- the block with number n inside a statement, in the context before it
-  pub scene_in : Code → Definition → ℕ → Action → Context → Option Scene
-  scene_in p m n (Chooses e k b) c = this_or m n k b c (scene_among p m n b c)
-  scene_in p m n (ChoosesElse e k b l b') c = or_else (this_or m n k b c (scene_among p m n b c)) (this_or m n l b' c (scene_among p m n b' c))
-  scene_in p m n (Repeats e k b) c = this_or m n k b c (scene_among p m n b c)
-  scene_in p m n (Splits gs k b) c = if_judged (split_start c gs) (λ d. this_or m n k b d (scene_among p m n b d))
-  scene_in p m n (Locks g k b) c = this_or m n k b (while_locked g.name c) (scene_among p m n b (while_locked g.name c))
-  scene_in p m n _ c = None
+  -- the blocks in a statement in the order in which they are opened; atomic blocks and what is in them count only where this is said
+  pub blocks_in : Bool → Action → List Numbered
+  blocks_in atomic (Chooses e n b) = (n, b) ∷ blocks_among atomic b
+  blocks_in atomic (ChoosesElse e n b k b') = ((n, b) ∷ blocks_among atomic b) ++ ((k, b') ∷ blocks_among atomic b')
+  blocks_in atomic (Repeats e n b) = (n, b) ∷ blocks_among atomic b
+  blocks_in atomic (Splits gs n b) = (n, b) ∷ blocks_among atomic b
+  blocks_in atomic (Locks g n b) = if atomic then (n, b) ∷ blocks_among atomic b else []
+  blocks_in atomic _ = []
 
-  -- the block with number n inside statements in order
-  pub scene_among : Code → Definition → ℕ → Lines → Context → Option Scene
-  scene_among p m n End c = None
-  scene_among p m n (Next at a rest) c = or_else (scene_in p m n a c) (if_judged (judge_statement p m at a c) (scene_among p m n rest))
+  pub blocks_among : Bool → Lines → List Numbered
+  blocks_among atomic End = []
+  blocks_among atomic (Next at a rest) = blocks_in atomic a ++ blocks_among atomic rest
+
+-- the blocks of a method, its body first
+abbrev pub blocks_of : Bool → Definition → List Numbered
+blocks_of atomic m = (m.no, m.body) ∷ blocks_among atomic m.body
+
+-- ---- with their contexts
+
+-- a block's number, and the block
+abbrev pub Opened : Type 0
+Opened = ℕ × Scene
+
+abbrev mutual
+  -- the blocks in a statement in the same order, from the context before it
+  pub scenes_in : Code → Definition → Bool → Action → Context → List Opened
+  scenes_in p m atomic (Chooses e n b) c = (n, block_at m b c) ∷ scenes_among p m atomic b c
+  scenes_in p m atomic (ChoosesElse e n b k b') c = ((n, block_at m b c) ∷ scenes_among p m atomic b c) ++ ((k, block_at m b' c) ∷ scenes_among p m atomic b' c)
+  scenes_in p m atomic (Repeats e n b) c = (n, block_at m b c) ∷ scenes_among p m atomic b c
+  scenes_in p m atomic (Splits gs n b) c = (n, block_at m b (while_split gs c)) ∷ scenes_among p m atomic b (while_split gs c)
+  scenes_in p m atomic (Locks g n b) c = if atomic then (n, block_at m b (while_locked g.name c)) ∷ scenes_among p m atomic b (while_locked g.name c) else []
+  scenes_in p m atomic _ c = []
+
+  -- the blocks in statements in order, as far as the statements are judged
+  pub scenes_among : Code → Definition → Bool → Lines → Context → List Opened
+  scenes_among p m atomic End c = []
+  scenes_among p m atomic (Next at a rest) c = scenes_in p m atomic a c ++ judged (judge_statement p m at a c) [] (scenes_among p m atomic rest)
+
+-- all blocks of a method, its body first
+abbrev pub all_scenes : Code → Definition → List Opened
+all_scenes p m = (m.no, body p m) ∷ scenes_among p m true m.body (start p m)
+
+-- the blocks of a method that are not inside an atomic block, its body first
+abbrev pub scenes : Code → Definition → List Opened
+scenes p m = (m.no, body p m) ∷ scenes_among p m false m.body (start p m)
+
+-- the block with this number among these
+abbrev pub scene_numbered : ℕ → List Opened → Option Scene
+scene_numbered n [] = None
+scene_numbered n (x ∷ xs) = if nat_eq x.0 n then Some x.1 else scene_numbered n xs
 
 -- the block with this number in a method
 abbrev pub scene : Code → Definition → ℕ → Option Scene
-scene p m n = this_or m n m.no m.body (start p m) (scene_among p m n m.body (start p m))
+scene p m n = scene_numbered n (all_scenes p m)
+
+-- ---- graphs
 
 -- how each statement of a block uses each resource
 abbrev pub scene_uses : Code → Scene → BlockUses
@@ -57,6 +100,6 @@ scene_uses p s = block_uses p s.method s.lines s.start
 abbrev pub scene_graph : Code → Scene → List (List ℕ)
 scene_graph p s = graph (length p.names) (scene_uses p s) (count s.lines)
 
--- for each statement of this block of the method with this number, the statements for which it waits
+-- For each statement of this block of the method with this number, the statements for which it waits. A block inside an atomic block has no graph.
 abbrev pub graph_of : Code → ℕ → ℕ → Option (List (List ℕ))
-graph_of p k n = given (method_at p k) None (λ (m : Definition). option_map (scene_graph p) (scene p m n))
+graph_of p k n = given (method_at p k) None (λ (m : Definition). option_map (scene_graph p) (scene_numbered n (scenes p m)))

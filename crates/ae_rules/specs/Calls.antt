@@ -1,6 +1,5 @@
 -- New objects and calls: the arguments, the needs of a method, and what comes back.
 use Rattle.std.specs.Prelude.{ℕ, nat_eq, Bool, true, false, ◌&&◌, ◌||◌, not, if◌then◌else◌, List, [], ◌∷◌, ◌++◌, map, zip, length, filter_map, Option, None, Some, is_some, option_map, ⊤}
-use Rattle.std.specs.List.{list_any}
 use Rattle.ae_text.specs.declared.refusal.Spot.{Spot}
 use Rattle.ae_text.specs.declared.refusal.Rule.TheVariants as rule
 use Rattle.ae_code.specs.declared.tree.NameAt.{NameAt}
@@ -9,9 +8,6 @@ use Rattle.ae_code.specs.declared.tree.Ty.{Ty}
 use Rattle.ae_code.specs.declared.tree.Me.{Me}
 use Rattle.ae_code.specs.declared.tree.Param.{Param}
 use Rattle.ae_code.specs.declared.tree.Class.{Class}
-use Rattle.ae_code.specs.declared.tree.Need.{Need}
-use Rattle.ae_code.specs.declared.tree.Need.TheVariants as need_of
-use Rattle.ae_code.specs.declared.tree.GroupNeed.{GroupNeed}
 use Rattle.ae_code.specs.declared.form.Perm.{Perm}
 use Rattle.ae_code.specs.declared.form.Perm.TheVariants as perm
 use Rattle.ae_code.specs.declared.form.Kind.{Kind}
@@ -22,14 +18,14 @@ use Rattle.ae_code.specs.Form.{perm_of, form, bare_names}
 use Rattle.ae_code.specs.Plain.{Expression, Read, Invocation, Definition, Code}
 use Rattle.ae_rules.specs.declared.held.Held.{Held}
 use Rattle.ae_rules.specs.declared.held.Held.TheVariants as held
-use Rattle.ae_rules.specs.declared.held.GroupPerm.TheVariants as group
-use Rattle.ae_rules.specs.Verdict.{Verdict, Holds, Broken, ◌>>=◌, ◌>>◌, require, found, each, in_turn, given}
+use Rattle.ae_rules.specs.Verdict.{Verdict, Holds, Broken, ◌>>=◌, ◌>>◌, require, found, in_turn, given}
 use Rattle.ae_rules.specs.Shares.{Share, splits, joins}
 use Rattle.ae_rules.specs.Forms.{is_object, is_of_kind, is_unique, in_place, form_with}
 use Rattle.ae_rules.specs.Lookups.{Names, class_called, class_of, groups_of, method_at, method_number, top_number, field_form, own_kind}
 use Rattle.ae_rules.specs.Types.{groups_fit}
 use Rattle.ae_rules.specs.Table.{no_names, and_also}
-use Rattle.ae_rules.specs.Context.{Context, same_held, held_in, group_is, opens, known, with_held, moved}
+use Rattle.ae_rules.specs.Groups.{known, wanted, needs_met}
+use Rattle.ae_rules.specs.Context.{Context, same_held, held_in, with_held, moved}
 use Rattle.ae_rules.specs.Walks.{walk, is_name}
 use Rattle.ae_rules.specs.Expressions.{place, is_value}
 use Rattle.ae_rules.specs.Into.{Source, Null, From, source, may_leave, into_immutable, into_shared, into, unique_of}
@@ -90,7 +86,7 @@ pub record Outcome : Type 0 where
 abbrev pub judge_new : Code → Context → NameAt → List NameAt → List Expression → Verdict Outcome
 judge_new p c x gs args =
     found (class_called p x.name) rule.UnknownClass x.at >>= λ (k : Class).
-    groups_fit (known c) (length k.groups) x.at gs >>
+    groups_fit (known c.group) (length k.groups) x.at gs >>
     require (nat_eq (length args) (length k.fields)) rule.ArgumentCount x.at >>
     in_turn (fills p c) (zip (map (field_form k (bare_names gs)) k.fields) args) (record { roots = no_roots; after = c }) >>= λ filled.
     Holds (record { value = unique_of (kind.Class x.name (bare_names gs)); after = filled.after })
@@ -203,37 +199,6 @@ to_form p c (f.Object q k) away e before =
 abbrev pub to_slot : Code → Context → Slot × Expression → Roots → Verdict Roots
 to_slot p c x before = to_form p c x.0.form x.0.away x.1 before
 
--- ---- the needs of a call
-
--- a need, of an actual group
-abbrev pub Wanted : Type 0
-Wanted = Need × ℕ
-
-abbrev pub wanted : (ℕ → ℕ) → GroupNeed → Wanted
-wanted new n = (n.need, new n.group.name)
-
-abbrev pub are_shared : Need → Need → Bool
-are_shared need_of.Shared need_of.Shared = true
-are_shared _ _ = false
-
--- the same group, and not both shared
-abbrev pub clash : Wanted → Wanted → Bool
-clash m n = nat_eq m.1 n.1 && not (are_shared m.0 n.0)
-
-abbrev pub any_clash : List Wanted → Bool
-any_clash [] = false
-any_clash (n ∷ ns) = list_any (clash n) ns || any_clash ns
-
-abbrev pub need_met : Context → Spot → Wanted → Verdict ⊤
-need_met c at (need_of.Exclusive, g) = require (group_is group.Exclusive c g) rule.NotExclusive at
-need_met c at (need_of.Shared, g) =
-    require (not (group_is group.HeldBack c g)) rule.NestedAtomic at >>
-    require (group_is group.Shared c g) rule.NotShared at
-need_met c at (need_of.Protected, g) = require (opens c g) rule.NeedsGroup at
-
-abbrev pub needs_met : Context → Spot → List Wanted → Verdict ⊤
-needs_met c at ns = require (not (any_clash ns)) rule.GroupTwice at >> each (need_met c at) ns
-
 -- ---- what is lent while the call runs
 
 -- a Unique or Lent part of a place below a root that is held Unique
@@ -280,12 +245,12 @@ pub record Called : Type 0 where
 -- a call's groups, its arguments and its needs, in the context before the statement
 abbrev pub judge_callee_with : Code → Context → Invocation → Callee → Verdict Called
 judge_callee_with p c i m =
-    groups_fit (known c) (length m.method.groups) i.method.at i.groups >>
+    groups_fit (known c.group) (length m.method.groups) i.method.at i.groups >>
     require (nat_eq (length i.args) (length m.method.params)) rule.ArgumentCount i.method.at >>
     let new : ℕ → ℕ = group_in m i.groups in
     let pairs : List (Slot × Expression) = zip (slots p new m.method) (givens i) in
     in_turn (to_slot p c) pairs no_roots >>= λ roots.
-    needs_met c i.method.at (map (wanted new) m.method.needs) >>
+    needs_met c.group i.method.at (map (wanted new) m.method.needs) >>
     Holds (record { result = option_map (λ (t : Ty). form_with new (form t)) m.method.result; after = after_call (parts c pairs) c })
 
 abbrev pub judge_call : Code → Context → Invocation → Verdict Called

@@ -9,10 +9,8 @@ use Rattle.ae_code.specs.declared.form.Form.TheVariants as f
 use Rattle.ae_code.specs.Plain.{Code}
 use Rattle.ae_rules.specs.declared.held.Held.{Held}
 use Rattle.ae_rules.specs.declared.held.Held.TheVariants as held
-use Rattle.ae_rules.specs.declared.held.GroupPerm.{GroupPerm}
-use Rattle.ae_rules.specs.declared.held.GroupPerm.TheVariants as group
-use Rattle.ae_rules.specs.Verdict.{Verdict, Broken, fine, require, given}
-use Rattle.ae_rules.specs.Lookups.{Names}
+use Rattle.ae_rules.specs.Verdict.{Verdict, Broken, fine, given}
+use Rattle.ae_rules.specs.Groups.{Groups, known, group_access}
 
 -- a local; one that stays is a parameter that is never assigned
 pub record Local : Type 0 where
@@ -22,7 +20,7 @@ pub record Local : Type 0 where
 
 pub record Context : Type 0 where
   pub local : ℕ → Option Local
-  pub group : ℕ → Option GroupPerm
+  pub group : Groups
 
 -- ---- what is held
 
@@ -53,32 +51,11 @@ same_held _ _ = false
 abbrev pub held_in : Context → ℕ → Held
 held_in c x = given (c.local x) held.None (λ (l : Local). l.held)
 
--- ---- groups
-
-abbrev pub same_group_perm : GroupPerm → GroupPerm → Bool
-same_group_perm group.Exclusive group.Exclusive = true
-same_group_perm group.Shared group.Shared = true
-same_group_perm group.Protected group.Protected = true
-same_group_perm group.HeldBack group.HeldBack = true
-same_group_perm group.None group.None = true
-same_group_perm _ _ = false
-
--- the group is known, with this permission
-abbrev pub group_is : GroupPerm → Context → ℕ → Bool
-group_is q c g = given (c.group g) false (same_group_perm q)
-
--- the members of the group may be reached
-abbrev pub opens : Context → ℕ → Bool
-opens c g = group_is group.Exclusive c g || group_is group.Protected c g
-
-abbrev pub known : Context → Names
-known c g = is_some (c.group g)
-
 -- ---- names
 
 -- locals and groups share their names
 abbrev pub is_visible : Context → ℕ → Bool
-is_visible c x = is_some (c.local x) || known c x
+is_visible c x = is_some (c.local x) || known c.group x
 
 -- each number from 0 up to a bound passes
 abbrev pub all_below : ℕ → (ℕ → Bool) → Bool
@@ -103,9 +80,6 @@ abbrev pub moved : Option ℕ → Context → Context
 moved None c = c
 moved (Some x) c = with_held x held.None c
 
-abbrev pub with_group : ℕ → GroupPerm → Context → Context
-with_group g q c = record c { group = λ h. if nat_eq g h then Some q else c.group h }
-
 -- a block ends: what is held of the locals from outside stays, and the groups are as outside
 abbrev pub closed : Context → Context → Context
 closed outside inside = record { local = λ x. if is_some (outside.local x) then inside.local x else None; group = outside.group }
@@ -122,8 +96,8 @@ access c at held.Unique = fine
 access c at (held.Split n) = fine
 access c at held.Immutable = fine
 access c at held.Lent = fine
-access c at (held.Shared g) = require (opens c g) rule.NeedsGroup at
-access c at (held.Inner g) = require (opens c g) rule.NeedsGroup at
+access c at (held.Shared g) = group_access c.group g at
+access c at (held.Inner g) = group_access c.group g at
 access c at held.None = Broken rule.NoPermission at
 
 -- what is held lets the object be changed

@@ -9,19 +9,20 @@ use Rattle.ae_code.specs.declared.form.Form.{Form}
 use Rattle.ae_code.specs.Form.{bare_names}
 use Rattle.ae_code.specs.Names.{io, main, this}
 use Rattle.ae_code.specs.Uses.{statement_at}
+use Rattle.ae_code.specs.Limits.{count}
 use Rattle.ae_code.specs.Edges.{IsConflict, Uses, Before}
-use Rattle.ae_code.specs.Plain.{Expression, Invocation, RightSide, Value, Taken, Zeros, Made, Returned, Lines, Definition, Code}
+use Rattle.ae_code.specs.Plain.{Expression, Invocation, RightSide, Value, Taken, Zeros, Made, Returned, Definition, Code}
 use Rattle.ae_code.specs.Plain.{Action, Declares, Assigns, Calls, Chooses, ChoosesElse, Repeats, Splits, Locks}
-use Rattle.ae_rules.specs.Verdict.{Verdict, Holds, Broken, given}
+use Rattle.ae_rules.specs.Verdict.{given, judged}
 use Rattle.ae_rules.specs.Forms.{is_unique, is_object}
 use Rattle.ae_rules.specs.Lookups.{top_called, is_empty}
 use Rattle.ae_rules.specs.Context.{Context}
 use Rattle.ae_rules.specs.Into.{Source, Null, From, source}
 use Rattle.ae_rules.specs.Calls.{Callee, judge_callee, Slot, group_in, if_some, slots, givens}
-use Rattle.ae_rules.specs.Statements.{while_locked}
+use Rattle.ae_rules.specs.Statements.{while_split, while_locked}
 use Rattle.ae_rules.specs.Judges.{start}
-use Rattle.ae_rules.specs.Uses.{nothing, one, reads, together, ◌∪◌, of_each, of_judged, of_found, outside, all_but, split_start, statement_uses, context_at}
-use Rattle.ae_rules.specs.Blocks.{Scene, scene_uses}
+use Rattle.ae_rules.specs.Uses.{nothing, one, reads, together, ◌∪◌, of_each, of_judged, of_found, outside, all_but, statement_uses, context_at}
+use Rattle.ae_rules.specs.Blocks.{Scene, block_at, body, scene_uses}
 
 -- A statement as it runs: the numbers of the statements that lead to it, each inside the one before. After an `if` stands
 -- the number of the branch, 0 or 1, and after a `while` that of the turn. A path may also end with a turn: the loop from there on.
@@ -41,21 +42,9 @@ pub data Point : Type 0 where
   -- nothing runs inside
   Nowhere : Point
 
-abbrev pub block_at : Definition → Lines → Context → Scene
-block_at m b c = record { method = m; lines = b; start = c }
-
--- the body of a method
-abbrev pub body : Code → Definition → Scene
-body p m = block_at m m.body (start p m)
-
--- the point that a verdict leads to
-abbrev pub point_of : {A : Type 0} → Verdict A → (A → Point) → Point
-point_of (Holds x) next = next x
-point_of (Broken rule at) next = Nowhere
-
 -- inside a call stands the body of the method
 abbrev pub in_call : Code → Bool → Context → Invocation → Point
-in_call p locked c i = point_of (judge_callee p c i.on i.method) (λ (k : Callee). InBlock locked (body p k.method))
+in_call p locked c i = judged (judge_callee p c i.on i.method) Nowhere (λ (k : Callee). InBlock locked (body p k.method))
 
 abbrev pub in_right : Code → Bool → Context → RightSide → Point
 in_right p locked c (Returned i) = in_call p locked c i
@@ -72,16 +61,17 @@ in_statement p locked m (Calls i) c = in_call p locked c i
 in_statement p locked m (Chooses e n b) c = AtChoice locked (block_at m b c) None
 in_statement p locked m (ChoosesElse e n b k b') c = AtChoice locked (block_at m b c) (Some (block_at m b' c))
 in_statement p locked m (Repeats e n b) c = AtLoop locked (statement_uses p m (Repeats e n b) c) (block_at m b c)
-in_statement p locked m (Splits gs n b) c = point_of (split_start c gs) (λ d. InBlock locked (block_at m b d))
+in_statement p locked m (Splits gs n b) c = InBlock locked (block_at m b (while_split gs c))
 in_statement p locked m (Locks g n b) c = InBlock true (block_at m b (while_locked g.name c))
 in_statement p locked m _ c = Nowhere
 
 -- from a point to the one inside this number
 abbrev pub inside : Code → Point → ℕ → Point
 inside p (InBlock locked s) i = given (statement_at s.lines i) Nowhere (λ a.
-    point_of (context_at p s.method s.lines s.start i) (in_statement p locked s.method a))
+    given (context_at p s.method s.lines s.start i) Nowhere (in_statement p locked s.method a))
 inside p (AtChoice locked s other) zero = InBlock locked s
-inside p (AtChoice locked s other) (suc n) = given other Nowhere (InBlock locked)
+inside p (AtChoice locked s other) (suc zero) = given other Nowhere (InBlock locked)
+inside p (AtChoice locked s other) (suc (suc n)) = Nowhere
 inside p (AtLoop locked uses s) turn = InBlock locked s
 inside p Nowhere i = Nowhere
 
@@ -112,10 +102,11 @@ parting p q r = parting_from p (first_point p) q r
 
 -- ---- which is first
 
--- Inside one atomic block source order holds; else a chain of edges leads from the one statement to the other, or they are two turns of a loop.
+-- Inside one atomic block source order holds among what is there; else a chain of edges leads from the one statement to the other, or they are two
+-- turns of a loop.
 abbrev pub IsFirstAt : Code → Point → ℕ → ℕ → Type 0
-IsFirstAt p (InBlock locked s) i j = ((locked ≡ true) × (i < j)) ⊎ Before (scene_uses p s) i j
-IsFirstAt p (AtChoice locked s other) i j = (locked ≡ true) × (i < j)
+IsFirstAt p (InBlock locked s) i j = ((locked ≡ true) × (i < j) × (j < count s.lines)) ⊎ Before (scene_uses p s) i j
+IsFirstAt p (AtChoice locked s other) i j = (locked ≡ true) × (i < j) × (j < 2)
 IsFirstAt p (AtLoop locked uses s) i j = i < j
 IsFirstAt p Nowhere i j = ⊥
 
@@ -192,7 +183,7 @@ statement_outside p _ c u = nothing
 -- what is used inside this number, as it counts at the point
 abbrev pub outside_of : Code → Point → ℕ → Uses → Uses
 outside_of p (InBlock locked s) i u = of_found (statement_at s.lines i) (λ a.
-    of_judged (context_at p s.method s.lines s.start i) (λ c. statement_outside p a c u))
+    of_found (context_at p s.method s.lines s.start i) (λ c. statement_outside p a c u))
 outside_of p (AtChoice locked s other) i u = outside s.start u
 outside_of p (AtLoop locked uses s) turn u = outside s.start u
 outside_of p Nowhere i u = nothing

@@ -3,6 +3,7 @@ use Rattle.std.specs.Prelude.{◌≡◌, ◌⊎◌, ℕ, nat_eq, Bool, true, ◌
 use Rattle.std.specs.List.{list_all}
 use Rattle.ae_text.specs.declared.refusal.Spot.{Spot}
 use Rattle.ae_text.specs.declared.refusal.Rule.{Rule}
+use Rattle.ae_code.specs.declared.tree.NameAt.{NameAt}
 use Rattle.ae_code.specs.declared.form.Perm.{Perm}
 use Rattle.ae_code.specs.declared.form.Perm.TheVariants as need
 use Rattle.ae_code.specs.Plain.{Action, Expression, Definition, Code}
@@ -12,7 +13,9 @@ use Rattle.ae_rules.specs.declared.held.GroupPerm.{GroupPerm}
 use Rattle.ae_rules.specs.Shares.{splits, Splits, Joins}
 use Rattle.ae_rules.specs.Context.{Local, Context, held_in}
 use Rattle.ae_code.specs.declared.form.Form.{Form}
-use Rattle.ae_rules.specs.Verdict.{Holds}
+use Rattle.ae_code.specs.Form.{bare_names}
+use Rattle.ae_rules.specs.Verdict.{Holds, in_turn}
+use Rattle.ae_rules.specs.Groups.{Groups, declare, forget, enter_split, exclusive_again}
 use Rattle.ae_rules.specs.Into.{into, name_into}
 use Rattle.ae_rules.specs.Calls.{Part, after_call}
 use Rattle.ae_rules.specs.Judges.{Judges, Breaks, Accepts, FirstBroken}
@@ -77,3 +80,8 @@ pub record Keeps (before after : Context) : Type 0 where
 -- a judged statement takes nothing out of the context
 abbrev pub StatementsKeep : Type 0
 StatementsKeep = (p : Code) (m : Definition) (at : Spot) (a : Action) (c d : Context) → Judges p m at a c d → Keeps c d
+
+-- after a split block its groups, with those that the block declares forgotten, are as before
+abbrev pub SplitIsUndone : Type 0
+SplitIsUndone = (gs xs : List NameAt) (before inside after : Groups) → enter_split gs before ≡ Holds inside → in_turn declare xs inside ≡ Holds after
+    → exclusive_again gs (forget (bare_names xs) after) ≡ before

@@ -4,6 +4,7 @@ pub mod Forms
 pub mod Lookups
 pub mod Types
 pub mod Table
+pub mod Groups
 pub mod Context
 pub mod Walks
 pub mod Expressions
@@ -19,4 +20,5 @@ pub mod Instances
 pub mod Paths
 pub mod Stands
 pub mod Laws
+pub mod BlockLaws
 pub mod Cases

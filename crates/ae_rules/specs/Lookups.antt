@@ -27,7 +27,7 @@ is_empty (x ∷ xs) = false
 
 -- the name is one of these
 abbrev pub has_name : List ℕ → Names
-has_name xs y = list_any (nat_eq y) xs
+has_name xs y = list_any (λ x. nat_eq x y) xs
 
 abbrev pub class_at : Code → ℕ → Option Class
 class_at p n = slice_get p.classes n
@@ -35,12 +35,12 @@ class_at p n = slice_get p.classes n
 abbrev pub method_at : Code → ℕ → Option Definition
 method_at p n = slice_get p.methods n
 
--- the first class with this name, and its number
-abbrev pub class_called : Code → ℕ → Option Class
-class_called p x = find (λ (c : Class). nat_eq c.name.name x) p.classes
-
+-- the number of the first class with this name, and the class
 abbrev pub class_number : Code → ℕ → Option ℕ
 class_number p x = position (λ (c : Class). nat_eq c.name.name x) p.classes
+
+abbrev pub class_called : Code → ℕ → Option Class
+class_called p x = given (class_number p x) None (class_at p)
 
 abbrev pub top_in : Decl → Option ℕ
 top_in (decl.Class n) = None
@@ -61,18 +61,16 @@ top_number p x = find (is_called p x) (tops p)
 abbrev pub top_called : Code → ℕ → Option Definition
 top_called p x = given (top_number p x) None (method_at p)
 
+-- the place of the first field with this name, and the field
 abbrev pub field_number : Class → ℕ → Option ℕ
 field_number c x = position (λ (d : Field). nat_eq d.name.name x) c.fields
 
 abbrev pub field_called : Class → ℕ → Option Field
-field_called c x = find (λ (d : Field). nat_eq d.name.name x) c.fields
+field_called c x = given (field_number c x) None (slice_get c.fields)
 
+-- the number of a class's method with this name
 abbrev pub method_number : Code → Class → ℕ → Option ℕ
 method_number p c x = find (is_called p x) c.methods
-
--- a class's method with this name
-abbrev pub method_called : Code → Class → ℕ → Option Definition
-method_called p c x = given (method_number p c x) None (method_at p)
 
 -- what a class has under a name: a field by its place, or else a method by its number
 abbrev pub member_called : Code → Class → ℕ → Option Member

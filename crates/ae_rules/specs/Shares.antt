@@ -1,5 +1,5 @@
 -- What can be taken of what is held, and what is held once a part is given back.
-use Rattle.std.specs.Prelude.{◌≡◌, ℕ, zero, suc, nat_eq, nat_lt, if◌then◌else◌, Option, None, Some}
+use Rattle.std.specs.Prelude.{◌≡◌, ℕ, nat_eq, nat_lt, ◌+◌, ◌-◌, ◌&&◌, if◌then◌else◌, Option, None, Some}
 use Rattle.ae_code.specs.declared.form.Perm.{Perm}
 use Rattle.ae_code.specs.declared.form.Perm.TheVariants as need
 use Rattle.ae_rules.specs.declared.held.Held.{Held}
@@ -18,8 +18,7 @@ lend rest = Some (held.Lent, rest)
 
 -- one part more, where n are lent already
 abbrev pub lend_more : ℕ → Option Share
-lend_more zero = None
-lend_more (suc n) = if nat_lt (suc n) most_lent then lend (held.Split (suc (suc n))) else None
+lend_more n = if nat_lt 0 n && nat_lt n most_lent then lend (held.Split (n + 1)) else None
 
 -- what taking a share that meets a need gives: the part, and what is left
 abbrev pub splits : Held → Perm → Option Share
@@ -32,11 +31,9 @@ splits held.Immutable need.Immutable = Some (held.Immutable, held.Immutable)
 splits (held.Shared g) (need.Shared h) = if nat_eq g h then Some (held.Shared g, held.Shared g) else None
 splits _ _ = None
 
--- what is held once one of n lent parts is back
+-- what is held once one of n lent parts is back; no part of none is
 abbrev pub one_less : ℕ → Option Held
-one_less zero = None
-one_less (suc zero) = Some held.Unique
-one_less (suc (suc n)) = Some (held.Split (suc n))
+one_less n = if nat_eq n 0 then None else Some (if nat_eq n 1 then held.Unique else held.Split (n - 1))
 
 -- what is held once a part comes back to what was left
 abbrev pub joins : Held → Held → Option Held

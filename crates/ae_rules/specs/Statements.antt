@@ -1,5 +1,5 @@
 -- Statements: the premises of each form in order, and the context after it.
-use Rattle.std.specs.Prelude.{ℕ, nat_eq, Bool, false, ◌&&◌, not, if◌then◌else◌, Option, None, Some, is_some, ⊤}
+use Rattle.std.specs.Prelude.{ℕ, nat_eq, Bool, false, ◌&&◌, not, List, Option, None, Some, is_some, ⊤}
 use Rattle.ae_text.specs.declared.refusal.Spot.{Spot}
 use Rattle.ae_text.specs.declared.refusal.Rule.TheVariants as rule
 use Rattle.ae_code.specs.declared.tree.NameAt.{NameAt}
@@ -13,14 +13,11 @@ use Rattle.ae_code.specs.Names.{io}
 use Rattle.ae_code.specs.Plain.{Expression, RightSide, Value, Taken, Zeros, Made, Returned, Lines, End, Next, Definition, Code}
 use Rattle.ae_code.specs.Plain.{Action, Declares, Assigns, Stores, StoresAt, Calls, Chooses, ChoosesElse, Repeats, Groups, Splits, Locks, Freezes, Shares, Prints, PrintsText, Asserts, Returns}
 use Rattle.ae_rules.specs.declared.held.Held.TheVariants as held
-use Rattle.ae_rules.specs.declared.held.GroupPerm.{GroupPerm}
-use Rattle.ae_rules.specs.declared.held.GroupPerm.TheVariants as group
-use Rattle.ae_rules.specs.Verdict.{Verdict, Holds, Broken, ◌>>=◌, ◌>>◌, fine, require, found, in_turn, given}
+use Rattle.ae_rules.specs.Verdict.{Verdict, Holds, Broken, ◌>>=◌, ◌>>◌, fine, require, found, given}
 use Rattle.ae_rules.specs.Forms.{is_object, is_ints, is_unique}
-use Rattle.ae_rules.specs.Lookups.{Names}
 use Rattle.ae_rules.specs.Types.{is_group, forms_type}
-use Rattle.ae_rules.specs.Table.{no_names, and_also}
-use Rattle.ae_rules.specs.Context.{Local, Context, held_of, same_held, held_in, group_is, opens, known, is_visible, each_name, with_local, with_held, moved, with_group, closed, hold_alike}
+use Rattle.ae_rules.specs.Groups.{known, group_access, declare, may_split_all, may_lock, shared_in, locked_in}
+use Rattle.ae_rules.specs.Context.{Local, Context, held_of, same_held, held_in, is_visible, each_name, with_local, with_held, moved, closed, hold_alike}
 use Rattle.ae_rules.specs.Walks.{walk, write_access, owner_write_access}
 use Rattle.ae_rules.specs.Expressions.{place, judge_value, is_value}
 use Rattle.ae_rules.specs.Into.{into, made_into, unique_of}
@@ -68,7 +65,7 @@ judge_right p c target (Returned i) =
 
 abbrev pub judge_let : Code → Context → Ty → NameAt → RightSide → Verdict Context
 judge_let p c t x e =
-    forms_type p (known c) false t >>
+    forms_type p (known c.group) false t >>
     require (not (is_visible c x.name)) rule.DuplicateLocal x.at >>
     judge_right p c (form t) e >>= λ d.
     Holds (with_local x.name (form t) d)
@@ -102,10 +99,12 @@ judge_store_at p c path i e =
     is_value p c f.Int e >>
     Holds c
 
+-- locals and groups share their names
 abbrev pub judge_group : Context → NameAt → Verdict Context
 judge_group c g =
-    require (not (is_visible c g.name)) rule.DuplicateLocal g.at >>
-    Holds (with_group g.name group.Exclusive c)
+    require (not (is_some (c.local g.name))) rule.DuplicateLocal g.at >>
+    declare g c.group >>= λ gs.
+    Holds (record c { group = gs })
 
 -- a local that holds an object alone
 abbrev pub holds_alone : Context → NameAt → Verdict ⊤
@@ -121,13 +120,13 @@ judge_freeze c x = holds_alone c x >> Holds (with_held x.name held.Immutable c)
 abbrev pub judge_share : Context → NameAt → NameAt → Verdict Context
 judge_share c x g =
     holds_alone c x >>
-    is_group (known c) g >>
-    require (opens c g.name) rule.NeedsGroup g.at >>
+    is_group (known c.group) g >>
+    group_access c.group g.name g.at >>
     Holds (with_held x.name (held.Shared g.name) c)
 
 -- what is printed goes to `io`
 abbrev pub prints : Context → Spot → Verdict Context
-prints c at = require (opens c io) rule.NeedsGroup at >> Holds c
+prints c at = group_access c.group io at >> Holds c
 
 abbrev pub judge_return : Code → Definition → Context → Expression → Spot → Verdict Context
 judge_return p m c e at =
@@ -153,39 +152,21 @@ groups_stay p outside inside (Next at _ rest) = groups_stay p outside inside res
 abbrev pub end_block : Code → Context → Lines → Context → Verdict Context
 end_block p outside b inside = groups_stay p outside inside b >> Holds (closed outside inside)
 
--- a group of a split list is known, new in the list, and exclusive
-abbrev pub may_split : Context → NameAt → Names → Verdict Names
-may_split c g earlier =
-    require (known c g.name) rule.UnknownGroup g.at >>
-    require (not (earlier g.name)) rule.GroupTwice g.at >>
-    require (group_is group.Exclusive c g.name) rule.NotExclusive g.at >>
-    Holds (and_also g.name earlier)
-
 -- in a split block its groups are shared
-abbrev pub while_split : Names → Context → Context
-while_split names c = record c { group = λ g. if names g then Some group.Shared else c.group g }
-
--- a group of an atomic block is known, not held back, and shared
-abbrev pub may_lock : Context → NameAt → Verdict ⊤
-may_lock c g =
-    require (known c g.name) rule.UnknownGroup g.at >>
-    require (not (group_is group.HeldBack c g.name)) rule.NestedAtomic g.at >>
-    require (group_is group.Shared c g.name) rule.NotShared g.at
-
-abbrev pub held_back : Option GroupPerm → Option GroupPerm
-held_back (Some group.Shared) = Some group.HeldBack
-held_back q = q
+abbrev pub while_split : List NameAt → Context → Context
+while_split gs c = record c { group = shared_in gs c.group }
 
 -- in an atomic block its group is protected, and every other shared group is held back
 abbrev pub while_locked : ℕ → Context → Context
-while_locked g c = record c { group = λ h. if nat_eq g h then Some group.Protected else held_back (c.group h) }
+while_locked g c = record c { group = locked_in g c.group }
 
--- after both branches each local from outside holds the same
+-- after both branches each local from outside holds the same; a branch that is missing leaves the context as it was
 abbrev pub branches_meet : Code → Context → Spot → Context → Context → Verdict Context
-branches_meet p c at d e = require (hold_alike p c d e) rule.BranchesDiffer at >> Holds d
+branches_meet p c at d e = require (hold_alike p c d e) rule.BranchesDiffer at >> Holds e
 
+-- after a turn each local from outside holds what it held
 abbrev pub loop_keeps : Code → Context → Spot → Context → Verdict Context
-loop_keeps p c at d = require (hold_alike p c d c) rule.LoopChanges at >> Holds d
+loop_keeps p c at d = require (hold_alike p c d c) rule.LoopChanges at >> Holds c
 
 abbrev mutual
   -- a statement of a method, at its place: its premises in order, and the context after it
@@ -212,10 +193,10 @@ abbrev mutual
       loop_keeps p c at d
   judge_statement p m at (Groups g) c = judge_group c g
   judge_statement p m at (Splits gs n b) c =
-      in_turn (may_split c) gs no_names >>= λ names.
-      judge_lines p m b (while_split names c) >>= end_block p c b
+      may_split_all c.group gs >>
+      judge_lines p m b (while_split gs c) >>= end_block p c b
   judge_statement p m at (Locks g n b) c =
-      may_lock c g >>
+      may_lock c.group g >>
       judge_lines p m b (while_locked g.name c) >>= end_block p c b
   judge_statement p m at (Freezes x) c = judge_freeze c x
   judge_statement p m at (Shares x g) c = judge_share c x g

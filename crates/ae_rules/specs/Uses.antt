@@ -1,5 +1,5 @@
 -- What a statement uses of each local and each group. The context before it says what is held.
-use Rattle.std.specs.Prelude.{ℕ, zero, suc, nat_eq, Bool, false, if◌then◌else◌, List, [], ◌∷◌, map, zip, Option, None, Some, is_some}
+use Rattle.std.specs.Prelude.{ℕ, nat_eq, Bool, false, if◌then◌else◌, List, [], ◌∷◌, map, zip, slice_get, Option, None, Some, is_some}
 use Rattle.ae_text.specs.declared.refusal.Spot.{Spot}
 use Rattle.ae_code.specs.declared.tree.NameAt.{NameAt}
 use Rattle.ae_code.specs.declared.tree.Path.{Path}
@@ -21,14 +21,14 @@ use Rattle.ae_code.specs.Plain.{Expression, Number, Truth, Nothing, Read, Item, 
 use Rattle.ae_code.specs.Plain.{Action, Declares, Assigns, Stores, StoresAt, Calls, Chooses, ChoosesElse, Repeats, Groups, Splits, Locks, Freezes, Shares, Prints, PrintsText, Asserts, Returns}
 use Rattle.ae_rules.specs.declared.held.Held.{Held}
 use Rattle.ae_rules.specs.declared.held.Held.TheVariants as held
-use Rattle.ae_rules.specs.Verdict.{Verdict, Holds, Broken, ◌>>=◌, in_turn, given}
+use Rattle.ae_rules.specs.Verdict.{Verdict, given, judged}
 use Rattle.ae_rules.specs.Lookups.{class_called, field_form}
-use Rattle.ae_rules.specs.Table.{no_names}
-use Rattle.ae_rules.specs.Context.{Local, Context, known}
+use Rattle.ae_rules.specs.Groups.{Wanted, wanted, known}
+use Rattle.ae_rules.specs.Context.{Local, Context}
 use Rattle.ae_rules.specs.Walks.{Place, step, walk, owner}
 use Rattle.ae_rules.specs.Into.{Source, Null, From, source, moves}
-use Rattle.ae_rules.specs.Calls.{Callee, judge_callee, Slot, group_in, slots, givens, Wanted, wanted}
-use Rattle.ae_rules.specs.Statements.{may_split, while_split, while_locked, judge_statement}
+use Rattle.ae_rules.specs.Calls.{Callee, judge_callee, Slot, group_in, slots, givens}
+use Rattle.ae_rules.specs.Statements.{while_split, while_locked, judge_statement}
 
 -- ---- uses put together
 
@@ -76,8 +76,7 @@ of_each uses (x ∷ xs) = uses x ∪ of_each uses xs
 
 -- the uses of what a verdict gives; none, where a rule is broken
 abbrev pub of_judged : {A : Type 0} → Verdict A → (A → Uses) → Uses
-of_judged (Holds x) uses = uses x
-of_judged (Broken rule at) uses = nothing
+of_judged v uses = judged v nothing uses
 
 -- the uses of what is there
 abbrev pub of_found : {A : Type 0} → Option A → (A → Uses) → Uses
@@ -86,7 +85,7 @@ of_found o uses = given o nothing uses
 -- a resource that is visible in this context
 abbrev pub is_seen : Context → Resource → Bool
 is_seen c (resource.Local x) = is_some (c.local x)
-is_seen c (resource.Group g) = known c g
+is_seen c (resource.Group g) = known c.group g
 
 -- the uses of what is visible in this context
 abbrev pub outside : Context → Uses → Uses
@@ -221,10 +220,6 @@ store_uses p c path e = write_uses p c (owner path) ∪ of_judged (walk p c path
 abbrev pub return_uses : Code → Definition → Context → Expression → Uses
 return_uses p m c e = of_found m.result (λ t. into_uses p c (form t) e)
 
--- the context in which a split block begins
-abbrev pub split_start : Context → List NameAt → Verdict Context
-split_start c gs = in_turn (may_split c) gs no_names >>= λ names. Holds (while_split names c)
-
 abbrev mutual
   -- the uses of a statement of a method, in the context before it
   pub statement_uses : Code → Definition → Action → Context → Uses
@@ -237,7 +232,7 @@ abbrev mutual
   statement_uses p m (ChoosesElse e n b k b') c = value_uses p c e ∪ outside c (lines_use p m b c) ∪ outside c (lines_use p m b' c)
   statement_uses p m (Repeats e n b) c = value_uses p c e ∪ outside c (lines_use p m b c)
   statement_uses p m (Groups g) c = whole g.name
-  statement_uses p m (Splits gs n b) c = of_each (λ (g : NameAt). whole g.name) gs ∪ outside c (of_judged (split_start c gs) (lines_use p m b))
+  statement_uses p m (Splits gs n b) c = of_each (λ (g : NameAt). whole g.name) gs ∪ outside c (lines_use p m b (while_split gs c))
   statement_uses p m (Locks g n b) c = together g.name ∪ all_but (resource.Group g.name) (outside c (lines_use p m b (while_locked g.name c)))
   statement_uses p m (Freezes x) c = writes x.name
   statement_uses p m (Shares x g) c = writes x.name ∪ whole g.name
@@ -253,12 +248,15 @@ abbrev mutual
 
 -- ---- the statements of a block
 
--- the context before statement i of a block that begins in this one
-abbrev pub context_at : Code → Definition → Lines → Context → ℕ → Verdict Context
-context_at p m End c i = Holds c
-context_at p m (Next at a rest) c zero = Holds c
-context_at p m (Next at a rest) c (suc i) = judge_statement p m at a c >>= λ d. context_at p m rest d i
+-- the context before each statement of a block that begins in this one, as far as the statements are judged
+abbrev pub contexts : Code → Definition → Lines → Context → List Context
+contexts p m End c = []
+contexts p m (Next at a rest) c = c ∷ judged (judge_statement p m at a c) [] (contexts p m rest)
+
+-- the context before statement i of a block
+abbrev pub context_at : Code → Definition → Lines → Context → ℕ → Option Context
+context_at p m b c i = slice_get (contexts p m b c) i
 
 -- how statement i of a block uses each resource; the block begins in this context
 abbrev pub block_uses : Code → Definition → Lines → Context → ℕ → Uses
-block_uses p m b c i = of_found (statement_at b i) (λ a. of_judged (context_at p m b c i) (statement_uses p m a))
+block_uses p m b c i = of_found (statement_at b i) (λ a. of_found (context_at p m b c i) (statement_uses p m a))

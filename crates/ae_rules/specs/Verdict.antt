@@ -47,6 +47,11 @@ abbrev pub given : {A B : Type 0} → Option A → B → (A → B) → B
 given None other f = other
 given (Some x) other f = f x
 
+-- what a verdict comes to where it holds, or else a value
+abbrev pub judged : {A B : Type 0} → Verdict A → B → (A → B) → B
+judged (Holds x) other f = f x
+judged (Broken rule at) other f = other
+
 -- the premises of a thing, where it is there
 abbrev pub if_there : {A : Type 0} → Option A → (A → Verdict ⊤) → Verdict ⊤
 if_there o premise = given o fine premise

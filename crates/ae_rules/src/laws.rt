@@ -1,6 +1,7 @@
 // Laws over the rules alone.
+ghost use Rattle.ae_rules.specs.BlockLaws.{BlocksAreReached};
 ghost use Rattle.ae_rules.specs.Cases.{BuiltDeclaresOne, TodayIsACase, TodaysUsesAreACase};
-ghost use Rattle.ae_rules.specs.Laws.{JudgedOrBroken, NeverBoth, AcceptedOrBroken, NeverAcceptedAndBroken, FirstIsOne, TakenIsGivenBack, NothingToTake, CallsGiveBack, GivenAwayIsGone, MovesByItsText, StatementsKeep};
+ghost use Rattle.ae_rules.specs.Laws.{JudgedOrBroken, NeverBoth, AcceptedOrBroken, NeverAcceptedAndBroken, FirstIsOne, TakenIsGivenBack, NothingToTake, CallsGiveBack, GivenAwayIsGone, MovesByItsText, StatementsKeep, SplitIsUndone};
 ghost use Rattle.ae_rules.specs.EdgeLaws.{EdgesGoForward, ChainsGoForward, ConflictsAreOrdered, UsesAreAllowed, PredsAreEdges, ConflictsAreFirst};
 
 /// Each statement is judged, or a premise of it fails first.
@@ -56,6 +57,16 @@ pub fn moves_are_told_by_the_text()
 /// After a judged statement each local that was visible still is, with its form, and each group has its permission.
 pub fn statements_keep_what_is_visible()
     ensures { StatementsKeep }
+{}
+
+/// After a split block its groups are as they were, once those that the block declared are forgotten.
+pub fn a_split_block_is_undone()
+    ensures { SplitIsUndone }
+{}
+
+/// Each block of an accepted program is there with the context in which it begins, in the order of the text, and each statement in it is reached.
+pub fn every_block_is_reached()
+    ensures { BlocksAreReached }
 {}
 
 /// An edge leads from a statement to a later one.
