@@ -29,14 +29,14 @@ pub each_has : {A : Type 0} {L : Lexical → Type 0} (D : A → Tokens → Type 
 each_has D P f [] d = All-nil P
 each_has D P f (x ∷ xs) d = All-cons P x xs (f x (head d)) (each_has D P f xs (tail d))
 
-further_has : {A : Type 0} {L : Lexical → Type 0} (D : A → Tokens → Type 0) (P : A → Type 0) → ((x : A) → Of L (D x) → P x) → (xs : List A) → Of L (each (further D) xs) → All P xs
+pub further_has : {A : Type 0} {L : Lexical → Type 0} (D : A → Tokens → Type 0) (P : A → Type 0) → ((x : A) → Of L (D x) → P x) → (xs : List A) → Of L (each (further D) xs) → All P xs
 further_has D P f = each_has (further D) P (λ x d. f x (tail d))
 
-separated_has : {A : Type 0} {L : Lexical → Type 0} (D : A → Tokens → Type 0) (P : A → Type 0) → ((x : A) → Of L (D x) → P x) → (xs : List A) → Of L (separated D xs) → All P xs
+pub separated_has : {A : Type 0} {L : Lexical → Type 0} (D : A → Tokens → Type 0) (P : A → Type 0) → ((x : A) → Of L (D x) → P x) → (xs : List A) → Of L (separated D xs) → All P xs
 separated_has D P f [] d = absurd d.derives
 separated_has D P f (x ∷ xs) d = All-cons P x xs (f x (head d)) (further_has D P f xs (tail d))
 
-listed_has : {A : Type 0} {L : Lexical → Type 0} (D : A → Tokens → Type 0) (P : A → Type 0) → ((x : A) → Of L (D x) → P x) → (xs : List A) → Of L (listed D xs) → All P xs
+pub listed_has : {A : Type 0} {L : Lexical → Type 0} (D : A → Tokens → Type 0) (P : A → Type 0) → ((x : A) → Of L (D x) → P x) → (xs : List A) → Of L (listed D xs) → All P xs
 listed_has D P f [] d = All-nil P
 listed_has D P f (x ∷ xs) d = separated_has D P f (x ∷ xs) d
 
