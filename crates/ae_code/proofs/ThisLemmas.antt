@@ -129,6 +129,7 @@ classes_other (OfClass x ms ∷ xs) c m d =
     (classes_other xs _ _ (tail d))
 classes_other (OfMethod x ∷ xs) c m d = classes_other xs _ _ (tail d)
 
+-- nothing is declared under the name `this`
 pub derived_have_this_free : DerivedHaveThisFree
 derived_have_this_free tokens p h d =
     let more = all_more (spellings tokens) first_names in

@@ -12,6 +12,7 @@ use Rattle.ae_code.specs.Names.{this}
 use Rattle.ae_code.specs.Grammar.{Derives}
 use Rattle.ae_code.specs.WellShaped.{EachStatement}
 
+-- a name other than `this`
 abbrev pub IsNotThis : NameAt → Type 0
 IsNotThis x = x.name ≢ this
 
@@ -21,6 +22,7 @@ DeclaresOther (Declares t x e) = IsNotThis x
 DeclaresOther (Groups g) = IsNotThis g
 DeclaresOther _ = Unit {0}
 
+-- nothing is declared under the name `this`
 pub record ThisIsFree (p : Code) : Type 0 where
   -- no class has the name, and no group and no field of a class
   pub classes : All (λ (c : Class). IsNotThis c.name × All IsNotThis c.groups × All (λ (d : Field). IsNotThis d.name) c.fields) p.classes
