@@ -52,6 +52,7 @@ key_more ks s = by (list_any (bytes_eq s) ks)
     by true = ([], sym (append-nil ks))
     by false = (s ∷ [], refl)
 
+-- after all are inserted, what was there comes first
 pub all_more : (xs ks : Words) → (rest : Words) × (insert_all bytes_eq ks xs ≡ ks ++ rest)
 all_more [] ks = ([], sym (append-nil ks))
 all_more (s ∷ xs) ks =
@@ -84,6 +85,7 @@ key_apart ks s h = by (list_any (bytes_eq s) ks) refl
     by true e = h
     by false e = IsDistinct-push bytes_alike ks s h e
 
+-- after all are inserted, no two are alike, if none were before
 pub all_apart : (xs ks : Words) → IsDistinct bytes_eq ks → IsDistinct bytes_eq (insert_all bytes_eq ks xs)
 all_apart [] ks h = h
 all_apart (s ∷ xs) ks h = all_apart xs (insert_key bytes_eq ks s) (key_apart ks s h)
@@ -127,6 +129,7 @@ token_below (k.Word w) ts h ks l = (l, h ks l)
 token_below (k.Sign g) ts h ks l = (tt, h ks l)
 token_below k.End ts h ks l = (tt, h ks l)
 
+-- the numbers of all tokens are below how many names there are
 pub tokens_below : (ts : List Token) → AreNumbered ts
 tokens_below [] ks l = tt
 tokens_below (t ∷ ts) ks l = token_below t.kind ts (tokens_below ts) ks l

@@ -71,6 +71,7 @@ takes_field (Zeros e at) d = tt
 takes_field (Made c gs es at) d = tt
 takes_field (Returned c) d = tt
 
+-- the path to a field that is taken or written has a step
 pub has_field : (L : Lexical → Type 0) → Gives L HasField
 has_field L k at (Declares t x e) d = takes_field e (head (tail (tail (tail (tail d)))))
 has_field L k at (Assigns x e) d = takes_field e (head (tail (tail (under d))))
@@ -90,6 +91,7 @@ has_field L k at (PrintsText s) d = tt
 has_field L k at (Asserts e) d = tt
 has_field L k at (Returns e) d = tt
 
+-- a split has a group
 pub has_group : (L : Lexical → Type 0) → Gives L HasGroup
 has_group L k at (Declares t x e) d = tt
 has_group L k at (Assigns x e) d = tt
@@ -136,9 +138,11 @@ returns_last (Next at a rest) r h = (inl h.0, h.1, returns_last rest r h.2)
 
 -- ---- numbers in order
 
+-- one number, and then those from the next on
 pub numbers_from-one : (k n : ℕ) → k ∷ numbers_from (k + 1) n ≡ numbers_from k (1 + n)
 numbers_from-one k n = let e : suc n ≡ 1 + n = omega arith in ap (numbers_from k) e
 
+-- numbers, and then those behind them
 pub numbers_from-append : (k a b : ℕ) → numbers_from k a ++ numbers_from (k + a) b ≡ numbers_from k (a + b)
 numbers_from-append k zero b = let e : k + 0 ≡ k = omega arith in let f : b ≡ 0 + b = omega arith in ap₂ numbers_from e f
 numbers_from-append k (suc a) b =
@@ -146,6 +150,7 @@ numbers_from-append k (suc a) b =
     let f : suc (a + b) ≡ suc a + b = omega arith in
     ap (λ (m : ℕ). k ∷ numbers_from (k + 1) a ++ numbers_from m b) e ∙ ap (λ (l : List ℕ). k ∷ l) (numbers_from-append (k + 1) a b) ∙ ap (numbers_from k) f
 
+-- so many numbers are so many
 pub length-numbers_from : (k n : ℕ) → length (numbers_from k n) ≡ n
 length-numbers_from k zero = refl
 length-numbers_from k (suc n) = ap suc (length-numbers_from (k + 1) n)
@@ -158,6 +163,7 @@ above_all : (k m n : ℕ) → k < m → AllByRecursion (λ (y : ℕ). nat_eq k y
 above_all k m zero l = tt
 above_all k m (suc n) l = (ne_eqb k m (λ (e : k ≡ m). omega (arith, l, e)), above_all k (m + 1) n (omega (arith, l)))
 
+-- no two of them are alike
 pub numbers_apart : (k n : ℕ) → IsDistinct nat_eq (numbers_from k n)
 unfolding IsDistinct
 numbers_apart k zero = tt

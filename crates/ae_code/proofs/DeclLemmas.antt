@@ -123,6 +123,7 @@ first_apart : IsDistinct bytes_eq first_names
 unfolding IsDistinct
 first_apart = ((refl, (refl, tt)), ((refl, tt), (tt, tt)))
 
+-- a derived program is well shaped
 pub derived_are_well_shaped : DerivedAreWellShaped
 derived_are_well_shaped tokens p d =
     let n : ℕ = length p.names in

@@ -5,3 +5,4 @@ mod NamedLemmas
 mod BlockLemmas
 mod ProgramLemmas
 mod DeclLemmas
+mod ThisLemmas

@@ -29,19 +29,23 @@ pub each_has : {A : Type 0} {L : Lexical → Type 0} (D : A → Tokens → Type 
 each_has D P f [] d = All-nil P
 each_has D P f (x ∷ xs) d = All-cons P x xs (f x (head d)) (each_has D P f xs (tail d))
 
-further_has : {A : Type 0} {L : Lexical → Type 0} (D : A → Tokens → Type 0) (P : A → Type 0) → ((x : A) → Of L (D x) → P x) → (xs : List A) → Of L (each (further D) xs) → All P xs
+-- the same where each has a comma before it
+pub further_has : {A : Type 0} {L : Lexical → Type 0} (D : A → Tokens → Type 0) (P : A → Type 0) → ((x : A) → Of L (D x) → P x) → (xs : List A) → Of L (each (further D) xs) → All P xs
 further_has D P f = each_has (further D) P (λ x d. f x (tail d))
 
-separated_has : {A : Type 0} {L : Lexical → Type 0} (D : A → Tokens → Type 0) (P : A → Type 0) → ((x : A) → Of L (D x) → P x) → (xs : List A) → Of L (separated D xs) → All P xs
+-- the same of at least one, with commas between them
+pub separated_has : {A : Type 0} {L : Lexical → Type 0} (D : A → Tokens → Type 0) (P : A → Type 0) → ((x : A) → Of L (D x) → P x) → (xs : List A) → Of L (separated D xs) → All P xs
 separated_has D P f [] d = absurd d.derives
 separated_has D P f (x ∷ xs) d = All-cons P x xs (f x (head d)) (further_has D P f xs (tail d))
 
-listed_has : {A : Type 0} {L : Lexical → Type 0} (D : A → Tokens → Type 0) (P : A → Type 0) → ((x : A) → Of L (D x) → P x) → (xs : List A) → Of L (listed D xs) → All P xs
+-- the same of none, or some with commas between them
+pub listed_has : {A : Type 0} {L : Lexical → Type 0} (D : A → Tokens → Type 0) (P : A → Type 0) → ((x : A) → Of L (D x) → P x) → (xs : List A) → Of L (listed D xs) → All P xs
 listed_has D P f [] d = All-nil P
 listed_has D P f (x ∷ xs) d = separated_has D P f (x ∷ xs) d
 
 -- ---- names, paths and types
 
+-- a name is one of the first n
 pub name_named : (n : ℕ) (x : NameAt) → Of (IsBelow n) (name x) → IsNamed n x
 name_named n x d = (subst (EachToken (IsBelow n)) d.derives d.each).0
 
@@ -57,6 +61,7 @@ path_named n p d = (root_named n p.root (head d), each_has step (IsNamed n) (λ 
 names_named : (n : ℕ) (xs : List NameAt) → Of (IsBelow n) (separated name xs) → AreNamed n xs
 names_named n xs d = separated_has name (IsNamed n) (name_named n) xs d
 
+-- the groups behind a name
 pub groups_named : (n : ℕ) (gs : List NameAt) → Of (IsBelow n) (groups gs) → AreNamed n gs
 groups_named n [] d = All-nil (IsNamed n)
 groups_named n (g ∷ gs) d = names_named n (g ∷ gs) (head (tail d))
@@ -90,6 +95,7 @@ expression_named n (Negated e at) l d = expression_named n e 5 (tail d)
 expression_named n (Minus e at) l d = expression_named n e 5 (tail d)
 expression_named n (Binary o a b) l d = (expression_named n a _ (head (under d)), expression_named n b _ (tail (tail (under d))))
 
+-- the names of an expression
 pub whole_named : (n : ℕ) (e : Expression) → Of (IsBelow n) (whole e) → ExpressionNamed n e
 whole_named n e d = expression_named n e 0 d
 
@@ -112,6 +118,7 @@ right_named n (Returned c) d = call_named n c d
 
 -- ---- statements
 
+-- the names of a statement, without those in its blocks
 pub action_named : (n k : ℕ) (at : Spot) (a : Action) → Of (IsBelow n) (statement k at a) → ActionNamed n a
 action_named n k at (Declares t x e) d = (type_named n t (head (tail d)), name_named n x (head (tail (tail d))), right_named n e (head (tail (tail (tail (tail d))))))
 action_named n k at (Assigns x e) d = (name_named n x (head (under d)), right_named n e (head (tail (tail (under d)))))
@@ -133,6 +140,7 @@ action_named n k at (Returns e) d = absurd d.derives
 
 -- ---- the heads of methods, and fields
 
+-- the names of a result
 pub result_named : (n : ℕ) (t : Option Ty) → Of (IsBelow n) (result t) → IfThere (TypeNamed n) t
 result_named n None d = tt
 result_named n (Some t) d = type_named n t d
@@ -140,21 +148,26 @@ result_named n (Some t) d = type_named n t d
 param_named : (n : ℕ) (x : Param) → Of (IsBelow n) (param x) → ParamNamed n x
 param_named n x d = (type_named n x.ty (head d), name_named n x.name (head (tail d)))
 
+-- the names of a receiver
 pub me_named : (n : ℕ) (o : Option Me) (xs : List Param) → Of (IsBelow n) (parameters o xs) → IfThere (λ (x : Me). PermNamed n x.perm) o
 me_named n None xs d = tt
 me_named n (Some m) xs d = perm_named n m.perm (head (head d))
 
+-- the names of the parameters
 pub params_named : (n : ℕ) (o : Option Me) (xs : List Param) → Of (IsBelow n) (parameters o xs) → All (ParamNamed n) xs
 params_named n None xs d = listed_has param (ParamNamed n) (param_named n) xs d
 params_named n (Some m) xs d = further_has param (ParamNamed n) (param_named n) xs (tail d)
 
+-- the groups of the needs
 pub needs_named : (n : ℕ) (xs : List GroupNeed) → Of (IsBelow n) (needs xs) → All (λ (x : GroupNeed). IsNamed n x.group) xs
 needs_named n [] d = All-nil (λ (x : GroupNeed). IsNamed n x.group)
 needs_named n (x ∷ xs) d = separated_has need (λ (y : GroupNeed). IsNamed n y.group) (λ y e. name_named n y.group (tail e)) (x ∷ xs) (tail d)
 
+-- the names of a field
 pub field_named : (n : ℕ) (x : Field) → Of (IsBelow n) (field x) → FieldNamed n x
 field_named n x d = (type_named n x.ty (head d), name_named n x.name (head (tail d)))
 
+-- the names of a `return`
 pub returning_named : (n : ℕ) (r : Option (Spot × Expression)) → Of (IsBelow n) (returning r) → IfThere (λ (x : Spot × Expression). ExpressionNamed n x.1) r
 returning_named n None d = tt
 returning_named n (Some r) d = whole_named n r.1 (head (tail d))

@@ -37,6 +37,7 @@ class_is : (o : Option ℕ) (m : Definition) → IsOf o m → m.class ≡ o
 class_is None m h = h.0
 class_is (Some c) m h = h.0
 
+-- a method that tokens stand for has its shape
 pub method_shape : (n : ℕ) (o : Option ℕ) (m : Definition) → Of (IsBelow n) (method o m) → MethodShape n o m
 method_shape n o m d =
     let s1 = tail (under_two d) in
@@ -79,6 +80,7 @@ methods_have P bound f (OfClass k ms ∷ xs) c m l d =
 methods_have P bound f (OfMethod x ∷ xs) c m l d =
     All-cons P x (methods_of xs) (f None x tt (head d)) (methods_have P bound f xs _ _ (omega (arith, l)) (tail d))
 
+-- the names of the classes
 pub classes_named : (n : ℕ) (xs : List Declaration) (c m : ℕ) → Of (IsBelow n) (declarations c m xs) → All (ClassNamed n) (classes_of xs)
 classes_named n [] c m d = All-nil (ClassNamed n)
 classes_named n (OfClass k ms ∷ xs) c m d =

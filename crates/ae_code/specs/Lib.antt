@@ -12,3 +12,4 @@ pub mod Spelling
 pub mod Layout
 pub mod Form
 pub mod WellShaped
+pub mod FreeThis

@@ -42,9 +42,11 @@ abbrev mutual
 
 -- ---- names: those that occur are among the first n
 
+-- a name is one of the first n
 abbrev pub IsNamed : ℕ → NameAt → Type 0
 IsNamed n x = x.name < n
 
+-- and so is each of these
 abbrev pub AreNamed : ℕ → List NameAt → Type 0
 AreNamed n = All (IsNamed n)
 
@@ -52,16 +54,19 @@ AreNamed n = All (IsNamed n)
 abbrev pub PathNamed : ℕ → Path → Type 0
 PathNamed n p = IsNamed n p.root × AreNamed n p.steps
 
+-- the group of a permission
 abbrev pub PermNamed : ℕ → PermAt → Type 0
 PermNamed n (perm_at.Unique at) = Unit {0}
 PermNamed n (perm_at.Immutable at) = Unit {0}
 PermNamed n (perm_at.Lent at) = Unit {0}
 PermNamed n (perm_at.Shared at g) = IsNamed n g
 
+-- the class of a kind, and its groups
 abbrev pub KindNamed : ℕ → KindAt → Type 0
 KindNamed n (kind_at.Ints at) = Unit {0}
 KindNamed n (kind_at.Class c gs) = IsNamed n c × AreNamed n gs
 
+-- the permission and the kind of a type
 abbrev pub TypeNamed : ℕ → Ty → Type 0
 TypeNamed n (ty.Int at) = Unit {0}
 TypeNamed n (ty.Bool at) = Unit {0}
@@ -72,6 +77,7 @@ abbrev pub IfThere : {A : Type 0} → (A → Type 0) → Option A → Type 0
 IfThere P None = Unit {0}
 IfThere P (Some x) = P x
 
+-- the paths of an expression
 abbrev pub ExpressionNamed : ℕ → Expression → Type 0
 ExpressionNamed n (Number i at) = Unit {0}
 ExpressionNamed n (Truth b at) = Unit {0}
@@ -84,9 +90,11 @@ ExpressionNamed n (Negated e at) = ExpressionNamed n e
 ExpressionNamed n (Minus e at) = ExpressionNamed n e
 ExpressionNamed n (Binary o a b) = ExpressionNamed n a × ExpressionNamed n b
 
+-- a call: its receiver, its method, its groups and its arguments
 abbrev pub CallNamed : ℕ → Invocation → Type 0
 CallNamed n c = IfThere (PathNamed n) c.on × IsNamed n c.method × AreNamed n c.groups × All (ExpressionNamed n) c.args
 
+-- what stands right of a =
 abbrev pub RightNamed : ℕ → RightSide → Type 0
 RightNamed n (Value e) = ExpressionNamed n e
 RightNamed n (Taken p at) = PathNamed n p
@@ -114,6 +122,7 @@ ActionNamed n (PrintsText s) = Unit {0}
 ActionNamed n (Asserts e) = ExpressionNamed n e
 ActionNamed n (Returns e) = ExpressionNamed n e
 
+-- a parameter: its type and its name
 abbrev pub ParamNamed : ℕ → Param → Type 0
 ParamNamed n x = TypeNamed n x.ty × IsNamed n x.name
 
@@ -127,6 +136,7 @@ pub record MethodNamed (n : ℕ) (m : Definition) : Type 0 where
   pub needs : All (λ (x : GroupNeed). IsNamed n x.group) m.needs
   pub body : EachStatement (ActionNamed n) m.body
 
+-- a field: its type and its name
 abbrev pub FieldNamed : ℕ → Field → Type 0
 FieldNamed n d = TypeNamed n d.ty × IsNamed n d.name
 
@@ -153,6 +163,7 @@ abbrev pub HasGroup : Action → Type 0
 HasGroup (Splits gs n b) = gs ≢ []
 HasGroup _ = Unit {0}
 
+-- a statement other than `return`
 abbrev pub IsNoReturn : Action → Type 0
 IsNoReturn (Returns e) = ⊥
 IsNoReturn _ = Unit {0}
@@ -189,10 +200,12 @@ BlocksInOrder m = block_numbers m ≡ numbers_from 0 (length (block_numbers m))
 
 -- ---- declarations
 
+-- the class of a declaration, by its number
 abbrev pub class_in : Decl → Option ℕ
 class_in (decl.Class n) = Some n
 class_in (decl.Method n) = None
 
+-- the methods of a class, by their numbers
 abbrev pub own_methods : Option Class → List ℕ
 own_methods None = []
 own_methods (Some c) = c.methods
@@ -219,6 +232,7 @@ IsOfSome p m = (c : ℕ) → m.class ≡ Some c → c < length p.classes
 
 -- ---- programs
 
+-- a program has the shape that the grammar gives
 pub record WellShaped (p : Code) : Type 0 where
   -- the first names are `io`, `main` and `this`
   pub first : (rest : List (List ℕ)) × (p.names ≡ first_names ++ rest)

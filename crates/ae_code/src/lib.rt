@@ -15,7 +15,7 @@ mod types;
 mod uses;
 
 pub use form::{Form, Kind, Perm};
-pub use laws::derived_programs_are_well_shaped;
+pub use laws::{derived_programs_are_well_shaped, this_is_no_declared_name};
 pub use lexeme::{Lexeme, Lexical};
 pub use limits::Limit;
 pub use print_decl::print_program;
