@@ -15,7 +15,7 @@ use crate::names::first_broken;
 use crate::texts::{status, text_of};
 use crate::words::command;
 use ae_cases::today_is_a_case;
-use ae_code::{Program, Stmt};
+use ae_code::{Program, Stmt, derived_programs_are_well_shaped};
 use ae_grammar::tokens_stand_for_one_program;
 use ae_graph::graph_text;
 use ae_parser::{parse, programs_are_not_refused, refusals_are_unique};
@@ -89,6 +89,7 @@ fn done<G: Gate>(
     todays_uses_are_a_case();
     preds_are_edges();
     today_is_a_case();
+    derived_programs_are_well_shaped();
     match command {
         Command::Graph => match graph_text(alloc, program) {
             Ok(text) => What::Graph(text),

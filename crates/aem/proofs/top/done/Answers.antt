@@ -20,7 +20,7 @@ returns-in-Ok g c =
       c.in-Graph.is,
       text_is c.todays_uses_are_a_case.ensures c.preds_are_edges.ensures p
           (accepted c.todays_judgement_is_a_case.ensures p c.requires.built d c.requires.accepted)
-          d c.requires.built (names_below source.1.tokens p source.1.derives c.requires.built) c.in-Ok.text c.in-Ok.ensures,
+          d c.requires.built (names_below c.derived_programs_are_well_shaped.ensures source.1.tokens p source.1.derives c.requires.built) c.in-Ok.text c.in-Ok.ensures,
     )
 
 pub returns-in-Ok-run : goal.returns-in-Ok-run
