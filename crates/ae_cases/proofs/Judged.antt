@@ -12,7 +12,8 @@ use Rattle.ae_code.specs.Names.{io}
 use Rattle.ae_code.specs.Plain.{Code, Expression, Value}
 use Rattle.ae_rules.specs.declared.held.Held.{Held}
 use Rattle.ae_rules.specs.Verdict.{Verdict, Holds, Broken, ◌>>=◌, ◌>>◌, require, found}
-use Rattle.ae_rules.specs.Context.{Local, Context, held_of, is_visible, opens, with_held, with_local, moved}
+use Rattle.ae_rules.specs.Groups.{group_access}
+use Rattle.ae_rules.specs.Context.{Local, Context, held_of, is_visible, with_held, with_local, moved}
 use Rattle.ae_rules.specs.Expressions.{judge_value, is_value}
 use Rattle.ae_rules.specs.Into.{into}
 use Rattle.ae_rules.specs.Statements.{judge_right, judge_let, judge_assign, prints}
@@ -87,5 +88,5 @@ assign_is p c d i x e h =
 pub print_is : (p : Code) (c d : Context) (at : Spot) (e : Expression) → (judge_value p c e >> prints c at) ≡ Holds d → d ≡ c
 print_is p c d at e h =
     let v = holds_then (judge_value p c e) (λ _. prints c at) d h in
-    let r = holds_then (require (opens c io) rule.NeedsGroup at) (λ _. Holds c) d v.2 in
+    let r = holds_then (group_access c.group io at) (λ _. Holds c) d v.2 in
     cc r.2

@@ -6,8 +6,7 @@ use Rattle.ae_code.specs.declared.uses.Mode.{Mode}
 use Rattle.ae_code.specs.Plain.{Action, Definition, Code}
 use Rattle.ae_rules.specs.Verdict.{Verdict, Holds, Broken}
 use Rattle.ae_rules.specs.Context.{Context}
-use Rattle.ae_rules.specs.Statements.{judge_statement}
-use Rattle.ae_rules.specs.Uses.{split_start}
+use Rattle.ae_rules.specs.Statements.{while_split, judge_statement}
 use Rattle.ae_rules.specs.Edges.{is_weak}
 
 -- the context that a verdict gives; where a rule is broken, the one before
@@ -21,7 +20,7 @@ after p m at a c = or_before (judge_statement p m at a c) c
 
 -- the context in which a split block begins
 abbrev pub in_split : List NameAt → Context → Context
-in_split gs c = or_before (split_start c gs) c
+in_split gs c = while_split gs c
 
 -- used so that nothing else uses it meanwhile
 abbrev pub shuts_out : Option Mode → Bool

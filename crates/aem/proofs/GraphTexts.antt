@@ -13,17 +13,19 @@ use Rattle.ae_code.specs.Uses.{use_at}
 use Rattle.ae_code.specs.Built.{IsBuiltAction, AreBuilt, Built}
 use Rattle.ae_code.specs.Judgement.{Accepted}
 use Rattle.ae_code.specs.declared.tree.Class.{Class}
-use Rattle.ae_rules.specs.Verdict.{given}
+use Rattle.ae_rules.specs.Verdict.{Verdict, Holds, Broken, given, judged}
 use Rattle.ae_rules.specs.Lookups.{class_at}
+use Rattle.ae_rules.specs.Context.{Context}
+use Rattle.ae_rules.specs.Statements.{judge_statement}
 use Rattle.ae_rules.specs.Judges.{start}
 use Rattle.ae_rules.specs.Edges.{preds, graph, those_below}
 use Rattle.ae_rules.specs.EdgeLaws.{NamesBelow, PredsAreEdges}
-use Rattle.ae_rules.specs.Blocks.{Scene, scene, scene_among, scene_uses, scene_graph}
+use Rattle.ae_rules.specs.Blocks.{Scene, Opened, body as body_scene, scene, scene_numbered, scenes_in, scenes_among, scene_uses, scene_graph}
 use Rattle.ae_rules.specs.Cases.{DeclaresOne, TodaysUsesAreACase}
 use Rattle.ae_graph.specs.Graph.{Graph, IsGraph, preds_in}
 use Rattle.ae_graph.specs.GraphText.{spelling, block_text, method_text, AreMethodTexts, IsGraphText}
 use Rattle.ae_graph.proofs.Elements.{here, there, nowhere, uncons}
-use Rattle.aem.specs.Graphs.{blocks_in, blocks_among, text_of_block, text_of_method, graph_text}
+use Rattle.aem.specs.Graphs.{text_of_block, text_of_method, graph_text}
 
 -- ---- rising lists
 
@@ -99,39 +101,41 @@ graph_is exact n uses below g k e rows = ext_get_or [] g (graph n uses k)
 
 -- ---- the one block
 
-no_blocks_in : (a : Action) → IsBuiltAction a → blocks_in a ≡ []
-no_blocks_in (Declares t x e) b = refl
-no_blocks_in (Assigns x e) b = refl
-no_blocks_in (Stores p e) b = absurd b
-no_blocks_in (StoresAt p j e) b = absurd b
-no_blocks_in (Calls c) b = absurd b
-no_blocks_in (Chooses e j c) b = absurd b
-no_blocks_in (ChoosesElse e j c k f) b = absurd b
-no_blocks_in (Repeats e j c) b = absurd b
-no_blocks_in (Groups g) b = absurd b
-no_blocks_in (Splits gs j c) b = absurd b
-no_blocks_in (Locks g j c) b = absurd b
-no_blocks_in (Freezes x) b = absurd b
-no_blocks_in (Shares x g) b = absurd b
-no_blocks_in (Prints e) b = refl
-no_blocks_in (PrintsText s) b = absurd b
-no_blocks_in (Asserts e) b = absurd b
-no_blocks_in (Returns e) b = absurd b
+no_scenes_in : (p : Code) (m : Definition) (a : Action) → IsBuiltAction a → (c : Context) → scenes_in p m false a c ≡ []
+no_scenes_in p m (Declares t x e) b s = refl
+no_scenes_in p m (Assigns x e) b s = refl
+no_scenes_in p m (Stores p e) b s = absurd b
+no_scenes_in p m (StoresAt p j e) b s = absurd b
+no_scenes_in p m (Calls c) b s = absurd b
+no_scenes_in p m (Chooses e j c) b s = absurd b
+no_scenes_in p m (ChoosesElse e j c k f) b s = absurd b
+no_scenes_in p m (Repeats e j c) b s = absurd b
+no_scenes_in p m (Groups g) b s = absurd b
+no_scenes_in p m (Splits gs j c) b s = absurd b
+no_scenes_in p m (Locks g j c) b s = absurd b
+no_scenes_in p m (Freezes x) b s = absurd b
+no_scenes_in p m (Shares x g) b s = absurd b
+no_scenes_in p m (Prints e) b s = refl
+no_scenes_in p m (PrintsText s) b s = absurd b
+no_scenes_in p m (Asserts e) b s = absurd b
+no_scenes_in p m (Returns e) b s = absurd b
 
-no_blocks : (b : Lines) → AreBuilt b → blocks_among b ≡ []
-no_blocks End h = refl
-no_blocks (Next at a rest) h = ap₂ (λ (x y : List ℕ). x ++ y) (no_blocks_in a h.0) (no_blocks rest h.1)
+none_judged : (v : Verdict Context) (f : Context → List Opened) → ((d : Context) → f d ≡ []) → judged v [] f ≡ []
+none_judged (Holds d) f h = h d
+none_judged (Broken rule at) f h = refl
+
+no_scenes : (p : Code) (m : Definition) (b : Lines) → AreBuilt b → (c : Context) → scenes_among p m false b c ≡ []
+no_scenes p m End h c = refl
+no_scenes p m (Next at a rest) h c = ap₂ (λ (x y : List Opened). x ++ y) (no_scenes_in p m a h.0 c)
+    (none_judged (judge_statement p m at a c) (scenes_among p m false rest) (λ d. no_scenes p m rest h.1 d))
 
 is_itself : (n : ℕ) → nat_eq n n ≡ true
 is_itself n = grind (arith, nat_tests)
 
-abbrev body_scene : Code → Definition → Scene
-body_scene p m = record { method = m; lines = m.body; start = start p m }
-
 pub own_scene : (p : Code) (m : Definition) → scene p m m.no ≡ Some (body_scene p m)
 own_scene p m = by (nat_eq m.no m.no) (is_itself m.no)
   where
-    by : (b : Bool) → b ≡ true → (if b then Some (body_scene p m) else scene_among p m m.no m.body (start p m)) ≡ Some (body_scene p m)
+    by : (b : Bool) → b ≡ true → (if b then Some (body_scene p m) else scene_numbered m.no (scenes_among p m true m.body (start p m))) ≡ Some (body_scene p m)
     by true e = refl
     by false e = absurd (cc)
 
@@ -142,16 +146,15 @@ graph_of_body p uses exact a d m e below g h =
     graph_is exact (length p.names) (use_at m.body) below g (count m.body) h.0 h.1 ∙ ap (λ u. graph (length p.names) u (count m.body)) same
 
 text_of_body : (p : Code) (m : Definition) → AreBuilt m.body → (g : Graph) → g ≡ scene_graph p (body_scene p m)
-    → flat_map (text_of_block p m) (m.no ∷ blocks_among m.body) ≡ block_text m.no g
+    → flat_map (text_of_block p) ((m.no, body_scene p m) ∷ scenes_among p m false m.body (start p m)) ≡ block_text m.no g
 text_of_body p m b g e =
-    ap (λ (ns : List ℕ). flat_map (text_of_block p m) (m.no ∷ ns)) (no_blocks m.body b)
-    ∙ append-nil (text_of_block p m m.no)
-    ∙ ap (λ (o : Option Scene). given o [] (λ (s : Scene). block_text m.no (scene_graph p s))) (own_scene p m)
+    ap (λ (xs : List Opened). flat_map (text_of_block p) ((m.no, body_scene p m) ∷ xs)) (no_scenes p m m.body b (start p m))
+    ∙ append-nil (block_text m.no (scene_graph p (body_scene p m)))
     ∙ ap (block_text m.no) (sym e)
 
 text_of_one : (p : Code) (m : Definition) → m.class ≡ None → AreBuilt m.body → (g : Graph) → g ≡ scene_graph p (body_scene p m) → text_of_method p m ≡ method_text p.names m g
 text_of_one p m none b g e =
-    ap (λ (c : Option ℕ). codes "method " ++ given c [] (λ n. given (class_at p n) [] (λ (k : Class). spelling p.names k.name.name ++ codes ".")) ++ spelling p.names m.name.name ++ codes "\n" ++ flat_map (text_of_block p m) (m.no ∷ blocks_among m.body)) none
+    ap (λ (c : Option ℕ). codes "method " ++ given c [] (λ n. given (class_at p n) [] (λ (k : Class). spelling p.names k.name.name ++ codes ".")) ++ spelling p.names m.name.name ++ codes "\n" ++ flat_map (text_of_block p) ((m.no, body_scene p m) ∷ scenes_among p m false m.body (start p m))) none
     ∙ ap (λ (t : List ℕ). codes "method " ++ spelling p.names m.name.name ++ codes "\n" ++ t) (text_of_body p m b g e)
 
 -- what the graph text of today says is the text of the graphs of the program
