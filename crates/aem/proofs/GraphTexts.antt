@@ -1,6 +1,6 @@
 -- The text of the graphs of a program that runs today.
 use mathlib.Core.Path.{fun_ext}
-use Rattle.std.proofs.Common.{arith, ◌≡◌, ◌<◌, ◌⊎◌, inl, inr, refl, sym, ap, ap₂, ◌∙◌, subst, ℕ, zero, suc, ◌++◌, nat_eq, Bool, true, false, List, [], ◌∷◌, length, slice_index_or, Option, None, Some, append-nil}
+use Rattle.std.proofs.Common.{arith, ◌≡◌, ◌<◌, ◌⊎◌, inl, inr, refl, sym, ap, ap₂, ◌∙◌, subst, ℕ, zero, suc, ◌++◌, nat_eq, Bool, true, false, List, [], ◌∷◌, length, slice_index_or, Option, None, Some, IsSome, append-nil}
 use Rattle.std.specs.Prelude.{codes, if◌then◌else◌}
 use Rattle.std.specs.List.{Contains, flat_map}
 use Rattle.std.proofs.lemmas.List.{ext_get_or, get_or_append_left, get_or_push, length-append, length-map, get_or-map}
@@ -23,7 +23,7 @@ use Rattle.ae_rules.specs.Cases.{DeclaresOne, TodaysUsesAreACase}
 use Rattle.ae_graph.specs.Graph.{Graph, IsGraph, preds_in}
 use Rattle.ae_graph.specs.GraphText.{spelling, block_text, method_text, AreMethodTexts, IsGraphText}
 use Rattle.ae_graph.proofs.Elements.{here, there, nowhere, uncons}
-use Rattle.aem.specs.Graphs.{blocks_in, blocks_among, text_of_block, text_of_method, graph_text}
+use Rattle.aem.specs.Graphs.{blocks_in, blocks_among, blocks_of, text_of_block, text_of_method, graph_text, BlocksAreFound}
 
 -- ---- rising lists
 
@@ -164,3 +164,26 @@ text_is uses exact p a d b below text h =
     ∙ sym (text_of_one p b.method b.is_main.class b.body one.0 e)
     ∙ sym (append-nil (text_of_method p b.method))
     ∙ ap (flat_map (text_of_method p)) (sym b.methods)
+
+-- ---- each block is found
+
+only_one : (d m : Definition) → Contains (d ∷ []) m → d ≡ m
+only_one d m h = elim (uncons d [] m h) [ inl e ↦ e | inr k ↦ absurd (nowhere m k) ]
+
+only_number : (x n : ℕ) (ns : List ℕ) → ns ≡ [] → Contains (x ∷ ns) n → x ≡ n
+only_number x n ns e h = elim (uncons x ns n h) [ inl q ↦ q | inr k ↦ absurd (nowhere n (subst (λ (l : List ℕ). Contains l n) e k)) ]
+
+found_is_some : (p : Code) (m : Definition) (n : ℕ) → m.no ≡ n → IsSome (scene p m n)
+found_is_some p m n e = subst (λ (k : ℕ). IsSome (scene p m k)) e (subst IsSome (sym (own_scene p m)) refl)
+
+no_class : (c : Option ℕ) (k : ℕ) → c ≡ None → c ≡ Some k → ⊥
+no_class c k e f = cc
+
+pub blocks_are_found : BlocksAreFound
+blocks_are_found p b m h =
+    let same : b.method ≡ m = only_one b.method m (subst (λ (ms : List Definition). Contains ms m) b.methods h) in
+    let built : AreBuilt m.body = subst (λ (d : Definition). AreBuilt d.body) same b.body in
+    let none : m.class ≡ None = subst (λ (d : Definition). d.class ≡ None) same b.is_main.class in (
+      λ n k. found_is_some p m n (only_number m.no n (blocks_among m.body) (no_blocks m.body built) k),
+      λ k e. absurd (no_class m.class k none e),
+    )

@@ -1,8 +1,9 @@
 -- The text of the graphs of a program, whatever its forms.
-use Rattle.std.specs.Prelude.{ℕ, ◌++◌, List, [], ◌∷◌, codes}
+use Rattle.std.specs.Prelude.{◌≡◌, ℕ, ◌++◌, List, [], ◌∷◌, Some, IsSome, Contains, codes}
 use Rattle.std.specs.List.{flat_map}
 use Rattle.ae_code.specs.declared.tree.Class.{Class}
 use Rattle.ae_code.specs.Plain.{Action, Chooses, ChoosesElse, Repeats, Splits, Lines, End, Next, Definition, Code}
+use Rattle.ae_code.specs.Built.{Built}
 use Rattle.ae_rules.specs.Verdict.{given}
 use Rattle.ae_rules.specs.Lookups.{class_at}
 use Rattle.ae_rules.specs.Blocks.{Scene, scene, scene_graph}
@@ -39,3 +40,8 @@ text_of_method p m = codes "method " ++ in_class p m ++ spelling p.names m.name.
 -- the methods in source order
 abbrev pub graph_text : Code → List ℕ
 graph_text p = flat_map (text_of_method p) p.methods
+
+-- in a program of forms that run today, each block whose text is asked for is found, and so is the class of each method
+abbrev pub BlocksAreFound : Type 0
+BlocksAreFound = (p : Code) → Built p → (m : Definition) → Contains p.methods m
+    → ((n : ℕ) → Contains (blocks_of m) n → IsSome (scene p m n)) × ((k : ℕ) → m.class ≡ Some k → IsSome (class_at p k))

@@ -5,6 +5,7 @@ mod answer;
 mod built;
 #[cfg(test)]
 mod calls_tests;
+mod laws;
 #[cfg(test)]
 mod layout_tests;
 mod names;
