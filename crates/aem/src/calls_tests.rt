@@ -1,21 +1,27 @@
-// Calls that no mode makes, and the graph of a block, on programs that were read.
+// Calls that no mode makes, the graph of a block, and the order in which it is run, on programs that were read.
+ghost use Rattle.std.specs.Prelude.{◌≡◌, true, IfOk};
 ghost use Rattle.ae_code.specs.Shown.{code};
 ghost use Rattle.ae_code.specs.Built.{Built};
+ghost use Rattle.ae_code.specs.Limits.{Within};
+ghost use Rattle.ae_code.specs.Judgement.{Accepted};
 
 use crate::built::is_built;
 use crate::names::first_broken;
-use crate::top::{body_of, read_program};
+use crate::top::{aeminium, body_of, read_program};
 use ae_code::{Footprint, Form, Kind, Mode, Name, Perm, Program, Resource, StmtAt, Use, form_of};
 use ae_graph::{BlockGraph, footprint};
 use ae_meaning::{Ending, Meant, evaluate};
-use ae_text::{Deny, Edge, Items, Memory, Spot};
+use ae_text::{Deny, Edge, Gate, Items, MemSink, MemSource, Memory, Spot};
 use std::alloc::{AllocError, Global};
+use std::sync::atomic::{AtomicBool, AtomicU32, AtomicUsize, Ordering};
 use std::test::Fail;
 
 const MOST: usize = 1_048_576;
 
 // The program that a text is.
-fn program_of(alloc: Global, text: &[u8]) -> Result<Program, Deny> {
+fn program_of(alloc: Global, text: &[u8]) -> Result<Program, Deny>
+    ensures { IfOk result (λ p. Within (code p)) }
+{
     if text.len() > MOST {
         return Err(Deny::Memory);
     }
@@ -237,9 +243,22 @@ const EDGES: [Edge; 7] = [
     Edge { from: 2, to: 4 },
 ];
 
+// Whether a program breaks no rule.
+fn is_accepted(alloc: Global, program: &Program) -> Result<bool, Memory>
+    requires { Built (code program.now) }
+    ensures { IfOk result (λ held. held ≡ true → Accepted (code program.now)) }
+{
+    match first_broken(alloc, body_of(program)) {
+        Ok(None) => Ok(true),
+        Ok(Some(_)) => Ok(false),
+        Err(_) => Err(Memory),
+    }
+}
+
 // What a statement of `main` uses.
 fn uses_of(alloc: Global, program: &Program, stmt: u32) -> Result<Footprint, Memory>
-    requires { Built (code program.now) }
+    requires built { Built (code program.now) }
+    requires accepted { Accepted (code program.now) }
 {
     if stmt as usize >= body_of(program).len() {
         return Err(Memory);
@@ -254,7 +273,9 @@ fn uses_of(alloc: Global, program: &Program, stmt: u32) -> Result<Footprint, Mem
 
 // The graph of the body of `main`.
 fn graph_of(alloc: Global, program: &Program) -> Result<BlockGraph, Memory>
-    requires { Built (code program.now) }
+    requires built { Built (code program.now) }
+    requires accepted { Accepted (code program.now) }
+    requires within { Within (code program.now) }
 {
     BlockGraph::of(alloc, program, 0, 0)
 }
@@ -265,6 +286,8 @@ fn uses_and_graph(rt: HostRuntime) -> Result<(), Fail> {
     let alloc = rt.alloc();
     let program = program_of(alloc, USES.as_bytes())?;
     assert!(rt; is_built(&program));
+    let accepted = is_accepted(alloc, &program)?;
+    assert!(rt; accepted);
     let graph = graph_of(alloc, &program)?;
     for row in &ROWS {
         let footprint = uses_of(alloc, &program, row.stmt)?;
@@ -362,5 +385,117 @@ fn meanings(rt: HostRuntime) -> Result<(), Fail> {
         assert_eq!(rt; meant.ending, Some(run.ending), "{}", run.source);
         assert_eq!(rt; meant.out.as_slice(), run.out.as_bytes(), "{}", run.source);
     }
+    Ok(())
+}
+
+// ---- the order of a run
+
+const ORDER: &str = "method void main() with exclusive io {
+let int a = 2;
+let int b = 3;
+let int c = a * 10;
+let int d = b * 10;
+print c;
+print d;
+print c + d;
+}
+";
+
+// The moments of its run, by number: of the statements that are ready, the last one in the source is run first, and it
+// is over before the next begins.
+const MOMENTS: [(usize, u32, bool); 14] = [
+    (0, 1, false),
+    (1, 1, true),
+    (2, 3, false),
+    (3, 3, true),
+    (4, 0, false),
+    (5, 0, true),
+    (6, 2, false),
+    (7, 2, true),
+    (8, 4, false),
+    (9, 4, true),
+    (10, 5, false),
+    (11, 5, true),
+    (12, 6, false),
+    (13, 6, true),
+];
+
+// A statement that began or is over.
+#[derive(Drop)]
+struct Moment {
+    task: AtomicU32,
+    over: AtomicBool,
+}
+
+// The moments of a run, and how many there were.
+#[derive(Drop)]
+struct Recorder {
+    moments: Vec<Moment>,
+    told: AtomicUsize,
+}
+
+impl Recorder {
+    // Room for so many moments.
+    fn new(alloc: Global, room: usize) -> Result<Recorder, AllocError> {
+        let mut moments = Vec::new(alloc);
+        for _ in 0..room {
+            moments.push(Moment {
+                task: AtomicU32::new(u32::MAX),
+                over: AtomicBool::new(false),
+            })?;
+        }
+        Ok(Recorder {
+            moments,
+            told: AtomicUsize::new(0),
+        })
+    }
+
+    fn tell(&self, task: u32, over: bool) {
+        let at = self.told.fetch_add(1, Ordering::SeqCst);
+        if let Some(moment) = self.moments.get(at) {
+            moment.task.store(task, Ordering::SeqCst);
+            moment.over.store(over, Ordering::SeqCst);
+        }
+    }
+
+    // Whether the moment with this number is this one.
+    fn is_at(&self, at: usize, task: u32, over: bool) -> bool {
+        match self.moments.get(at) {
+            Some(moment) => {
+                moment.task.load(Ordering::SeqCst) == task
+                    && moment.over.load(Ordering::SeqCst) == over
+            }
+            None => false,
+        }
+    }
+}
+
+impl Gate for Recorder {
+    fn enter(&self, task: u32) {
+        self.tell(task, false);
+    }
+
+    fn leave(&self, task: u32) {
+        self.tell(task, true);
+    }
+}
+
+// The gate is told of each statement once, in the order in which they are run.
+#[test]
+fn order_of_a_run(rt: HostRuntime) -> Result<(), Fail> {
+    let alloc = rt.alloc();
+    let gate = Recorder::new(alloc, 14)?;
+    let mut words = Vec::new(alloc);
+    words.push(String::from_str(alloc, "run")?)?;
+    let text = Items::from_slice(alloc, ORDER.as_bytes())?;
+    let mut source = MemSource::new(text, 4096, Items::new(alloc));
+    let mut sink = MemSink::new(alloc, 4096, Items::new(alloc));
+    let answer = aeminium(&rt, alloc, words.as_slice(), &mut source, &mut sink, &gate);
+    assert_eq!(rt; answer.status, 0);
+    assert_eq!(rt; sink.taken(), b"20\n30\n50\n== done\n".as_slice());
+    for (at, task, over) in &MOMENTS {
+        assert!(rt; gate.is_at(*at, *task, *over), "moment {at}");
+    }
+    assert_eq!(rt; gate.told.load(Ordering::SeqCst), 14);
     Ok(())
 }

@@ -6,6 +6,18 @@ use Rattle.aem.proofs.Numbers.{names_below}
 use Rattle.aem.proofs.GraphTexts.{text_is}
 use Rattle.aem.proofs.top.done.Goals as goal
 
+pub graph_text-requires-clause-accepted : goal.graph_text-requires-clause-accepted
+graph_text-requires-clause-accepted g c =
+    let source = c.requires.source in
+    accepted c.todays_judgement_is_a_case.ensures (code c.args.program.now) c.requires.built
+    (declares c.a_built_program_declares_one_method.ensures source.0 (code c.args.program.now) source.1 c.requires.built) c.requires.accepted
+
+pub graph_text-requires-clause-within : goal.graph_text-requires-clause-within
+graph_text-requires-clause-within g c = c.requires.source.1.within
+
+pub run-requires-clause-within : goal.run-requires-clause-within
+run-requires-clause-within g c κs within = c.requires.source.1.within
+
 pub run-requires-clause-accepted : goal.run-requires-clause-accepted
 run-requires-clause-accepted g c κs within =
     let source = c.requires.source in
