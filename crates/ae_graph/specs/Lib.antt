@@ -4,3 +4,4 @@ pub mod Opened
 pub mod Graph
 pub mod Succs
 pub mod GraphText
+pub mod Graphs

@@ -14,7 +14,7 @@ use Rattle.ae_rules.specs.Judges.{Accepts}
 use Rattle.ae_rules.proofs.Programs.{at, name, path, call_on, field, class_with, need, top_method, class_method}
 use Rattle.ae_rules.proofs.GraphExamples.{lent_twice_then_changed, four_in_a_group}
 use Rattle.ae_graph.specs.GraphText.{block_text}
-use Rattle.aem.specs.Graphs.{graph_text}
+use Rattle.ae_graph.specs.Graphs.{graph_text}
 
 -- texts one after another
 abbrev texts : List (List ℕ) → List ℕ

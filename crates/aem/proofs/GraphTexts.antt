@@ -25,7 +25,7 @@ use Rattle.ae_rules.specs.Cases.{DeclaresOne, TodaysUsesAreACase}
 use Rattle.ae_graph.specs.Graph.{Graph, IsGraph, preds_in}
 use Rattle.ae_graph.specs.GraphText.{spelling, block_text, method_text, AreMethodTexts, IsGraphText}
 use Rattle.ae_graph.proofs.Elements.{here, there, nowhere, uncons}
-use Rattle.aem.specs.Graphs.{text_of_block, text_of_method, graph_text}
+use Rattle.ae_graph.specs.Graphs.{text_of_block, text_of_method, graph_text}
 
 -- ---- rising lists
 

@@ -30,7 +30,7 @@ use Rattle.aem.specs.declared.answer.Command.TheVariants.{Graph, Run}
 use Rattle.aem.specs.declared.answer.UsageKind.{UsageKind}
 use Rattle.aem.specs.Words.{command_of}
 use Rattle.aem.specs.Small.{IsSource}
-use Rattle.aem.specs.Graphs.{graph_text}
+use Rattle.ae_graph.specs.Graphs.{graph_text}
 use Rattle.aem.specs.Top.{first_spot, IsWholeText, IsFaultAt, IsTokenAt, IsBroken, IsFirstBroken, IsMeant, IsAnswer, IsDone, ByCommand, Caused, Answers, IsTold, IsOneAnswer, IsOnlyAnswer}
 
 -- what the layers below say of one text

@@ -3,6 +3,5 @@ pub mod Names
 pub mod Words
 pub mod Small
 pub mod Texts
-pub mod Graphs
 pub mod Top
 pub mod LaterTexts

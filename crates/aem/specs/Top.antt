@@ -19,7 +19,7 @@ use Rattle.aem.specs.declared.answer.What.TheVariants as w
 use Rattle.ae_text.specs.declared.token.Token.{Token}
 use Rattle.ae_text.specs.Tokens.{Lexes, LexFault, place}
 use Rattle.aem.specs.Small.{IsSource}
-use Rattle.aem.specs.Graphs.{graph_text}
+use Rattle.ae_graph.specs.Graphs.{graph_text}
 use Rattle.aem.specs.declared.answer.Command.{Command}
 use Rattle.aem.specs.declared.answer.Command.TheVariants.{Graph, Run}
 use Rattle.aem.specs.declared.answer.UsageKind.{UsageKind}
