@@ -120,7 +120,7 @@ keeps_part x xs ih c (Some share) =
     let d : Context = with_held x.root share.1 c in
     keeps_both (keeps_held x.root share.1 c) (keeps_both (ih d) (keeps_given_back x share (after_call xs d)))
 
-keeps_after_call : (xs : List Part) (c : Context) → Keeps c (after_call xs c)
+pub keeps_after_call : (xs : List Part) (c : Context) → Keeps c (after_call xs c)
 keeps_after_call [] c = keeps_all c
 keeps_after_call (x ∷ xs) c = keeps_part x xs (keeps_after_call xs) c (splits (held_in c x.root) x.need)
 

@@ -19,5 +19,7 @@ mod LessLemmas
 mod InstanceLemmas
 mod PathLemmas
 mod BlockLemmas
+mod GoneLemmas
+mod EffectLemmas
 mod CaseLemmas
 mod CaseUseLemmas
