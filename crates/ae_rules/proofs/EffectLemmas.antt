@@ -134,7 +134,7 @@ new_is p c x gs args =
     gives ((fills_are p c pairs empty).value d h
     ∙ sym (ap (λ (o : Option Class). given o c (λ (z : Class). all_moved (filter_map field_moves (zip (map (field_form z (bare_names gs)) z.fields) args)) c)) (found_is (class_called p x.name) rule.UnknownClass x.at k e)))
 
-right_is : (p : Code) (c : Context) (target : Form) (e : RightSide) → Yields (λ d. d ≡ right_effect p c target e) (judge_right p c target e)
+pub right_is : (p : Code) (c : Context) (target : Form) (e : RightSide) → Yields (λ d. d ≡ right_effect p c target e) (judge_right p c target e)
 right_is p c target (Value e) = next (into p c target e) λ name h. gives (ap (λ o. moved o c) (moves_by_its_text p c target e name h))
 right_is p c target (Taken path at) =
     next (judge_take p c path at) λ value _.

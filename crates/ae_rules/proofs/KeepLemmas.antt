@@ -152,7 +152,7 @@ new_keeps p c x gs args =
     next (in_turn (fills p c) pairs empty) λ d e.
     gives ((turns (fills p c) (fill_keeps p c) pairs empty (keeps_all c)).value d e)
 
-right_keeps : (p : Code) (c : Context) (target : Form) (e : RightSide) → Yields (Keeps c) (judge_right p c target e)
+pub right_keeps : (p : Code) (c : Context) (target : Form) (e : RightSide) → Yields (Keeps c) (judge_right p c target e)
 right_keeps p c target (Value e) = next (into p c target e) λ name _. gives (keeps_moved name c)
 right_keeps p c target (Taken path at) =
     next (judge_take p c path at) λ value _.

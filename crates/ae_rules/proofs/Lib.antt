@@ -21,5 +21,6 @@ mod PathLemmas
 mod BlockLemmas
 mod GoneLemmas
 mod EffectLemmas
+mod DeclareLemmas
 mod CaseLemmas
 mod CaseUseLemmas
