@@ -120,7 +120,7 @@ keeps_part x xs ih c (Some share) =
     let d : Context = with_held x.root share.1 c in
     keeps_both (keeps_held x.root share.1 c) (keeps_both (ih d) (keeps_given_back x share (after_call xs d)))
 
-keeps_after_call : (xs : List Part) (c : Context) → Keeps c (after_call xs c)
+pub keeps_after_call : (xs : List Part) (c : Context) → Keeps c (after_call xs c)
 keeps_after_call [] c = keeps_all c
 keeps_after_call (x ∷ xs) c = keeps_part x xs (keeps_after_call xs) c (splits (held_in c x.root) x.need)
 
@@ -152,7 +152,7 @@ new_keeps p c x gs args =
     next (in_turn (fills p c) pairs empty) λ d e.
     gives ((turns (fills p c) (fill_keeps p c) pairs empty (keeps_all c)).value d e)
 
-right_keeps : (p : Code) (c : Context) (target : Form) (e : RightSide) → Yields (Keeps c) (judge_right p c target e)
+pub right_keeps : (p : Code) (c : Context) (target : Form) (e : RightSide) → Yields (Keeps c) (judge_right p c target e)
 right_keeps p c target (Value e) = next (into p c target e) λ name _. gives (keeps_moved name c)
 right_keeps p c target (Taken path at) =
     next (judge_take p c path at) λ value _.

@@ -19,5 +19,8 @@ mod LessLemmas
 mod InstanceLemmas
 mod PathLemmas
 mod BlockLemmas
+mod GoneLemmas
+mod EffectLemmas
+mod DeclareLemmas
 mod CaseLemmas
 mod CaseUseLemmas

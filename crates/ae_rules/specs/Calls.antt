@@ -20,7 +20,7 @@ use Rattle.ae_rules.specs.declared.held.Held.{Held}
 use Rattle.ae_rules.specs.declared.held.Held.TheVariants as held
 use Rattle.ae_rules.specs.Verdict.{Verdict, Holds, Broken, ◌>>=◌, ◌>>◌, require, found, in_turn, given}
 use Rattle.ae_rules.specs.Shares.{Share, splits, joins}
-use Rattle.ae_rules.specs.Forms.{is_object, is_of_kind, is_unique, in_place, form_with}
+use Rattle.ae_rules.specs.Forms.{same_perm, is_object, is_of_kind, is_unique, in_place, form_with}
 use Rattle.ae_rules.specs.Lookups.{Names, class_called, class_of, groups_of, method_at, method_number, top_number, field_form, own_kind}
 use Rattle.ae_rules.specs.Types.{groups_fit}
 use Rattle.ae_rules.specs.Table.{no_names, and_also}
@@ -201,7 +201,7 @@ to_slot p c x before = to_form p c x.0.form x.0.away x.1 before
 
 -- ---- what is lent while the call runs
 
--- a Unique or Lent part of a place below a root that is held Unique
+-- A Unique or Lent part of a place below a root that is held Unique. Only a unique one can be gone.
 pub record Part : Type 0 where
   pub root : ℕ
   pub need : Perm
@@ -216,7 +216,7 @@ is_part (perm.Shared g) = false
 abbrev pub part_of : Context → Form → Bool → Option Source → Option Part
 part_of c (f.Object q k) away (Some (From path)) =
     if is_part q && same_held held.Unique (held_in c path.root.name)
-    then Some (record { root = path.root.name; need = q; away = away })
+    then Some (record { root = path.root.name; need = q; away = away && same_perm perm.Unique q })
     else None
 part_of c _ away _ = None
 

@@ -19,6 +19,7 @@ pub mod Blocks
 pub mod Instances
 pub mod Paths
 pub mod Stands
+pub mod Effects
 pub mod Laws
 pub mod BlockLaws
 pub mod Cases

@@ -1,5 +1,5 @@
 // Laws over the rules alone.
-ghost use Rattle.ae_rules.specs.BlockLaws.{BlocksAreReached};
+ghost use Rattle.ae_rules.specs.BlockLaws.{BlocksAreReached, EffectsAreExact, LinesDeclare};
 ghost use Rattle.ae_rules.specs.Cases.{BuiltDeclaresOne, TodayIsACase, TodaysUsesAreACase};
 ghost use Rattle.ae_rules.specs.Laws.{JudgedOrBroken, NeverBoth, AcceptedOrBroken, NeverAcceptedAndBroken, FirstIsOne, TakenIsGivenBack, NothingToTake, CallsGiveBack, GivenAwayIsGone, MovesByItsText, StatementsKeep, SplitIsUndone};
 ghost use Rattle.ae_rules.specs.EdgeLaws.{EdgesGoForward, ChainsGoForward, ConflictsAreOrdered, UsesAreAllowed, PredsAreEdges, ConflictsAreFirst};
@@ -67,6 +67,16 @@ pub fn a_split_block_is_undone()
 /// Each block of an accepted program is there with the context in which it begins, in the order of the text, and each statement in it is reached.
 pub fn every_block_is_reached()
     ensures { BlocksAreReached }
+{}
+
+/// The context after judged statements is what they do: what they declare, and which names move.
+pub fn effects_are_exact()
+    ensures { EffectsAreExact }
+{}
+
+/// After judged lines the locals are those before and those of their `let`s, and the groups those before and those of their `group` statements, exclusive.
+pub fn lines_add_what_they_declare()
+    ensures { LinesDeclare }
 {}
 
 /// An edge leads from a statement to a later one.
