@@ -73,7 +73,7 @@ cause DuplicateLocal at text b = Program (b.0, b.1, inr (b.2, b.3))
 cause rule at text b = absurd b
 
 -- a text is a source of one program
-one_source : Laws → (text : List ℕ) (p q : Code) → IsSource text p → IsSource text q → q ≡ p
+pub one_source : Laws → (text : List ℕ) (p q : Code) → IsSource text p → IsSource text q → q ≡ p
 one_source laws text p q s z = laws.program s.tokens q p (subst (λ l. Derives l q) (laws.tokens text z.tokens s.tokens z.lexes s.lexes) z.derives) s.derives
 
 -- a text with a fault is a source of nothing
@@ -190,10 +190,10 @@ same_refusal x y a b = ap (λ z. refusal z x.at) a ∙ ap (refusal y.rule) b
 -- ---- answers
 
 -- an accepted program of this text
-abbrev IsAccepted : List ℕ → Code → Type 0
+abbrev pub IsAccepted : List ℕ → Code → Type 0
 IsAccepted text p = IsSource text p × Built p × Accepts p
 
-refused_alone : Laws → (taken : List ℕ) (left : Option (List ℕ)) (r : Refusal) (p : Code) → IsFirstBroken r.rule r.at taken left → IsWholeText taken left → IsAccepted taken p → ⊥
+pub refused_alone : Laws → (taken : List ℕ) (left : Option (List ℕ)) (r : Refusal) (p : Code) → IsFirstBroken r.rule r.at taken left → IsWholeText taken left → IsAccepted taken p → ⊥
 refused_alone laws taken left r p b t a = unbroken laws taken p r.rule r.at a.0 a.1 a.2 t.0 (long_or_broken r.rule r.at taken left b)
 
 not_both_modes : (command : Command) → command ≡ Graph → command ≡ Run → ⊥

@@ -132,6 +132,25 @@ IsOneAnswer = (words : List (List ℕ)) (taken : List ℕ) (left : Option (List 
 abbrev pub IsOnlyAnswer : List (List ℕ) → Option (List ℕ) → Option (List ℕ) → What → Type 0
 IsOnlyAnswer words before after what = IsSome before → IsTold what → (other : What) → IsTold other → Answers words before after other → other ≡ what
 
+-- the words ask for this command, and the source has a text of this program, which is accepted and of forms that run today
+pub record IsAsked (words : List (List ℕ)) (before : Option (List ℕ)) (command : Command) (program : Code) : Type 0 where
+  pub asked : command_of words ≡ Ok command
+  pub text : List ℕ
+  pub has : before ≡ Some text
+  pub short : length text ≤ most
+  pub source : IsSource text program
+  pub built : Built program
+  pub accepted : Accepts program
+
+-- an accepted program that is asked for has no other answer than that of its command, but for a failed read
+abbrev pub IsAnswered : Type 0
+IsAnswered = (words : List (List ℕ)) (before after : Option (List ℕ)) (what : What) (command : Command) (program : Code) →
+    IsAsked words before command program → Answers words before after what → (what ≡ w.ReadFault → ⊥) → IsDoneFor command program what
+
+-- each accepted program that is asked for has the answer of its command, or want of memory, and nothing of it was cut
+abbrev pub IsComplete : List (List ℕ) → Option (List ℕ) → What → Option ℕ → Type 0
+IsComplete words before what cut = (command : Command) (program : Code) → IsAsked words before command program → IsDoneFor command program what × (cut ≡ None)
+
 -- the sink took the whole text, or its first bytes where the answer was cut
 abbrev pub Wrote : Option (List ℕ) → Option (List ℕ) → List ℕ → Option ℕ → Type 0
 Wrote before after text None = Appends before after text

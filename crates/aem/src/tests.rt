@@ -2,8 +2,8 @@
 ghost use Rattle.std.specs.Prelude.{◌<◌};
 
 use crate::answer::{UsageKind, What};
-use crate::top::aeminium;
-use ae_text::{Items, MemSink, MemSource, NoGate};
+use crate::top::{aeminium, faultless};
+use ae_text::{Items, MemSink, MemSource, Memory, NoGate, SureSink, SureSource};
 use std::alloc::{AllocError, Global};
 use std::test::Fail;
 
@@ -537,5 +537,34 @@ fn unread(rt: HostRuntime) -> Result<(), Fail> {
     );
     assert!(rt; matches!(&answer.what, What::Usage(UsageKind::Words)));
     assert_eq!(rt; answer.status, 3);
+    Ok(())
+}
+
+// Where nothing can fail, an accepted program has the answer of its mode.
+#[test]
+fn without_faults(rt: HostRuntime) -> Result<(), Fail> {
+    let alloc = rt.alloc();
+    for (mode, text) in [
+        ("run", "5\n== done\n"),
+        ("graph", "method main\nblock 0 has 3\n2 after 0 1\n"),
+    ] {
+        let words = words_of(alloc, &[mode])?;
+        let mut source = SureSource::new(Items::from_slice(alloc, SUM.as_bytes())?);
+        let mut sink = match SureSink::new(alloc, 64) {
+            Ok(sink) => sink,
+            Err(Memory) => return Err("memory")?,
+        };
+        let answer = faultless(
+            &rt,
+            alloc,
+            words.as_slice(),
+            &mut source,
+            &mut sink,
+            &NoGate,
+        );
+        assert_eq!(rt; answer.status, 0);
+        assert_eq!(rt; answer.cut, None);
+        assert_eq!(rt; sink.kept(), text.as_bytes());
+    }
     Ok(())
 }

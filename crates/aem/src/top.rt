@@ -7,7 +7,8 @@ ghost use Rattle.ae_code.specs.Built.{Built};
 ghost use Rattle.ae_rules.specs.Judges.{Accepts};
 ghost use Rattle.aem.specs.Small.{IsSource, HasSource};
 ghost use Rattle.aem.specs.Texts.{output, whole_status, status_of};
-ghost use Rattle.aem.specs.Top.{HasBody, IsUnread, IsDoneFor, IsAnswer, Answers, IsOneAnswer, IsOnlyAnswer, Wrote, IsUsage};
+ghost use Rattle.aem.specs.declared.answer.Command.{Command};
+ghost use Rattle.aem.specs.Top.{HasBody, IsUnread, IsDoneFor, IsAnswer, Answers, IsTold, IsOneAnswer, IsOnlyAnswer, IsAsked, IsAnswered, IsComplete, Wrote, IsUsage};
 
 use crate::answer::{Answer, Command, What};
 use crate::built::is_built;
@@ -25,8 +26,8 @@ use ae_rules::{
 };
 use ae_run::run;
 use ae_text::{
-    Deny, Gate, ReadEnd, Refusal, Rule, Sink, Source, Spot, faults_are_unique, lex, read_all,
-    tokens_are_unique, write_all,
+    Deny, Gate, ReadEnd, Refusal, Rule, Sink, Source, Spot, SureSink, SureSource,
+    faults_are_unique, lex, read_all, tokens_are_unique, write_all,
 };
 use std::alloc::Global;
 use std::thread::Threads;
@@ -140,7 +141,8 @@ fn find_answer<S: Source, G: Gate>(
 ) -> What
     ensures answer { Answers (map string_bytes words.now) (S.left source.old) (S.left source.new) result }
     ensures later { S.faults source.old ≤ S.faults source.new }
-    ensures fault { result ≡ What.ReadFault → Rose (S.faults source.old) (S.faults source.new) }
+    ensures fault { result ≡ What.ReadFault → Rose S.last (S.faults source.old) (S.faults source.new) }
+    ensures kept { IsTold result → S.faults source.new ≡ S.faults source.old }
     ensures unread { IsUsage result → source.new ≡ source.old }
 {
     let command = match command(words) {
@@ -155,9 +157,11 @@ fn find_answer<S: Source, G: Gate>(
     }
 }
 
-/// The same words and bytes have one answer, but for a failed read and want of memory.
+/// The same words and bytes have one answer, and an accepted program has that of its command, but for a failed read and
+/// want of memory.
 pub fn answers_are_unique()
-    ensures { IsOneAnswer }
+    ensures one { IsOneAnswer }
+    ensures answered { IsAnswered }
 {
     tokens_are_unique();
     faults_are_unique();
@@ -168,7 +172,7 @@ pub fn answers_are_unique()
     first_broken_rule_is_one();
 }
 
-// The same, with the promise that no other answer has a cause there.
+// The same, with the promises that no other answer has a cause there, and that an accepted program is answered.
 fn decide<S: Source, G: Gate>(
     rt: &(impl Threads + Sync),
     alloc: Global,
@@ -179,8 +183,10 @@ fn decide<S: Source, G: Gate>(
     ensures answer { Answers (map string_bytes words.now) (S.left source.old) (S.left source.new) result }
     ensures only { IsOnlyAnswer (map string_bytes words.now) (S.left source.old) (S.left source.new) result }
     ensures later { S.faults source.old ≤ S.faults source.new }
-    ensures fault { result ≡ What.ReadFault → Rose (S.faults source.old) (S.faults source.new) }
+    ensures fault { result ≡ What.ReadFault → Rose S.last (S.faults source.old) (S.faults source.new) }
+    ensures kept { IsTold result → S.faults source.new ≡ S.faults source.old }
     ensures unread { IsUsage result → source.new ≡ source.old }
+    ensures complete { ¬ Rose S.last (S.faults source.old) (S.faults source.new) → (command : Command) (program : Code) → IsAsked (map string_bytes words.now) (S.left source.old) command program → IsDoneFor command program result }
 {
     answers_are_unique();
     find_answer(rt, alloc, words, source, gate)
@@ -201,12 +207,15 @@ pub fn aeminium<S: Source, K: Sink, G: Gate>(
     ensures only { IsOnlyAnswer (map string_bytes words.now) (S.left source.old) (S.left source.new) result.what }
     ensures unread { IsUsage result.what → source.new ≡ source.old }
     ensures source_faults { S.faults source.old ≤ S.faults source.new }
-    ensures read_fault { result.what ≡ What.ReadFault → Rose (S.faults source.old) (S.faults source.new) }
+    ensures source_kept { IsTold result.what → S.faults source.new ≡ S.faults source.old }
+    ensures read_fault { result.what ≡ What.ReadFault → Rose S.last (S.faults source.old) (S.faults source.new) }
     ensures status { result.status ≡ status_of result.what result.cut }
     ensures written { Wrote (K.taken sink.old) (K.taken sink.new) (output result.what) result.cut }
     ensures sink_faults { K.faults sink.old ≤ K.faults sink.new }
-    ensures cut { IfSome result.cut (λ _. Rose (K.faults sink.old) (K.faults sink.new)) }
+    ensures sink_kept { result.cut ≡ None → K.faults sink.new ≡ K.faults sink.old }
+    ensures cut { IfSome result.cut (λ _. Rose K.last (K.faults sink.old) (K.faults sink.new)) }
     ensures unwritten { result.what ≡ What.Memory → sink.new ≡ sink.old }
+    ensures complete { ¬ Rose S.last (S.faults source.old) (S.faults source.new) → ¬ Rose K.last (K.faults sink.old) (K.faults sink.new) → IsComplete (map string_bytes words.now) (S.left source.old) result.what result.cut }
 {
     let what = decide(rt, alloc, words, source, gate);
     let Ok(text) = text_of(alloc, &what) else {
@@ -228,4 +237,18 @@ pub fn aeminium<S: Source, K: Sink, G: Gate>(
             cut: Some(fault.done),
         },
     }
+}
+
+/// The same over a source and a sink that never fail: an accepted program has the answer of its command, or `Memory`.
+pub fn faultless<G: Gate>(
+    rt: &(impl Threads + Sync),
+    alloc: Global,
+    words: &[String],
+    source: &mut SureSource,
+    sink: &mut SureSink,
+    gate: &G,
+) -> Answer
+    ensures { IsComplete (map string_bytes words.now) (⟦<SureSource as Source>⟧.left source.old) result.what result.cut }
+{
+    aeminium(rt, alloc, words, source, sink, gate)
 }
