@@ -4,12 +4,12 @@ use Rattle.std.specs.Prelude.{option_map}
 use Rattle.ae_text.specs.declared.refusal.Spot.{Spot}
 use Rattle.ae_text.specs.declared.refusal.Rule.{Rule}
 use Rattle.ae_text.specs.declared.refusal.Rule.TheVariants as rule
-use Rattle.ae_code.specs.declared.tree.NameAt.{NameAt}
-use Rattle.ae_code.specs.declared.tree.Ty.TheVariants as ty
-use Rattle.ae_code.specs.declared.form.Form.{Form}
-use Rattle.ae_code.specs.declared.form.Form.TheVariants as form_of
-use Rattle.ae_code.specs.Names.{io}
-use Rattle.ae_code.specs.Plain.{Code, Expression, Value}
+use Rattle.ae_tree.specs.declared.tree.NameAt.{NameAt}
+use Rattle.ae_tree.specs.declared.tree.Ty.TheVariants as ty
+use Rattle.ae_tree.specs.declared.form.Form.{Form}
+use Rattle.ae_tree.specs.declared.form.Form.TheVariants as form_of
+use Rattle.ae_tree.specs.Names.{io}
+use Rattle.ae_tree.specs.Plain.{Code, Expression, Value}
 use Rattle.ae_rules.specs.declared.held.Held.{Held}
 use Rattle.ae_rules.specs.Verdict.{Verdict, Holds, Broken, ◌>>=◌, ◌>>◌, require, found}
 use Rattle.ae_rules.specs.Groups.{group_access}

@@ -3,11 +3,11 @@ use Rattle.std.proofs.Common.{◌≡◌, ℕ, suc, ℤ, Bool, true, false, if◌
 use Rattle.std.specs.Prelude.{option_map}
 use Rattle.std.specs.Fmt.{signed_decimal}
 use Rattle.ae_text.specs.declared.refusal.Spot.{Spot}
-use Rattle.ae_code.specs.declared.tree.Ty.TheVariants as ty
-use Rattle.ae_code.specs.declared.form.Form.TheVariants as form_of
-use Rattle.ae_code.specs.Plain.{Code, Expression, Value, Taken, Zeros, Made, Returned, Lines, End, Next}
-use Rattle.ae_code.specs.Plain.{Action, Declares, Assigns, Stores, StoresAt, Calls, Chooses, ChoosesElse, Repeats, Groups, Splits, Locks, Freezes, Shares, Prints, PrintsText, Asserts, Returns}
-use Rattle.ae_code.specs.Built.{IsBuiltExpression, IsBuiltAction, AreBuilt}
+use Rattle.ae_tree.specs.declared.tree.Ty.TheVariants as ty
+use Rattle.ae_tree.specs.declared.form.Form.TheVariants as form_of
+use Rattle.ae_tree.specs.Plain.{Code, Expression, Value, Taken, Zeros, Made, Returned, Lines, End, Next}
+use Rattle.ae_tree.specs.Plain.{Action, Declares, Assigns, Stores, StoresAt, Calls, Chooses, ChoosesElse, Repeats, Groups, Splits, Locks, Freezes, Shares, Prints, PrintsText, Asserts, Returns}
+use Rattle.ae_tree.specs.Built.{IsBuiltExpression, IsBuiltAction, AreBuilt}
 use Rattle.ae_rules.specs.Verdict.{Holds}
 use Rattle.ae_rules.specs.Context.{Local, Context, held_of, with_local as declared}
 use Rattle.ae_rules.specs.Statements.{judge_statement, judge_lines}

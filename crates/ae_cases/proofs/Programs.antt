@@ -1,16 +1,16 @@
 -- A whole program that runs today comes to the same by both meanings.
 use Rattle.std.proofs.Common.{◌≡◌, ℕ, ℤ, nat_eq, Bool, true, false, if◌then◌else◌, List, [], ◌∷◌, Option, None, Some, refl, ap, ◌∙◌, subst}
-use Rattle.ae_code.specs.declared.tree.Decl.TheVariants as decl
-use Rattle.ae_code.specs.Names.{main, this}
-use Rattle.ae_code.specs.Plain.{Definition, Code}
-use Rattle.ae_code.specs.Built.{AreBuilt}
+use Rattle.ae_tree.specs.declared.tree.Decl.TheVariants as decl
+use Rattle.ae_tree.specs.Names.{main, this}
+use Rattle.ae_tree.specs.Plain.{Definition, Code}
+use Rattle.ae_tree.specs.Built.{AreBuilt}
 use Rattle.ae_rules.specs.Verdict.{Holds, fine, each}
 use Rattle.ae_rules.specs.Table.{table_verdict}
 use Rattle.ae_rules.specs.Context.{Local, Context}
 use Rattle.ae_rules.specs.Statements.{judge_lines}
 use Rattle.ae_rules.specs.Judges as rules
 use Rattle.ae_rules.specs.Judges.{me_local, param_local, param_called, judge_method, Accepts}
-use Rattle.ae_code.specs.declared.tree.Param.{Param}
+use Rattle.ae_tree.specs.declared.tree.Param.{Param}
 use Rattle.std.specs.Prelude.{option_map}
 use Rattle.ae_rules.specs.Cases as judged
 use Rattle.ae_meaning.specs.Meaning as today

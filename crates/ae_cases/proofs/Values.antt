@@ -1,13 +1,13 @@
 -- An expression that runs today comes to the same by both meanings.
 use Rattle.std.proofs.Common.{◌≡◌, ◌≤◌, ◌^◌, ℕ, ℤ, pos, negsuc, Bool, true, false, if◌then◌else◌, nat_eq, nat_lt, List, [], Option, None, Some, refl, ap, ◌∙◌, arith}
 use Rattle.std.specs.Prelude.{⊤, option_map, ◌+ℤ◌, ◌-ℤ◌, ◌*ℤ◌, neg_ℤ, int_div, int_rem}
-use Rattle.ae_code.specs.declared.tree.NameAt.{NameAt}
-use Rattle.ae_code.specs.declared.tree.Op.{Op}
-use Rattle.ae_code.specs.declared.tree.Op.TheVariants as op
-use Rattle.ae_code.specs.declared.form.Form.TheVariants as form_of
-use Rattle.ae_code.specs.Plain.{Code, Expression, Number, Truth, Nothing, Read, Item, Length, Grouped, Negated, Minus, Binary}
-use Rattle.ae_code.specs.Grammar.{level}
-use Rattle.ae_code.specs.Built.{IsBuiltExpression}
+use Rattle.ae_tree.specs.declared.tree.NameAt.{NameAt}
+use Rattle.ae_tree.specs.declared.tree.Op.{Op}
+use Rattle.ae_tree.specs.declared.tree.Op.TheVariants as op
+use Rattle.ae_tree.specs.declared.form.Form.TheVariants as form_of
+use Rattle.ae_tree.specs.Plain.{Code, Expression, Number, Truth, Nothing, Read, Item, Length, Grouped, Negated, Minus, Binary}
+use Rattle.ae_tree.specs.Grammar.{level}
+use Rattle.ae_tree.specs.Built.{IsBuiltExpression}
 use Rattle.ae_meaning.specs.Values as today
 use Rattle.ae_semantics.specs.Values.{Val, OfInt}
 use Rattle.ae_semantics.specs.Places.{Outcome, Fine, Traps, Lacks, ◌>>=◌, there, Bound, State, local_place, steps}

@@ -1,8 +1,8 @@
 -- The meaning of the programs that run today is a case of the meaning of the whole language.
 use Rattle.std.specs.Prelude.{◌≡◌, ℕ, ℤ, List, [], ◌∷◌, None, option_map}
-use Rattle.ae_code.specs.declared.tree.Decl.TheVariants as decl
-use Rattle.ae_code.specs.Plain.{Code}
-use Rattle.ae_code.specs.Judgement.{Accepted}
+use Rattle.ae_tree.specs.declared.tree.Decl.TheVariants as decl
+use Rattle.ae_tree.specs.Plain.{Code}
+use Rattle.ae_tree.specs.Judgement.{Accepted}
 use Rattle.ae_meaning.specs.declared.report.Ending as today_ending
 use Rattle.ae_meaning.specs.declared.report.Ending.TheVariants as ends_today
 use Rattle.ae_meaning.specs.Meaning as today

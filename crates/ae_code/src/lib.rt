@@ -1,28 +1,12 @@
-//! A program as a tree, and the rules of the language as definitions.
+//! Accepted programs with their class tables, and the types that the crates above go by.
 #![tactic(auto)]
 
-mod form;
-mod laws;
-mod lexeme;
-mod limits;
-mod print_decl;
-mod print_expr;
-mod print_stmt;
-mod spell;
-mod table;
-mod tree;
-mod types;
-mod uses;
+mod checked;
 
-pub use form::{Form, Kind, Perm};
-pub use laws::{derived_programs_are_well_shaped, this_is_no_declared_name};
-pub use lexeme::{Lexeme, Lexical};
-pub use limits::Limit;
-pub use print_decl::print_program;
-pub use table::{ClassTable, Member};
-pub use tree::{
-    Block, Call, Class, Decl, Expr, Field, GroupNeed, KindAt, Me, Method, Name, NameAt, Need, Op,
-    Param, Path, PermAt, Program, Rhs, Stmt, StmtAt, StmtKind, Ty,
+pub use ae_layout::print_program;
+pub use ae_rules::{ClassTable, Member};
+pub use ae_tree::{
+    Block, Call, Class, Decl, Expr, Field, Form, GroupNeed, Kind, KindAt, Me, Method, Name, NameAt,
+    Need, Op, Param, Path, Perm, PermAt, Program, Rhs, Stmt, StmtAt, StmtKind, Ty, form_of,
 };
-pub use types::form_of;
-pub use uses::{Footprint, Mode, Resource, Use};
+pub use checked::Checked;

@@ -5,16 +5,16 @@ use Rattle.ae_text.specs.declared.token.Keyword.{Keyword}
 use Rattle.ae_text.specs.declared.token.Keyword.TheVariants as word
 use Rattle.ae_text.specs.declared.token.Sign.{Sign}
 use Rattle.ae_text.specs.declared.token.Sign.TheVariants as sign
-use Rattle.ae_code.specs.declared.lexeme.Lexeme.{Lexeme}
-use Rattle.ae_code.specs.declared.lexeme.Lexical.{Lexical}
-use Rattle.ae_code.specs.declared.lexeme.Lexical.TheVariants as tok
-use Rattle.ae_code.specs.declared.limits.Limit.{Limit}
-use Rattle.ae_code.specs.declared.limits.Limit.TheVariants.{Depth}
-use Rattle.ae_code.specs.declared.tree.Path.{Path}
-use Rattle.ae_code.specs.Plain.{Expression, Number, Truth, Nothing, Read, Item, Length, Grouped, Negated, Minus, Binary}
-use Rattle.ae_code.specs.Grammar.{Tokens, ◌⨾◌, a_sign, path}
-use Rattle.ae_code.specs.Limits.{marks, rank}
-use Rattle.ae_code.specs.Refused.{AreKnown}
+use Rattle.ae_tree.specs.declared.lexeme.Lexeme.{Lexeme}
+use Rattle.ae_tree.specs.declared.lexeme.Lexical.{Lexical}
+use Rattle.ae_tree.specs.declared.lexeme.Lexical.TheVariants as tok
+use Rattle.ae_tree.specs.declared.limits.Limit.{Limit}
+use Rattle.ae_tree.specs.declared.limits.Limit.TheVariants.{Depth}
+use Rattle.ae_tree.specs.declared.tree.Path.{Path}
+use Rattle.ae_tree.specs.Plain.{Expression, Number, Truth, Nothing, Read, Item, Length, Grouped, Negated, Minus, Binary}
+use Rattle.ae_tree.specs.Grammar.{Tokens, ◌⨾◌, a_sign, path}
+use Rattle.ae_tree.specs.Limits.{marks, rank}
+use Rattle.ae_tree.specs.Refused.{AreKnown}
 use Rattle.ae_reading.specs.declared.fail.Fail.{Fail}
 use Rattle.ae_reading.specs.declared.fail.Why.TheVariants.{Unexpected, Over}
 use Rattle.ae_reading.specs.Reads.{head, Always, Is, Isnt, Free, Took, Stopped, Failed, Larger, Token, Mark}

@@ -1,11 +1,11 @@
 -- A next token that is there, and a part that is over the limit.
 use Rattle.std.proofs.Common.{◌≡◌, ◌++◌, [], ◌∷◌, length, Option, Some, None, refl, sym, ap, ◌∙◌, subst, ◌<◌, arith}
-use Rattle.ae_code.specs.declared.limits.Limit.TheVariants.{Depth}
-use Rattle.ae_code.specs.declared.limits.Limit.{Limit}
-use Rattle.ae_code.specs.declared.lexeme.Lexeme.{Lexeme}
-use Rattle.ae_code.specs.declared.lexeme.Lexical.{Lexical}
-use Rattle.ae_code.specs.Limits.{early, rank}
-use Rattle.ae_code.specs.Grammar.{Tokens}
+use Rattle.ae_tree.specs.declared.limits.Limit.TheVariants.{Depth}
+use Rattle.ae_tree.specs.declared.limits.Limit.{Limit}
+use Rattle.ae_tree.specs.declared.lexeme.Lexeme.{Lexeme}
+use Rattle.ae_tree.specs.declared.lexeme.Lexical.{Lexical}
+use Rattle.ae_tree.specs.Limits.{early, rank}
+use Rattle.ae_tree.specs.Grammar.{Tokens}
 use Rattle.ae_reading.specs.declared.fail.Why.{Why}
 use Rattle.ae_reading.specs.Reads.{head, Is, IsWithin, Stopped, Counts, Beyond}
 use Rattle.ae_reading.proofs.ReadsLemmas.{Lang, Bound, Follow, lead_here, beyond_as}

@@ -1,19 +1,19 @@
 -- Paths whose fields are counted.
 use Rattle.std.proofs.Common.{◌≡◌, ℕ, ◌+◌, ◌≤◌, ◌<◌, ◌++◌, List, [], ◌∷◌, length, refl, sym, ap, arith, subst, length-append}
-use Rattle.ae_code.specs.Limits.{rank}
-use Rattle.ae_code.specs.declared.lexeme.Lexeme.{Lexeme}
-use Rattle.ae_code.specs.declared.lexeme.Lexical.TheVariants as tok
-use Rattle.ae_code.specs.declared.limits.Limit.{Limit}
-use Rattle.ae_code.specs.declared.limits.Limit.TheVariants.{Depth}
-use Rattle.ae_code.specs.declared.tree.NameAt.{NameAt}
-use Rattle.ae_code.specs.Grammar.{Tokens, each, root, step, path}
-use Rattle.ae_code.specs.Names.{io}
+use Rattle.ae_tree.specs.Limits.{rank}
+use Rattle.ae_tree.specs.declared.lexeme.Lexeme.{Lexeme}
+use Rattle.ae_tree.specs.declared.lexeme.Lexical.TheVariants as tok
+use Rattle.ae_tree.specs.declared.limits.Limit.{Limit}
+use Rattle.ae_tree.specs.declared.limits.Limit.TheVariants.{Depth}
+use Rattle.ae_tree.specs.declared.tree.NameAt.{NameAt}
+use Rattle.ae_tree.specs.Grammar.{Tokens, each, root, step, path}
+use Rattle.ae_tree.specs.Names.{io}
 use Rattle.ae_reading.specs.declared.fail.Fail.{Fail}
 use Rattle.ae_reading.specs.declared.fail.Why.TheVariants.{Over}
 use Rattle.ae_reading.specs.Reads.{head, Always, Is, Isnt, Free, IsWithin, Took, Stopped, Failed, Larger}
 use Rattle.ae_reading.proofs.ReadsLemmas.{Bound, Links, failed_by, stopped_as, stopped_second, at_once, free, io_name}
 use Rattle.ae_reading.proofs.Begins.{is_isnt}
-use Rattle.ae_reading.proofs.Paths.{dot, stepped, path_of, path_along, path_took, path_failed_root, path_failed_steps, no_step}
+use Rattle.ae_reading.proofs.PathLemmas.{dot, stepped, path_of, path_along, path_took, path_failed_root, path_failed_steps, no_step}
 use Rattle.ae_reading.proofs.Runs.{Run, run_start, run_more, run_stopped, run_full, run_end}
 use Rattle.ae_expressions.specs.Productions.{IsShortPath}
 use Rattle.ae_expressions.proofs.OptionLemmas.{begun, none_before}

@@ -7,14 +7,14 @@ use Rattle.ae_text.specs.declared.token.Keyword.{Keyword}
 use Rattle.ae_text.specs.declared.token.Keyword.TheVariants as word
 use Rattle.ae_text.specs.declared.token.Sign.{Sign}
 use Rattle.ae_text.specs.declared.token.Sign.TheVariants as sign
-use Rattle.ae_code.specs.declared.lexeme.Lexeme.{Lexeme}
-use Rattle.ae_code.specs.declared.lexeme.Lexical.{Lexical}
-use Rattle.ae_code.specs.declared.lexeme.Lexical.TheVariants as tok
-use Rattle.ae_code.specs.declared.tree.Path.{Path}
-use Rattle.ae_code.specs.declared.tree.Op.{Op}
-use Rattle.ae_code.specs.declared.tree.Op.TheVariants as op
-use Rattle.ae_code.specs.Plain.{Expression, Number, Truth, Nothing, Read, Item, Length, Grouped, Negated, Minus, Binary}
-use Rattle.ae_code.specs.Grammar.{Tokens, ◌⨾◌, one, each, path, level, left_level, sign_of, a_sign, truth, expression}
+use Rattle.ae_tree.specs.declared.lexeme.Lexeme.{Lexeme}
+use Rattle.ae_tree.specs.declared.lexeme.Lexical.{Lexical}
+use Rattle.ae_tree.specs.declared.lexeme.Lexical.TheVariants as tok
+use Rattle.ae_tree.specs.declared.tree.Path.{Path}
+use Rattle.ae_tree.specs.declared.tree.Op.{Op}
+use Rattle.ae_tree.specs.declared.tree.Op.TheVariants as op
+use Rattle.ae_tree.specs.Plain.{Expression, Number, Truth, Nothing, Read, Item, Length, Grouped, Negated, Minus, Binary}
+use Rattle.ae_tree.specs.Grammar.{Tokens, ◌⨾◌, one, each, path, level, left_level, sign_of, a_sign, truth, expression}
 use Rattle.ae_reading.specs.Reads.{head, Always, Is, Isnt, Token, Mark}
 use Rattle.ae_reading.proofs.ReadsLemmas.{Lang, Both, Links, lengths}
 use Rattle.ae_reading.proofs.UniqueLemmas.{Unique, Apart, apart_by, unique_token, unique_at, unique_mark, unique_then, unique_both, unique_each, unique_as, unique_under, unique_always, unique_choice, by_first, unique_optional}

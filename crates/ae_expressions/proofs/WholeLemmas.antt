@@ -1,10 +1,10 @@
 -- A whole expression and its limit.
 use Rattle.std.proofs.Common.{refl}
-use Rattle.ae_code.specs.declared.limits.Limit.{Limit}
-use Rattle.ae_code.specs.declared.limits.Limit.TheVariants.{Statements, Depth, Levels, Params}
-use Rattle.ae_code.specs.Plain.{Expression}
-use Rattle.ae_code.specs.Grammar.{Tokens, whole}
-use Rattle.ae_code.specs.Limits.{Keeps}
+use Rattle.ae_tree.specs.declared.limits.Limit.{Limit}
+use Rattle.ae_tree.specs.declared.limits.Limit.TheVariants.{Statements, Depth, Levels, Params}
+use Rattle.ae_tree.specs.Plain.{Expression}
+use Rattle.ae_tree.specs.Grammar.{Tokens, whole}
+use Rattle.ae_tree.specs.Limits.{Keeps}
 use Rattle.ae_reading.specs.declared.fail.Fail.{Fail}
 use Rattle.ae_reading.specs.Reads.{Took, Failed}
 use Rattle.ae_reading.proofs.ReadsLemmas.{Along, took_as, failed_as}

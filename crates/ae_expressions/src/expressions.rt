@@ -1,9 +1,9 @@
 // Expressions: operands, and chains of operators, each at a level, which group to the left.
 ghost use Rattle.std.specs.Prelude.{◌≡◌, ◌<◌, ◌≤◌, ◌+◌, [], ◌∷◌, MatchOption, IfOk};
-ghost use Rattle.ae_code.specs.Plain.{Expression, Binary};
-ghost use Rattle.ae_code.specs.Shown as shown;
-ghost use Rattle.ae_code.specs.Grammar as grammar;
-ghost use Rattle.ae_code.specs.Limits.{Keeps, marks};
+ghost use Rattle.ae_tree.specs.Plain.{Expression, Binary};
+ghost use Rattle.ae_tree.specs.Shown as shown;
+ghost use Rattle.ae_tree.specs.Grammar as grammar;
+ghost use Rattle.ae_tree.specs.Limits.{Keeps, marks};
 ghost use Rattle.ae_reading.specs.Reads.{Reads, Always, Free};
 ghost use Rattle.ae_expressions.specs.Ends.{Ends};
 ghost use Rattle.ae_expressions.specs.Productions.{AtMost, AtMostInside, Next, IsClosing, at_level, counted, enclosed, enclosed_shown, kind_of, literal, operand};
@@ -11,7 +11,7 @@ ghost use Rattle.ae_expressions.specs.Productions.{AtMost, AtMostInside, Next, I
 use crate::operators::operator;
 use crate::paths::{over, path};
 use crate::starts::{Mark, Start, start_of};
-use ae_code::{Expr, Lexeme, Lexical, Op};
+use ae_tree::{Expr, Lexeme, Lexical, Op};
 use ae_reading::{Fail, expect_sign, expect_word, is_sign_next, next, unexpected};
 use ae_text::{Boxed, Keyword, Sign, Spot};
 use std::alloc::{AllocError, Global};

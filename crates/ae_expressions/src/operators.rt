@@ -1,10 +1,10 @@
 // The operators between two operands, with their levels.
 ghost use Rattle.std.specs.Prelude.{◌≡◌, ◌≢◌, MatchOption};
-ghost use Rattle.ae_code.specs.Grammar as grammar;
+ghost use Rattle.ae_tree.specs.Grammar as grammar;
 ghost use Rattle.ae_expressions.specs.Productions as productions;
 ghost use Rattle.ae_expressions.specs.Productions.{NoOperator, IsOperator};
 
-use ae_code::{Lexeme, Lexical, Op};
+use ae_tree::{Lexeme, Lexical, Op};
 use ae_reading::next;
 use ae_text::Sign;
 

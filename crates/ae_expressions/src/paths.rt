@@ -1,10 +1,10 @@
 // Paths with at most so many fields.
 ghost use Rattle.std.specs.Prelude.{◌≡◌, ◌≤◌, length, Err};
-ghost use Rattle.ae_code.specs.Grammar as grammar;
+ghost use Rattle.ae_tree.specs.Grammar as grammar;
 ghost use Rattle.ae_reading.specs.Reads.{Reads, itself, Always, Free, Isnt};
 ghost use Rattle.ae_expressions.specs.Productions.{IsShortPath};
 
-use ae_code::{Lexeme, Lexical, Limit, NameAt, Path};
+use ae_tree::{Lexeme, Lexical, Limit, NameAt, Path};
 use ae_reading::{Fail, Why, expect_sign, expect_word, is_sign_next, is_word_next, name};
 use ae_text::{Items, Keyword, Sign};
 use std::alloc::Global;

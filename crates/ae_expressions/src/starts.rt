@@ -3,7 +3,7 @@ ghost use Rattle.std.specs.Prelude.{◌≡◌};
 ghost use Rattle.ae_expressions.specs.Productions as productions;
 ghost use Rattle.ae_expressions.specs.Productions.{StartIs};
 
-use ae_code::Lexical;
+use ae_tree::Lexical;
 use ae_text::{Keyword, Sign};
 
 /// The forms whose first token counts.

@@ -3,12 +3,12 @@ use Rattle.std.proofs.Common.{arith, ◌≡◌, ◌<◌, ◌≤◌, ℕ, zero, s
 use Rattle.std.specs.List.{All}
 use Rattle.std.proofs.lemmas.List.Elements.{All-head, All-tail}
 use Rattle.std.proofs.lemmas.List.{length-map, get_or-map}
-use Rattle.ae_code.specs.declared.limits.Limit.TheVariants as limit
-use Rattle.ae_code.specs.declared.tree.Method.{Method}
-use Rattle.ae_code.specs.Plain.{Lines, Definition, Code}
-use Rattle.ae_code.specs.Shown.{definition}
-use Rattle.ae_code.specs.Limits.{count, KeepsBlock, KeepsMethod, Within}
-use Rattle.ae_code.specs.Uses.{block_in, block_of}
+use Rattle.ae_tree.specs.declared.limits.Limit.TheVariants as limit
+use Rattle.ae_tree.specs.declared.tree.Method.{Method}
+use Rattle.ae_tree.specs.Plain.{Lines, Definition, Code}
+use Rattle.ae_tree.specs.Shown.{definition}
+use Rattle.ae_tree.specs.Limits.{count, KeepsBlock, KeepsMethod, Within}
+use Rattle.ae_rules.specs.BuiltUses.{block_in, block_of}
 
 body_is_few : (m : Definition) → KeepsMethod limit.Statements m → count m.body ≤ 1024
 body_is_few m h = let k : KeepsBlock limit.Statements 63 m.body = h.1 in k.0

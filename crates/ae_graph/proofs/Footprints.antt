@@ -4,15 +4,15 @@ use Rattle.std.specs.List.{Contains}
 use Rattle.std.specs.Option.{option_to_list}
 use Rattle.std.proofs.lemmas.List.Elements.{Contains-append_left, Contains-append_right, Contains-append_cases}
 use Rattle.std.proofs.lemmas.Bool.Decides.{nat_tests}
-use Rattle.ae_code.specs.declared.uses.Resource.{Resource}
-use Rattle.ae_code.specs.declared.uses.Resource.TheVariants.{Local, Group}
-use Rattle.ae_code.specs.declared.uses.Mode.{Mode}
-use Rattle.ae_code.specs.declared.uses.Mode.TheVariants as mode
-use Rattle.ae_code.specs.declared.uses.Use.{Use}
-use Rattle.ae_code.specs.Plain.{Action, Prints}
-use Rattle.ae_code.specs.Names.{io}
-use Rattle.ae_code.specs.Uses.{use_of, local_mode, group_mode}
-use Rattle.ae_code.specs.Edges.{IsRising}
+use Rattle.ae_rules.specs.declared.uses.Resource.{Resource}
+use Rattle.ae_rules.specs.declared.uses.Resource.TheVariants.{Local, Group}
+use Rattle.ae_rules.specs.declared.uses.Mode.{Mode}
+use Rattle.ae_rules.specs.declared.uses.Mode.TheVariants as mode
+use Rattle.ae_rules.specs.declared.uses.Use.{Use}
+use Rattle.ae_tree.specs.Plain.{Action, Prints}
+use Rattle.ae_tree.specs.Names.{io}
+use Rattle.ae_rules.specs.BuiltUses.{use_of, local_mode, group_mode}
+use Rattle.ae_rules.specs.Edges.{IsRising}
 use Rattle.ae_graph.specs.Rising.{IsRisingOf}
 use Rattle.ae_graph.specs.Footprint.{IsFootprint, AreInOrder, AreLocalUses, read_by, written_by, is_written, local_use, group_uses}
 use Rattle.ae_graph.proofs.Elements.{here, nowhere, uncons, in_map, from_map, has, has_from, from_has}

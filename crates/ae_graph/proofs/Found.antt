@@ -4,12 +4,12 @@ use Rattle.std.proofs.Common.{Bor}
 use Rattle.std.specs.List.{slice_get}
 use Rattle.std.specs.Option.{option_copied, MatchOption}
 use Rattle.std.proofs.lemmas.Bool.Decides.{nat_tests}
-use Rattle.ae_code.specs.declared.tree.Method.{Method}
-use Rattle.ae_code.specs.declared.tree.Stmt.{Stmt}
-use Rattle.ae_code.specs.declared.tree.Block.{Block, out-Block}
-use Rattle.ae_code.specs.Plain.{Action, Lines}
-use Rattle.ae_code.specs.Shown.{action, braced, definition, lines_from, lines-out, no-out}
-use Rattle.ae_code.specs.Uses.{statement_at, block_in}
+use Rattle.ae_tree.specs.declared.tree.Method.{Method}
+use Rattle.ae_tree.specs.declared.tree.Stmt.{Stmt}
+use Rattle.ae_tree.specs.declared.tree.Block.{Block, out-Block}
+use Rattle.ae_tree.specs.Plain.{Action, Lines}
+use Rattle.ae_tree.specs.Shown.{action, braced, definition, lines_from, lines-out, no-out}
+use Rattle.ae_rules.specs.BuiltUses.{statement_at, block_in}
 
 -- ---- a method's block
 

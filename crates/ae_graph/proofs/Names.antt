@@ -1,11 +1,11 @@
 -- The names that a statement uses.
 use Rattle.std.proofs.Common.{◌≡◌, ℕ, Bool, true, false, ◌||◌, nat_eq, if◌then◌else◌, Option, Some, refl, sym, ap, ◌∙◌}
 use Rattle.std.proofs.lemmas.List.Folds.{list_any-append}
-use Rattle.ae_code.specs.declared.uses.Mode.{Mode}
-use Rattle.ae_code.specs.declared.uses.Mode.TheVariants as mode
-use Rattle.ae_code.specs.Plain.{Expression, Number, Truth, Nothing, Read, Item, Length, Grouped, Negated, Minus, Binary, RightSide, Value, Taken, Zeros, Made, Returned}
-use Rattle.ae_code.specs.Plain.{Action, Declares, Assigns, Prints}
-use Rattle.ae_code.specs.Uses.{reads, reads_right, read_if, local_mode}
+use Rattle.ae_rules.specs.declared.uses.Mode.{Mode}
+use Rattle.ae_rules.specs.declared.uses.Mode.TheVariants as mode
+use Rattle.ae_tree.specs.Plain.{Expression, Number, Truth, Nothing, Read, Item, Length, Grouped, Negated, Minus, Binary, RightSide, Value, Taken, Zeros, Made, Returned}
+use Rattle.ae_tree.specs.Plain.{Action, Declares, Assigns, Prints}
+use Rattle.ae_rules.specs.BuiltUses.{reads, reads_right, read_if, local_mode}
 use Rattle.ae_graph.specs.Footprint.{names_in, names_right, read_by, written_by, is_written}
 use Rattle.ae_graph.proofs.Elements.{has}
 

@@ -8,12 +8,12 @@ use Rattle.std.proofs.lemmas.List.Folds.{list_any-append}
 use Rattle.std.proofs.lemmas.Grind.{common_steps}
 use Rattle.std.proofs.lemmas.Bool.Decides.{nat_tests}
 use Rattle.ae_text.specs.declared.refusal.Edge.{Edge}
-use Rattle.ae_code.specs.declared.tree.Stmt.{Stmt}
-use Rattle.ae_code.specs.Plain.{Lines}
-use Rattle.ae_code.specs.Shown.{action, lines_from}
-use Rattle.ae_code.specs.Limits.{count}
-use Rattle.ae_code.specs.Uses.{ArePreds, statement_at}
-use Rattle.ae_code.specs.Edges.{IsRising}
+use Rattle.ae_tree.specs.declared.tree.Stmt.{Stmt}
+use Rattle.ae_tree.specs.Plain.{Lines}
+use Rattle.ae_tree.specs.Shown.{action, lines_from}
+use Rattle.ae_tree.specs.Limits.{count}
+use Rattle.ae_rules.specs.BuiltUses.{ArePreds, statement_at}
+use Rattle.ae_rules.specs.Edges.{IsRising}
 use Rattle.ae_graph.specs.Graph.{Graph, preds_in, edges_to, edges_from, AreSuccs}
 use Rattle.ae_graph.specs.Succs.{AreEarlier, is_among, joined, JoinsWaiters}
 use Rattle.ae_graph.proofs.Elements.{here, there, nowhere, has_from, from_has}

@@ -3,9 +3,9 @@ use Rattle.std.proofs.Common.{◌≡◌, ℕ, suc, ◌+◌, ◌<◌, List, [], �
 use Rattle.std.proofs.lemmas.List.{append-nil, take_more, map-append}
 use Rattle.std.proofs.lemmas.Grind.{common_steps}
 use Rattle.std.specs.Fmt.{decimal}
-use Rattle.ae_code.specs.declared.tree.Method.{Method}
-use Rattle.ae_code.specs.Plain.{Definition}
-use Rattle.ae_code.specs.Shown.{definition}
+use Rattle.ae_tree.specs.declared.tree.Method.{Method}
+use Rattle.ae_tree.specs.Plain.{Definition}
+use Rattle.ae_tree.specs.Shown.{definition}
 use Rattle.ae_graph.specs.Graph.{Graph}
 use Rattle.ae_graph.specs.GraphText.{spaced, line_text, lines_text, method_text, AreMethodTexts, PutsMethod}
 

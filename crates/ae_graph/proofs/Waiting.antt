@@ -5,13 +5,13 @@ use Rattle.std.proofs.Common.{◌≡◌, ℕ, zero, suc, ◌<◌, ◌⊎◌, inl
 use Rattle.std.specs.List.{Contains, filter}
 use Rattle.std.proofs.lemmas.List.Elements.{Contains-append_left, Contains-push, Contains-push_cases}
 use Rattle.std.proofs.lemmas.Bool.Decides.{nat_tests}
-use Rattle.ae_code.specs.declared.uses.Resource.{Resource}
-use Rattle.ae_code.specs.declared.uses.Resource.TheVariants.{Local, Group}
-use Rattle.ae_code.specs.declared.uses.Mode.{Mode}
-use Rattle.ae_code.specs.declared.uses.Use.{Use}
-use Rattle.ae_code.specs.Plain.{Action, Lines}
-use Rattle.ae_code.specs.Uses.{use_of, used_by, use_at, statement_at, IsEdge, ArePreds}
-use Rattle.ae_code.specs.Edges.{are_compatible, is_strong, IsConflict, IsWeak}
+use Rattle.ae_rules.specs.declared.uses.Resource.{Resource}
+use Rattle.ae_rules.specs.declared.uses.Resource.TheVariants.{Local, Group}
+use Rattle.ae_rules.specs.declared.uses.Mode.{Mode}
+use Rattle.ae_rules.specs.declared.uses.Use.{Use}
+use Rattle.ae_tree.specs.Plain.{Action, Lines}
+use Rattle.ae_rules.specs.BuiltUses.{use_of, used_by, use_at, statement_at, IsEdge, ArePreds}
+use Rattle.ae_rules.specs.Edges.{are_compatible, is_strong, IsConflict, IsWeak}
 use Rattle.ae_graph.specs.declared.waits.Past.{Past}
 use Rattle.ae_graph.specs.Rising.{IsRisingOf}
 use Rattle.ae_graph.specs.Footprint.{IsFootprint, IsBelow, AreInOrder}

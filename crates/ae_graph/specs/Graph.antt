@@ -1,10 +1,10 @@
 -- The graph of a block as a list: for each statement, the numbers of those for which it waits.
 use Rattle.std.specs.Prelude.{◌≡◌, ◌<◌, ◌+◌, ◌++◌, ◌↔◌, ℕ, nat_eq, Bool, List, [], ◌∷◌, length, slice_index_or, Option, None, Some, Contains, map}
 use Rattle.ae_text.specs.declared.refusal.Edge.{Edge}
-use Rattle.ae_code.specs.Plain.{Lines}
-use Rattle.ae_code.specs.Limits.{count}
-use Rattle.ae_code.specs.Uses.{ArePreds}
-use Rattle.ae_code.specs.Edges.{IsRising}
+use Rattle.ae_tree.specs.Plain.{Lines}
+use Rattle.ae_tree.specs.Limits.{count}
+use Rattle.ae_rules.specs.BuiltUses.{ArePreds}
+use Rattle.ae_rules.specs.Edges.{IsRising}
 
 abbrev pub Graph : Type 0
 Graph = List (List ℕ)

@@ -1,7 +1,7 @@
 -- The text of the graphs of a program.
 use Rattle.std.specs.Prelude.{◌≡◌, ◌+◌, ◌++◌, ℕ, List, [], ◌∷◌, length, slice_index_or, Some, codes, if◌then◌else◌}
 use Rattle.std.specs.Fmt.{decimal}
-use Rattle.ae_code.specs.Plain.{Definition, Code}
+use Rattle.ae_tree.specs.Plain.{Definition, Code}
 use Rattle.ae_graph.specs.Graph.{Graph, IsGraph, is_free}
 
 -- a name as it is written, and nothing for a number without a name

@@ -1,8 +1,8 @@
 -- The text of the graphs of a program, whatever its forms.
 use Rattle.std.specs.Prelude.{ℕ, ◌++◌, List, [], codes}
 use Rattle.std.specs.List.{flat_map}
-use Rattle.ae_code.specs.declared.tree.Class.{Class}
-use Rattle.ae_code.specs.Plain.{Definition, Code}
+use Rattle.ae_tree.specs.declared.tree.Class.{Class}
+use Rattle.ae_tree.specs.Plain.{Definition, Code}
 use Rattle.ae_rules.specs.Verdict.{given}
 use Rattle.ae_rules.specs.Lookups.{class_at}
 use Rattle.ae_rules.specs.Blocks.{Opened, scenes, scene_graph}

@@ -2,13 +2,13 @@
 use Rattle.std.specs.Prelude.{ℕ, zero, suc, nat_eq, Bool, false, not, if◌then◌else◌, List, [], ◌∷◌, ◌++◌, Option, None, Some, map}
 use Rattle.std.specs.List.{filter, flat_map}
 use Rattle.std.specs.HashMap.{HashMap, get}
-use Rattle.ae_code.specs.declared.uses.Resource.{Resource}
-use Rattle.ae_code.specs.declared.uses.Resource.TheVariants.{Local, Group}
-use Rattle.ae_code.specs.declared.uses.Mode.{Mode}
-use Rattle.ae_code.specs.declared.uses.Use.{Use}
-use Rattle.ae_code.specs.Plain.{Lines}
-use Rattle.ae_code.specs.Uses.{use_at}
-use Rattle.ae_code.specs.Edges.{are_compatible, is_strong}
+use Rattle.ae_rules.specs.declared.uses.Resource.{Resource}
+use Rattle.ae_rules.specs.declared.uses.Resource.TheVariants.{Local, Group}
+use Rattle.ae_rules.specs.declared.uses.Mode.{Mode}
+use Rattle.ae_rules.specs.declared.uses.Use.{Use}
+use Rattle.ae_tree.specs.Plain.{Lines}
+use Rattle.ae_rules.specs.BuiltUses.{use_at}
+use Rattle.ae_rules.specs.Edges.{are_compatible, is_strong}
 use Rattle.ae_graph.specs.declared.waits.Past.{Past}
 use Rattle.ae_graph.specs.declared.waits.OpenUses.{OpenUses}
 

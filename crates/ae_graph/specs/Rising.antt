@@ -1,6 +1,6 @@
 -- Numbers in rising order.
 use Rattle.std.specs.Prelude.{◌↔◌, ℕ, List, Contains}
-use Rattle.ae_code.specs.Edges.{IsRising}
+use Rattle.ae_rules.specs.Edges.{IsRising}
 
 -- the same numbers, each once and in rising order
 pub record IsRisingOf (numbers rising : List ℕ) : Type 0 where

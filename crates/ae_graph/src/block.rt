@@ -1,15 +1,15 @@
 // The graph of a block.
 ghost use Rattle.std.specs.Prelude.{◌≡◌, ◌<◌, ◌≤◌, ◌^◌, List, [], length, IfOk, IsSome, Some, count_by};
-ghost use Rattle.ae_code.specs.Shown.{code, braced, lines_from};
-ghost use Rattle.ae_code.specs.Limits.{count, Within};
-ghost use Rattle.ae_code.specs.Judgement.{Accepted};
-ghost use Rattle.ae_code.specs.Uses.{block_of};
+ghost use Rattle.ae_tree.specs.Shown.{code, braced, lines_from};
+ghost use Rattle.ae_tree.specs.Limits.{count, Within};
+ghost use Rattle.ae_tree.specs.Judgement.{Accepted};
+ghost use Rattle.ae_rules.specs.BuiltUses.{block_of};
 ghost use Rattle.ae_graph.specs.Graph.{IsGraph, AreSuccs, preds_in, edges_from, is_free};
 
 use crate::preds::preds_of;
 use crate::succs::{edges_of, succs_of};
 use crate::uses::block_at;
-use ae_code::{Block, Program, Stmt};
+use ae_tree::{Block, Program, Stmt};
 use ae_text::{Edge, Items, Memory};
 use std::alloc::{AllocError, Global};
 use std::marker::Model;

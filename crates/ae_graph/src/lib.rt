@@ -9,7 +9,7 @@ mod text;
 mod uses;
 mod waits;
 
-pub use ae_code::{Footprint, Mode, Resource, Use};
+pub use ae_rules::{Footprint, Mode, Resource, Use};
 pub use block::BlockGraph;
 pub use text::graph_text;
 pub use uses::{compatible, footprint};

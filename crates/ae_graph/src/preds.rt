@@ -1,11 +1,11 @@
 // For which statements of a block each of its statements waits.
 ghost use Rattle.std.specs.Prelude.{◌<◌, ◌^◌, length, IfOk, Some};
-ghost use Rattle.ae_code.specs.Shown.{lines_from};
+ghost use Rattle.ae_tree.specs.Shown.{lines_from};
 ghost use Rattle.ae_graph.specs.Graph.{IsGraph};
 
 use crate::uses::statement_uses;
 use crate::waits::OpenUses;
-use ae_code::Stmt;
+use ae_tree::Stmt;
 use ae_text::Items;
 use std::alloc::{AllocError, Global};
 

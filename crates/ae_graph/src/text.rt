@@ -1,14 +1,14 @@
 // The text of the graphs of a program.
 ghost use Rattle.std.specs.Prelude.{◌≡◌, ◌<◌, ◌≤◌, ◌^◌, ◌++◌, [], ◌∷◌, length, slice_index_or, codes, IfOk, OnOk, Some};
 ghost use Rattle.std.specs.Fmt.{decimal};
-ghost use Rattle.ae_code.specs.Shown.{definition, code};
-ghost use Rattle.ae_code.specs.Limits.{count, Within};
-ghost use Rattle.ae_code.specs.Judgement.{Accepted};
+ghost use Rattle.ae_tree.specs.Shown.{definition, code};
+ghost use Rattle.ae_tree.specs.Limits.{count, Within};
+ghost use Rattle.ae_tree.specs.Judgement.{Accepted};
 ghost use Rattle.ae_graph.specs.Graph.{Graph, IsGraph};
 ghost use Rattle.ae_graph.specs.GraphText.{spelling, spaced, line_text, lines_text, block_text, method_text, IsGraphText, PutsMethod};
 
 use crate::block::{BlockGraph, block_graph};
-use ae_code::{Method, Name, Program};
+use ae_tree::{Method, Name, Program};
 use ae_text::{Items, Memory};
 use std::alloc::{AllocError, Global};
 

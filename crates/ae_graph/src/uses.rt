@@ -1,16 +1,15 @@
 // What a statement uses.
 ghost use Rattle.std.specs.Prelude.{◌≡◌, ◌++◌, IfOk, OnOk, IsSome, MatchOption, map, Some, None};
 ghost use Rattle.std.specs.Option.{option_to_list};
-ghost use Rattle.ae_code.specs.Shown.{expression, right_side, action, braced, code};
-ghost use Rattle.ae_code.specs.Judgement.{Accepted};
-ghost use Rattle.ae_code.specs.Uses.{block_of, statement_at};
-ghost use Rattle.ae_code.specs.Edges.{are_compatible};
+ghost use Rattle.ae_tree.specs.Shown.{expression, right_side, action, braced, code};
+ghost use Rattle.ae_tree.specs.Judgement.{Accepted};
+ghost use Rattle.ae_rules.specs.BuiltUses.{block_of, statement_at};
+ghost use Rattle.ae_rules.specs.Edges.{are_compatible};
 ghost use Rattle.ae_graph.specs.Footprint.{HasFootprint, IsFootprint, statement_of, names_in, names_right, read_by, written_by, is_written, local_use, AreLocalUses, group_uses};
 
 use crate::rising::rising;
-use ae_code::{
-    Block, Expr, Footprint, Mode, Name, Program, Resource, Rhs, Stmt, StmtAt, StmtKind, Use,
-};
+use ae_rules::{Footprint, Mode, Resource, Use};
+use ae_tree::{Block, Expr, Name, Program, Rhs, Stmt, StmtAt, StmtKind};
 use ae_text::{Items, Memory};
 use std::alloc::{AllocError, Global};
 

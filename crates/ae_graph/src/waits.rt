@@ -1,13 +1,14 @@
 // For which earlier statements the uses of a statement wait.
 ghost use Rattle.std.specs.Prelude.{◌≡◌, ◌++◌, ℕ, [], nat_eq, IfOk, OnOk, if◌then◌else◌};
-ghost use Rattle.ae_code.specs.declared.uses.Resource.{Resource};
-ghost use Rattle.ae_code.specs.Edges.{is_strong};
+ghost use Rattle.ae_rules.specs.declared.uses.Resource.{Resource};
+ghost use Rattle.ae_rules.specs.Edges.{is_strong};
 ghost use Rattle.ae_graph.specs.Rising.{IsRisingOf};
 ghost use Rattle.ae_graph.specs.Opened.{kept, kept_of, added, is_same, after_uses, waited, waited_by};
 
 use crate::rising::rising;
 use crate::uses::compatible;
-use ae_code::{Mode, Name, Resource, Use};
+use ae_rules::{Mode, Resource, Use};
+use ae_tree::Name;
 use ae_text::Items;
 use std::alloc::{AllocError, Global};
 use std::collections::HashMap;

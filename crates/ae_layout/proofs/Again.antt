@@ -7,10 +7,10 @@ use Rattle.ae_text.specs.declared.token.TokenKind.{TokenKind}
 use Rattle.ae_text.specs.declared.token.TokenKind.TheVariants as t
 use Rattle.ae_text.specs.declared.token.Token.{Token}
 use Rattle.ae_text.specs.Tokens.{Text, tokens_from, end_of, Lexes}
-use Rattle.ae_code.specs.Names.{numbered}
-use Rattle.ae_code.specs.Plain.{Code}
-use Rattle.ae_code.specs.Grammar.{Derives}
-use Rattle.ae_code.specs.Layout.{Names, program_rows}
+use Rattle.ae_tree.specs.Names.{numbered}
+use Rattle.ae_tree.specs.Plain.{Code}
+use Rattle.ae_tree.specs.Grammar.{Derives}
+use Rattle.ae_layout.specs.Layout.{Names, program_rows}
 use Rattle.ae_layout.specs.Rows.{Every, CanSpell, kinds_of}
 use Rattle.ae_layout.specs.Laws.{ReadAgain}
 use Rattle.ae_layout.proofs.Cut.{kinds_in, tokens_kinds}

@@ -6,8 +6,8 @@ use Rattle.std.proofs.lemmas.List.{map-append}
 use Rattle.ae_text.specs.declared.token.TokenKind.{TokenKind}
 use Rattle.ae_text.specs.declared.token.TokenKind.TheVariants as t
 use Rattle.ae_text.specs.Tokens.{Text, Each, width, Piece, White, Comment, Tok, spelling as piece_spelling, text_of, ArePieces, tokens_from, end_of}
-use Rattle.ae_code.specs.Spelling.{Printed, gap, printed, spelling, tokens_text}
-use Rattle.ae_code.specs.Layout.{Row, row_text, rows_text}
+use Rattle.ae_layout.specs.Spelling.{Printed, gap, printed, spelling, tokens_text}
+use Rattle.ae_layout.specs.Layout.{Row, row_text, rows_text}
 use Rattle.ae_layout.specs.Rows.{Every, CanSpell, parts, PartFrom, ArePart, is_space, IsLaid, kinds, kinds_of, AreSpelled, LexesAs}
 use Rattle.ae_layout.proofs.Escapes.{scalars-append}
 use Rattle.ae_layout.proofs.Written.{Written, written}

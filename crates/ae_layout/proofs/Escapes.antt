@@ -7,7 +7,7 @@ use Rattle.std.proofs.lemmas.Str.{encodes-append, encode_ascii, inside_one}
 use Rattle.ae_text.specs.declared.texts.Part.{Part}
 use Rattle.ae_text.specs.declared.texts.Part.TheVariants.{Plain, Escape}
 use Rattle.ae_text.specs.Tokens.{Text, in_text, escaped, spelled, AreParts, AreKnown, meant, IsQuoted}
-use Rattle.ae_code.specs.Spelling.{escaped as written_byte, all_escaped}
+use Rattle.ae_layout.specs.Spelling.{escaped as written_byte, all_escaped}
 use Rattle.ae_text.proofs.TextLemmas.{spelled-append, parts-append}
 
 -- ---- one character

@@ -7,26 +7,26 @@ use Rattle.ae_text.specs.declared.token.TokenKind.{TokenKind}
 use Rattle.ae_text.specs.declared.token.TokenKind.TheVariants as t
 use Rattle.ae_text.specs.declared.refusal.Spot.{Spot}
 use Rattle.ae_text.specs.Tokens.{Text, Each}
-use Rattle.ae_code.specs.declared.tree.NameAt.{NameAt}
-use Rattle.ae_code.specs.declared.tree.PermAt.{PermAt}
-use Rattle.ae_code.specs.declared.tree.PermAt.TheVariants as perm
-use Rattle.ae_code.specs.declared.tree.KindAt.{KindAt}
-use Rattle.ae_code.specs.declared.tree.KindAt.TheVariants as kind
-use Rattle.ae_code.specs.declared.tree.Ty.{Ty}
-use Rattle.ae_code.specs.declared.tree.Ty.TheVariants as ty
-use Rattle.ae_code.specs.declared.tree.Path.{Path}
-use Rattle.ae_code.specs.declared.tree.Param.{Param}
-use Rattle.ae_code.specs.declared.tree.Me.{Me}
-use Rattle.ae_code.specs.declared.tree.GroupNeed.{GroupNeed}
-use Rattle.ae_code.specs.declared.tree.Field.{Field}
-use Rattle.ae_code.specs.declared.tree.Class.{Class}
-use Rattle.ae_code.specs.declared.tree.Decl.{Decl}
-use Rattle.ae_code.specs.declared.tree.Decl.TheVariants as decl
-use Rattle.ae_code.specs.Plain.{Expression, Number, Truth, Nothing, Read, Item, Length, Grouped, Negated, Minus, Binary, Invocation, RightSide, Value, Taken, Zeros, Made, Returned, Lines, End, Next, Definition, Code}
-use Rattle.ae_code.specs.Plain.{Action, Declares, Assigns, Stores, StoresAt, Calls, Chooses, ChoosesElse, Repeats, Groups, Splits, Locks, Freezes, Shares, Prints, PrintsText, Asserts, Returns}
-use Rattle.ae_code.specs.Grammar.{sign_of}
-use Rattle.ae_code.specs.Spelling.{Printed}
-use Rattle.ae_code.specs.Layout.{Names, token, near, far, name_kind, name_tokens, after_commas, listed, groups_tokens, this, root_kind, steps_tokens, path_tokens, perm_tokens, kind_tokens, type_tokens, truth_word, expression_tokens, arguments_tokens, method_tokens, call_tokens, right_tokens, semicolon, open_brace, assigned, first_line, Row, deeper, close_row, else_row, block_rows, rows, away_tokens, param_tokens, me_tokens, params_tokens, need_word, need_tokens, needs_tokens, result_tokens, head_tokens, method_rows, found_method_rows, methods_rows, field_tokens, fields_rows, class_tokens, class_rows, found_class_rows, decl_rows, decls_rows, program_rows}
+use Rattle.ae_tree.specs.declared.tree.NameAt.{NameAt}
+use Rattle.ae_tree.specs.declared.tree.PermAt.{PermAt}
+use Rattle.ae_tree.specs.declared.tree.PermAt.TheVariants as perm
+use Rattle.ae_tree.specs.declared.tree.KindAt.{KindAt}
+use Rattle.ae_tree.specs.declared.tree.KindAt.TheVariants as kind
+use Rattle.ae_tree.specs.declared.tree.Ty.{Ty}
+use Rattle.ae_tree.specs.declared.tree.Ty.TheVariants as ty
+use Rattle.ae_tree.specs.declared.tree.Path.{Path}
+use Rattle.ae_tree.specs.declared.tree.Param.{Param}
+use Rattle.ae_tree.specs.declared.tree.Me.{Me}
+use Rattle.ae_tree.specs.declared.tree.GroupNeed.{GroupNeed}
+use Rattle.ae_tree.specs.declared.tree.Field.{Field}
+use Rattle.ae_tree.specs.declared.tree.Class.{Class}
+use Rattle.ae_tree.specs.declared.tree.Decl.{Decl}
+use Rattle.ae_tree.specs.declared.tree.Decl.TheVariants as decl
+use Rattle.ae_tree.specs.Plain.{Expression, Number, Truth, Nothing, Read, Item, Length, Grouped, Negated, Minus, Binary, Invocation, RightSide, Value, Taken, Zeros, Made, Returned, Lines, End, Next, Definition, Code}
+use Rattle.ae_tree.specs.Plain.{Action, Declares, Assigns, Stores, StoresAt, Calls, Chooses, ChoosesElse, Repeats, Groups, Splits, Locks, Freezes, Shares, Prints, PrintsText, Asserts, Returns}
+use Rattle.ae_tree.specs.Grammar.{sign_of}
+use Rattle.ae_layout.specs.Spelling.{Printed}
+use Rattle.ae_layout.specs.Layout.{Names, token, near, far, name_kind, name_tokens, after_commas, listed, groups_tokens, this, root_kind, steps_tokens, path_tokens, perm_tokens, kind_tokens, type_tokens, truth_word, expression_tokens, arguments_tokens, method_tokens, call_tokens, right_tokens, semicolon, open_brace, assigned, first_line, Row, deeper, close_row, else_row, block_rows, rows, away_tokens, param_tokens, me_tokens, params_tokens, need_word, need_tokens, needs_tokens, result_tokens, head_tokens, method_rows, found_method_rows, methods_rows, field_tokens, fields_rows, class_tokens, class_rows, found_class_rows, decl_rows, decls_rows, program_rows}
 use Rattle.ae_layout.specs.Rows.{Every, goes_on_with, parts, PartFrom, ArePart, is_space, IsLaid, AreSpelled, Spellable}
 
 -- ---- lists of tokens

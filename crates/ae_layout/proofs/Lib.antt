@@ -12,3 +12,5 @@ pub mod MovedLines
 pub mod MovedPrograms
 pub mod Kept
 pub mod Again
+pub mod Steps
+pub mod Texts

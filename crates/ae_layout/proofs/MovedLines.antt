@@ -3,11 +3,11 @@ use Rattle.std.proofs.Common.{◌≡◌, ◌≢◌, ℕ, ◌+◌, [], Option, No
 use Rattle.ae_text.specs.declared.refusal.Spot.{Spot}
 use Rattle.ae_text.specs.declared.token.Keyword.TheVariants as word
 use Rattle.ae_text.specs.declared.token.Sign.TheVariants as sign
-use Rattle.ae_code.specs.declared.lexeme.Lexical.TheVariants as tok
-use Rattle.ae_code.specs.declared.tree.Path.{Path}
-use Rattle.ae_code.specs.Plain.{Expression, Lines, End, Next}
-use Rattle.ae_code.specs.Plain.{Action, Declares, Assigns, Stores, StoresAt, Calls, Chooses, ChoosesElse, Repeats, Groups, Splits, Locks, Freezes, Shares, Prints, PrintsText, Asserts, Returns}
-use Rattle.ae_code.specs.Grammar.{Tokens, ◌⨾◌, opened, opened_in, first_spot, braced, statement, statements, returning, with_return, body}
+use Rattle.ae_tree.specs.declared.lexeme.Lexical.TheVariants as tok
+use Rattle.ae_tree.specs.declared.tree.Path.{Path}
+use Rattle.ae_tree.specs.Plain.{Expression, Lines, End, Next}
+use Rattle.ae_tree.specs.Plain.{Action, Declares, Assigns, Stores, StoresAt, Calls, Chooses, ChoosesElse, Repeats, Groups, Splits, Locks, Freezes, Shares, Prints, PrintsText, Asserts, Returns}
+use Rattle.ae_tree.specs.Grammar.{Tokens, ◌⨾◌, opened, opened_in, first_spot, braced, statement, statements, returning, with_return, body}
 use Rattle.ae_layout.specs.Places.{nowhere, unplaced_name, unplaced_path, unplaced_expression, unplaced_action, unplaced_lines}
 use Rattle.ae_layout.proofs.Moved.{ap2, ap3, Lang, Moves, Moved, moves_then, moves_at, moves_mark, moves_sign, moves_word, no_tokens, not_empty, moved_name, moved_names, moved_path, moved_type, moved_whole, moved_call, moved_right}
 

@@ -6,18 +6,18 @@ use Rattle.ae_text.specs.declared.token.Keyword.TheVariants as word
 use Rattle.ae_text.specs.declared.token.Sign.TheVariants as sign
 use Rattle.ae_text.specs.declared.token.TokenKind.{TokenKind}
 use Rattle.ae_text.specs.declared.token.Token.{Token}
-use Rattle.ae_code.specs.declared.lexeme.Lexical.TheVariants as tok
-use Rattle.ae_code.specs.declared.tree.NameAt.{NameAt}
-use Rattle.ae_code.specs.declared.tree.PermAt.{PermAt}
-use Rattle.ae_code.specs.declared.tree.Ty.{Ty}
-use Rattle.ae_code.specs.declared.tree.Me.{Me}
-use Rattle.ae_code.specs.declared.tree.Param.{Param}
-use Rattle.ae_code.specs.declared.tree.GroupNeed.{GroupNeed}
-use Rattle.ae_code.specs.declared.tree.Field.{Field}
-use Rattle.ae_code.specs.declared.tree.Class.{Class}
-use Rattle.ae_code.specs.Plain.{Lines, Definition, Code}
-use Rattle.ae_code.specs.Grammar.{◌⨾◌, further, result, away, param, me, parameters, need_word, need, needs, IsOf, method, field, numbers_from, Declaration, OfClass, OfMethod, declaration, classes_in, methods_in, declared, declarations, decls_of, classes_of, methods_of, Derives}
-use Rattle.ae_code.specs.Names.{spelled, spellings, names_of, lexical, numbered}
+use Rattle.ae_tree.specs.declared.lexeme.Lexical.TheVariants as tok
+use Rattle.ae_tree.specs.declared.tree.NameAt.{NameAt}
+use Rattle.ae_tree.specs.declared.tree.PermAt.{PermAt}
+use Rattle.ae_tree.specs.declared.tree.Ty.{Ty}
+use Rattle.ae_tree.specs.declared.tree.Me.{Me}
+use Rattle.ae_tree.specs.declared.tree.Param.{Param}
+use Rattle.ae_tree.specs.declared.tree.GroupNeed.{GroupNeed}
+use Rattle.ae_tree.specs.declared.tree.Field.{Field}
+use Rattle.ae_tree.specs.declared.tree.Class.{Class}
+use Rattle.ae_tree.specs.Plain.{Lines, Definition, Code}
+use Rattle.ae_tree.specs.Grammar.{◌⨾◌, further, result, away, param, me, parameters, need_word, need, needs, IsOf, method, field, numbers_from, Declaration, OfClass, OfMethod, declaration, classes_in, methods_in, declared, declarations, decls_of, classes_of, methods_of, Derives}
+use Rattle.ae_tree.specs.Names.{spelled, spellings, names_of, lexical, numbered}
 use Rattle.ae_layout.specs.Places.{nowhere, optional, unplaced_type, unplaced_away, unplaced_param, unplaced_me, unplaced_need, unplaced_method, unplaced_field, unplaced_class, unplaced}
 use Rattle.ae_layout.proofs.Moved.{ap2, ap3, ap4, kinds, Lang, Moves, Moved, moves_then, moves_at, moves_mark, moves_sign, moves_word, no_tokens, moved_each, moved_further, moved_listed, moved_name, moved_groups, moved_permission, moved_type}
 use Rattle.ae_layout.proofs.MovedLines.{moved_body}

@@ -6,21 +6,21 @@ use Rattle.ae_text.specs.declared.token.Keyword.TheVariants as word
 use Rattle.ae_text.specs.declared.token.Sign.TheVariants as sign
 use Rattle.ae_text.specs.declared.token.TokenKind.{TokenKind}
 use Rattle.ae_text.specs.declared.token.TokenKind.TheVariants as t
-use Rattle.ae_code.specs.declared.lexeme.Lexical.{Lexical}
-use Rattle.ae_code.specs.declared.lexeme.Lexical.TheVariants as tok
-use Rattle.ae_code.specs.declared.lexeme.Lexeme.{Lexeme}
-use Rattle.ae_code.specs.declared.tree.NameAt.{NameAt}
-use Rattle.ae_code.specs.declared.tree.PermAt.{PermAt}
-use Rattle.ae_code.specs.declared.tree.PermAt.TheVariants as perm
-use Rattle.ae_code.specs.declared.tree.KindAt.{KindAt}
-use Rattle.ae_code.specs.declared.tree.KindAt.TheVariants as kind_at
-use Rattle.ae_code.specs.declared.tree.Ty.{Ty}
-use Rattle.ae_code.specs.declared.tree.Ty.TheVariants as ty
-use Rattle.ae_code.specs.declared.tree.Path.{Path}
-use Rattle.ae_code.specs.Plain.{Expression, Number, Truth, Nothing, Read, Item, Length, Grouped, Negated, Minus, Binary, Invocation, RightSide, Value, Taken, Zeros, Made, Returned}
-use Rattle.ae_code.specs.Grammar.{Tokens, Then, one_at, one, nothing, each, further, separated, listed as some_listed, name, root, step, path, groups, permission, kind, type_, sign_of, truth, left_level, level, expression, whole, arguments, receiver, call, right_side}
-use Rattle.ae_code.specs.Spelling.{Printed}
-use Rattle.ae_code.specs.Layout.{Names, token, near, far, name_kind, name_tokens, after_commas, listed, groups_tokens, root_kind, steps_tokens, path_tokens, perm_tokens, kind_tokens, type_tokens, truth_word, expression_tokens, arguments_tokens, method_tokens, call_tokens, right_tokens}
+use Rattle.ae_tree.specs.declared.lexeme.Lexical.{Lexical}
+use Rattle.ae_tree.specs.declared.lexeme.Lexical.TheVariants as tok
+use Rattle.ae_tree.specs.declared.lexeme.Lexeme.{Lexeme}
+use Rattle.ae_tree.specs.declared.tree.NameAt.{NameAt}
+use Rattle.ae_tree.specs.declared.tree.PermAt.{PermAt}
+use Rattle.ae_tree.specs.declared.tree.PermAt.TheVariants as perm
+use Rattle.ae_tree.specs.declared.tree.KindAt.{KindAt}
+use Rattle.ae_tree.specs.declared.tree.KindAt.TheVariants as kind_at
+use Rattle.ae_tree.specs.declared.tree.Ty.{Ty}
+use Rattle.ae_tree.specs.declared.tree.Ty.TheVariants as ty
+use Rattle.ae_tree.specs.declared.tree.Path.{Path}
+use Rattle.ae_tree.specs.Plain.{Expression, Number, Truth, Nothing, Read, Item, Length, Grouped, Negated, Minus, Binary, Invocation, RightSide, Value, Taken, Zeros, Made, Returned}
+use Rattle.ae_tree.specs.Grammar.{Tokens, Then, one_at, one, nothing, each, further, separated, listed as some_listed, name, root, step, path, groups, permission, kind, type_, sign_of, truth, left_level, level, expression, whole, arguments, receiver, call, right_side}
+use Rattle.ae_layout.specs.Spelling.{Printed}
+use Rattle.ae_layout.specs.Layout.{Names, token, near, far, name_kind, name_tokens, after_commas, listed, groups_tokens, root_kind, steps_tokens, path_tokens, perm_tokens, kind_tokens, type_tokens, truth_word, expression_tokens, arguments_tokens, method_tokens, call_tokens, right_tokens}
 use Rattle.ae_layout.specs.Rows.{Every, kinds}
 use Rattle.ae_layout.proofs.Cut.{every_front, every_back}
 

@@ -7,19 +7,19 @@ use Rattle.ae_text.specs.declared.token.TokenKind.{TokenKind}
 use Rattle.ae_text.specs.declared.token.TokenKind.TheVariants as t
 use Rattle.ae_text.specs.declared.token.Token.{Token}
 use Rattle.ae_text.specs.Tokens.{Text}
-use Rattle.ae_code.specs.declared.tree.Ty.{Ty}
-use Rattle.ae_code.specs.declared.tree.Param.{Param}
-use Rattle.ae_code.specs.declared.tree.Me.{Me}
-use Rattle.ae_code.specs.declared.tree.Need.{Need}
-use Rattle.ae_code.specs.declared.tree.Need.TheVariants as need_of
-use Rattle.ae_code.specs.declared.tree.GroupNeed.{GroupNeed}
-use Rattle.ae_code.specs.declared.tree.Field.{Field}
-use Rattle.ae_code.specs.declared.tree.Class.{Class}
-use Rattle.ae_code.specs.Plain.{Expression, Lines, End, Next, Definition, Code}
-use Rattle.ae_code.specs.Plain.{Action, Declares, Assigns, Stores, StoresAt, Calls, Chooses, ChoosesElse, Repeats, Groups, Splits, Locks, Freezes, Shares, Prints, PrintsText, Asserts, Returns}
-use Rattle.ae_code.specs.Grammar.{Tokens, ◌⨾◌, a_word, a_sign, each, name, whole, opened, braced, statement, statements, result, away, param, me, parameters, need_word, need, needs, returning, with_return, body, method, field, numbers_from, Declaration, OfClass, OfMethod, declaration, classes_in, methods_in, declared, declarations, decls_of, classes_of, methods_of, Derives}
-use Rattle.ae_code.specs.Names.{numbered}
-use Rattle.ae_code.specs.Layout.{Names, near, far, name_kind, name_tokens, after_commas, listed, groups_tokens, path_tokens, perm_tokens, type_tokens, expression_tokens, call_tokens, right_tokens, semicolon, open_brace, assigned, first_line, Row, row, deeper, close_row, else_row, block_rows, rows, away_tokens, param_tokens, me_tokens, params_tokens, need_word as need_spelled, need_tokens, needs_tokens, result_tokens, head_tokens, method_rows, found_method_rows, methods_rows, field_tokens, fields_rows, class_tokens, class_rows, found_class_rows, decl_rows, decls_rows, program_rows}
+use Rattle.ae_tree.specs.declared.tree.Ty.{Ty}
+use Rattle.ae_tree.specs.declared.tree.Param.{Param}
+use Rattle.ae_tree.specs.declared.tree.Me.{Me}
+use Rattle.ae_tree.specs.declared.tree.Need.{Need}
+use Rattle.ae_tree.specs.declared.tree.Need.TheVariants as need_of
+use Rattle.ae_tree.specs.declared.tree.GroupNeed.{GroupNeed}
+use Rattle.ae_tree.specs.declared.tree.Field.{Field}
+use Rattle.ae_tree.specs.declared.tree.Class.{Class}
+use Rattle.ae_tree.specs.Plain.{Expression, Lines, End, Next, Definition, Code}
+use Rattle.ae_tree.specs.Plain.{Action, Declares, Assigns, Stores, StoresAt, Calls, Chooses, ChoosesElse, Repeats, Groups, Splits, Locks, Freezes, Shares, Prints, PrintsText, Asserts, Returns}
+use Rattle.ae_tree.specs.Grammar.{Tokens, ◌⨾◌, a_word, a_sign, each, name, whole, opened, braced, statement, statements, result, away, param, me, parameters, need_word, need, needs, returning, with_return, body, method, field, numbers_from, Declaration, OfClass, OfMethod, declaration, classes_in, methods_in, declared, declarations, decls_of, classes_of, methods_of, Derives}
+use Rattle.ae_tree.specs.Names.{numbered}
+use Rattle.ae_layout.specs.Layout.{Names, near, far, name_kind, name_tokens, after_commas, listed, groups_tokens, path_tokens, perm_tokens, type_tokens, expression_tokens, call_tokens, right_tokens, semicolon, open_brace, assigned, first_line, Row, row, deeper, close_row, else_row, block_rows, rows, away_tokens, param_tokens, me_tokens, params_tokens, need_word as need_spelled, need_tokens, needs_tokens, result_tokens, head_tokens, method_rows, found_method_rows, methods_rows, field_tokens, fields_rows, class_tokens, class_rows, found_class_rows, decl_rows, decls_rows, program_rows}
 use Rattle.ae_layout.specs.Rows.{kinds, kinds_of}
 use Rattle.ae_layout.proofs.Productions.{shown, Clean, Shows, Puts, seq, mark, mark_any, none, grouped, cat2, cat3, cat5, commas_put, separated_put, separated_all, listed_put, name_puts, groups_put, path_puts, perm_puts, type_puts, whole_puts, call_puts, right_puts}
 

@@ -6,8 +6,8 @@ use Rattle.std.proofs.lemmas.List.{map-append}
 use Rattle.ae_text.specs.declared.token.TokenKind.{TokenKind}
 use Rattle.ae_text.specs.declared.token.TokenKind.TheVariants as t
 use Rattle.ae_text.specs.Tokens.{Text, Piece, White, Comment, Tok, text_of, ArePieces, tokens_from, end_of}
-use Rattle.ae_code.specs.Plain.{Code}
-use Rattle.ae_code.specs.Layout.{program_rows, layout}
+use Rattle.ae_tree.specs.Plain.{Code}
+use Rattle.ae_layout.specs.Layout.{program_rows, layout}
 use Rattle.ae_layout.specs.Rows.{Every, CanSpell, kinds_of, Spellable, LexesAs}
 use Rattle.ae_layout.proofs.Cut.{kinds_in, tokens_kinds, rows_lex}
 use Rattle.ae_layout.proofs.Forms.{program_spelled}

@@ -6,10 +6,10 @@ use Rattle.indexmap.specs.IndexSet.{insert_key, insert_all}
 use Rattle.ae_text.specs.declared.token.TokenKind.{TokenKind}
 use Rattle.ae_text.specs.declared.token.TokenKind.TheVariants as t
 use Rattle.ae_text.specs.declared.token.Token.{Token}
-use Rattle.ae_code.specs.declared.lexeme.Lexical.TheVariants as tok
-use Rattle.ae_code.specs.Names.{first_names, spelled, spellings, names_of, number_of, numbered, lexical}
-use Rattle.ae_code.specs.Spelling.{name_text}
-use Rattle.ae_code.specs.Layout.{Names}
+use Rattle.ae_tree.specs.declared.lexeme.Lexical.TheVariants as tok
+use Rattle.ae_tree.specs.Names.{first_names, spelled, spellings, names_of, number_of, numbered, lexical}
+use Rattle.ae_layout.specs.Spelling.{name_text}
+use Rattle.ae_layout.specs.Layout.{Names}
 use Rattle.ae_layout.specs.Rows.{Every}
 use Rattle.ae_layout.proofs.Productions.{kind_of, shown, Clean}
 

@@ -11,7 +11,7 @@ use Rattle.ae_text.specs.declared.token.TokenKind.{TokenKind}
 use Rattle.ae_text.specs.declared.token.TokenKind.TheVariants as t
 use Rattle.ae_text.specs.Tokens.{Text, Each, is_digit, sign_text, IsNumber, value, value_from, meant, IsQuoted, Spells, IsInRange}
 use Rattle.ae_text.proofs.SpellingLemmas.{keyword_same}
-use Rattle.ae_code.specs.Spelling.{spelling}
+use Rattle.ae_layout.specs.Spelling.{spelling}
 use Rattle.ae_layout.specs.Rows.{CanSpell}
 use Rattle.ae_layout.proofs.Escapes.{quoted, quoted_bytes, quoted_is, quoted_scalars, value_scalars}
 

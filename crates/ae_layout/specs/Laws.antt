@@ -2,10 +2,10 @@
 use Rattle.std.specs.Prelude.{◌≡◌, List}
 use Rattle.ae_text.specs.declared.token.Token.{Token}
 use Rattle.ae_text.specs.Tokens.{Text, Lexes}
-use Rattle.ae_code.specs.Plain.{Code}
-use Rattle.ae_code.specs.Grammar.{Derives}
-use Rattle.ae_code.specs.Limits.{Within}
-use Rattle.ae_code.specs.Layout.{program_rows, layout}
+use Rattle.ae_tree.specs.Plain.{Code}
+use Rattle.ae_tree.specs.Grammar.{Derives}
+use Rattle.ae_tree.specs.Limits.{Within}
+use Rattle.ae_layout.specs.Layout.{program_rows, layout}
 use Rattle.ae_layout.specs.Rows.{kinds_of, LexesAs}
 use Rattle.ae_layout.specs.Places.{unplaced}
 

@@ -1,3 +1,5 @@
 pub mod Rows
 pub mod Places
 pub mod Laws
+pub mod Spelling
+pub mod Layout

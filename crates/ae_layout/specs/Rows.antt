@@ -7,9 +7,9 @@ use Rattle.ae_text.specs.declared.token.TokenKind.{TokenKind}
 use Rattle.ae_text.specs.declared.token.TokenKind.TheVariants as t
 use Rattle.ae_text.specs.declared.token.Token.{Token}
 use Rattle.ae_text.specs.Tokens.{Text, Each, Spells, IsInRange, Lexes}
-use Rattle.ae_code.specs.Plain.{Code}
-use Rattle.ae_code.specs.Spelling.{Printed}
-use Rattle.ae_code.specs.Layout.{Row, program_rows}
+use Rattle.ae_tree.specs.Plain.{Code}
+use Rattle.ae_layout.specs.Spelling.{Printed}
+use Rattle.ae_layout.specs.Layout.{Row, program_rows}
 
 -- each has the property
 abbrev pub Every : {A : Type 0} → (A → Type 0) → List A → Type 0

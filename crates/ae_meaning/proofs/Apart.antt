@@ -1,13 +1,13 @@
 -- What uses that go together say of two statements.
 use Rattle.std.proofs.Common.{◌≡◌, ℕ, true, false, nat_eq, Option, None, Some, IsSome, refl, ◌∙◌, subst, arith}
 use Rattle.std.proofs.lemmas.Bool.Decides.{nat_tests}
-use Rattle.ae_code.specs.declared.uses.Resource.TheVariants.{Local, Group}
-use Rattle.ae_code.specs.declared.uses.Mode.{Mode}
-use Rattle.ae_code.specs.declared.uses.Mode.TheVariants.{Read, Write, GroupShared, GroupWhole}
-use Rattle.ae_code.specs.Plain.{Action}
-use Rattle.ae_code.specs.Names.{io}
-use Rattle.ae_code.specs.Uses.{use_of}
-use Rattle.ae_code.specs.Edges.{are_compatible, is_strong, IsConflict, IsWeak}
+use Rattle.ae_rules.specs.declared.uses.Resource.TheVariants.{Local, Group}
+use Rattle.ae_rules.specs.declared.uses.Mode.{Mode}
+use Rattle.ae_rules.specs.declared.uses.Mode.TheVariants.{Read, Write, GroupShared, GroupWhole}
+use Rattle.ae_tree.specs.Plain.{Action}
+use Rattle.ae_tree.specs.Names.{io}
+use Rattle.ae_rules.specs.BuiltUses.{use_of}
+use Rattle.ae_rules.specs.Edges.{are_compatible, is_strong, IsConflict, IsWeak}
 use Rattle.ae_meaning.specs.Frame.{Apart}
 use Rattle.ae_meaning.proofs.Effects.{one_of}
 

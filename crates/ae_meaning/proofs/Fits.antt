@@ -5,14 +5,14 @@ use Rattle.ae_text.specs.declared.refusal.Spot.{Spot}
 use Rattle.ae_text.specs.declared.refusal.Rule.{Rule}
 use Rattle.ae_text.specs.declared.refusal.Rule.TheVariants as rule
 use Rattle.ae_text.specs.declared.whole.Memory.{Memory}
-use Rattle.ae_code.specs.declared.tree.Op.{Op}
-use Rattle.ae_code.specs.declared.tree.Op.TheVariants as op
-use Rattle.ae_code.specs.Plain.{Expression, Number, Truth, Nothing, Read, Item, Length, Grouped, Negated, Minus, Binary, Value, Taken, Zeros, Made, Returned, Lines, End, Next, Definition, Code}
-use Rattle.ae_code.specs.Plain.{Action, Declares, Assigns, Stores, StoresAt, Calls, Chooses, ChoosesElse, Repeats, Groups, Splits, Locks, Freezes, Shares, Prints, PrintsText, Asserts, Returns}
-use Rattle.ae_code.specs.Names.{io, main}
-use Rattle.ae_code.specs.Grammar.{level}
-use Rattle.ae_code.specs.Built.{IsBuiltExpression, IsBuiltAction, AreBuilt}
-use Rattle.ae_code.specs.Judgement.{Scope, nobody, and_also, Verdict, Holds, Broken, then_judge, visible, free, judge_expression, judge_action, judge, judge_methods, IsHeld, Accepted}
+use Rattle.ae_tree.specs.declared.tree.Op.{Op}
+use Rattle.ae_tree.specs.declared.tree.Op.TheVariants as op
+use Rattle.ae_tree.specs.Plain.{Expression, Number, Truth, Nothing, Read, Item, Length, Grouped, Negated, Minus, Binary, Value, Taken, Zeros, Made, Returned, Lines, End, Next, Definition, Code}
+use Rattle.ae_tree.specs.Plain.{Action, Declares, Assigns, Stores, StoresAt, Calls, Chooses, ChoosesElse, Repeats, Groups, Splits, Locks, Freezes, Shares, Prints, PrintsText, Asserts, Returns}
+use Rattle.ae_tree.specs.Names.{io, main}
+use Rattle.ae_tree.specs.Grammar.{level}
+use Rattle.ae_tree.specs.Built.{IsBuiltExpression, IsBuiltAction, AreBuilt}
+use Rattle.ae_tree.specs.Judgement.{Scope, nobody, and_also, Verdict, Holds, Broken, then_judge, visible, free, judge_expression, judge_action, judge, judge_methods, IsHeld, Accepted}
 use Rattle.ae_meaning.specs.declared.report.Ending.{Ending}
 use Rattle.ae_meaning.specs.declared.report.Meant.{Meant}
 use Rattle.ae_meaning.specs.Values.{Env, with, Outcome, Fine, Traps, Lacks, then_value, found, fitted, unless_zero, applied, value}

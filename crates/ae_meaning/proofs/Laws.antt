@@ -3,11 +3,11 @@ use Rattle.std.proofs.Common.{◌≡◌, ℕ, ℤ, Bool, true, false, if◌then�
 use Rattle.std.proofs.lemmas.List.{append-nil}
 use Rattle.std.proofs.lemmas.Bool.Decides.{nat_tests}
 use Rattle.ae_text.specs.declared.refusal.Spot.{Spot}
-use Rattle.ae_code.specs.declared.uses.Resource.TheVariants.{Group}
-use Rattle.ae_code.specs.declared.uses.Mode.TheVariants.{GroupWhole}
-use Rattle.ae_code.specs.Plain.{Action}
-use Rattle.ae_code.specs.Names.{io}
-use Rattle.ae_code.specs.Uses.{use_of}
+use Rattle.ae_rules.specs.declared.uses.Resource.TheVariants.{Group}
+use Rattle.ae_rules.specs.declared.uses.Mode.TheVariants.{GroupWhole}
+use Rattle.ae_tree.specs.Plain.{Action}
+use Rattle.ae_tree.specs.Names.{io}
+use Rattle.ae_rules.specs.BuiltUses.{use_of}
 use Rattle.ae_meaning.specs.Values.{Env, with}
 use Rattle.ae_meaning.specs.Meaning.{State, Run, Went, Ends, Stops, bound, one}
 use Rattle.ae_meaning.specs.declared.report.Ending.TheVariants.{Trap}

@@ -1,7 +1,7 @@
 -- The laws on other orders, from those on two statements.
 use Rattle.std.proofs.Common.{◌≡◌, inl, inr, Option, refl, ap, sym, ◌∙◌, subst}
 use Rattle.ae_text.specs.declared.refusal.Spot.{Spot}
-use Rattle.ae_code.specs.Plain.{Action, Lines, End, Next}
+use Rattle.ae_tree.specs.Plain.{Action, Lines, End, Next}
 use Rattle.ae_meaning.specs.declared.report.Ending.{Ending}
 use Rattle.ae_meaning.specs.Meaning.{State, Run, Went, Ends, Stops, and_then, one, many, ended}
 use Rattle.ae_meaning.specs.Frame.{Commute}

@@ -2,8 +2,8 @@
 use Rattle.std.proofs.Common.{◌≡◌, ℕ, ℤ, List, refl}
 use Rattle.std.proofs.lemmas.Int.{to_z-of_z}
 use Rattle.ae_text.specs.declared.refusal.Spot.{Spot}
-use Rattle.ae_code.specs.Plain.{RightSide, Value, Taken, Zeros, Made, Returned, Code}
-use Rattle.ae_code.specs.Shown.{shows}
+use Rattle.ae_tree.specs.Plain.{RightSide, Value, Taken, Zeros, Made, Returned, Code}
+use Rattle.ae_tree.specs.Shown.{shows}
 use Rattle.ae_meaning.specs.Meaning.{State, Run, given, right, seq, ended, many, main_body, begin}
 use Rattle.ae_meaning.specs.Running.{sought}
 

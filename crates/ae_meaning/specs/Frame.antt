@@ -1,12 +1,12 @@
 -- A statement depends on what it uses and changes what it uses by Write or GroupWhole, and statements that do not conflict commute.
 use Rattle.std.specs.Prelude.{◌≡◌, ℕ, Bool, true, false, List, [], ◌++◌, IsSome}
 use Rattle.ae_text.specs.declared.refusal.Spot.{Spot}
-use Rattle.ae_code.specs.declared.uses.Resource.{Resource}
-use Rattle.ae_code.specs.declared.uses.Resource.TheVariants.{Local, Group}
-use Rattle.ae_code.specs.Plain.{Expression, Action, Declares, Assigns, Prints}
-use Rattle.ae_code.specs.Names.{io}
-use Rattle.ae_code.specs.Uses.{reads, reads_right, use_of}
-use Rattle.ae_code.specs.Edges.{IsConflict, IsWeak}
+use Rattle.ae_rules.specs.declared.uses.Resource.{Resource}
+use Rattle.ae_rules.specs.declared.uses.Resource.TheVariants.{Local, Group}
+use Rattle.ae_tree.specs.Plain.{Expression, Action, Declares, Assigns, Prints}
+use Rattle.ae_tree.specs.Names.{io}
+use Rattle.ae_rules.specs.BuiltUses.{reads, reads_right, use_of}
+use Rattle.ae_rules.specs.Edges.{IsConflict, IsWeak}
 use Rattle.ae_meaning.specs.Values.{Env, value}
 use Rattle.ae_meaning.specs.Meaning.{State, Run, Went, Ends, Stops, one}
 

@@ -1,7 +1,7 @@
 -- Statements of a block in another order than the source's, where those that conflict keep their order.
 use Rattle.std.specs.Prelude.{◌≡◌, ◌⊎◌}
 use Rattle.ae_text.specs.declared.refusal.Spot.{Spot}
-use Rattle.ae_code.specs.Plain.{Action, Lines, End, Next}
+use Rattle.ae_tree.specs.Plain.{Action, Lines, End, Next}
 use Rattle.ae_meaning.specs.Meaning.{State, Went, one, many, ended}
 use Rattle.ae_meaning.specs.Frame.{Apart}
 

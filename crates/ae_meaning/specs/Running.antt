@@ -4,7 +4,7 @@ use Rattle.ae_meaning.specs.declared.locals.Locals.{Locals}
 use Rattle.ae_meaning.specs.declared.value.Fault.{Fault}
 use Rattle.ae_meaning.specs.declared.value.Fault.TheVariants as fault
 use Rattle.ae_text.specs.declared.refusal.Spot.{Spot}
-use Rattle.ae_code.specs.Plain.{RightSide, Value, Taken, Zeros, Made, Returned}
+use Rattle.ae_tree.specs.Plain.{RightSide, Value, Taken, Zeros, Made, Returned}
 use Rattle.ae_meaning.specs.declared.report.Ending.TheVariants.{Done, Trap, Fuel}
 use Rattle.ae_meaning.specs.declared.run.Running.{Running}
 use Rattle.ae_meaning.specs.declared.run.Stop.{Stop}

@@ -3,7 +3,7 @@ ghost use Rattle.std.specs.Prelude.{◌≡◌, ◌<◌, length, OnOk};
 ghost use Rattle.ae_meaning.specs.Values.{empty, with};
 ghost use Rattle.ae_meaning.specs.Running.{env_of};
 
-use ae_code::Name;
+use ae_tree::Name;
 use std::alloc::{AllocError, Global};
 
 /// The value of each name that has one, by the name's number.

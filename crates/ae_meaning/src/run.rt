@@ -1,9 +1,9 @@
 // Runs a program in source order.
 ghost use Rattle.std.specs.Prelude.{◌≡◌, ◌≢◌, ◌++◌, ◌∷◌, [], map, IfOk, IfErr, OnOk, IsSome, MatchOption};
 ghost use Rattle.std.specs.Fmt.{signed_decimal};
-ghost use Rattle.ae_code.specs.Plain.{End};
-ghost use Rattle.ae_code.specs.Shown.{expression, right_side, action, braced, definition, code};
-ghost use Rattle.ae_code.specs.Judgement.{Accepted};
+ghost use Rattle.ae_tree.specs.Plain.{End};
+ghost use Rattle.ae_tree.specs.Shown.{expression, right_side, action, braced, definition, code};
+ghost use Rattle.ae_tree.specs.Judgement.{Accepted};
 ghost use Rattle.ae_meaning.specs.Values.{value};
 ghost use Rattle.ae_meaning.specs.Meaning.{one, many, main_body, begin, ended, seq};
 ghost use Rattle.ae_meaning.specs.Running.{env_of, held, Found, sought, Answers};
@@ -11,7 +11,7 @@ ghost use Rattle.ae_meaning.specs.Running.{env_of, held, Found, sought, Answers}
 use crate::locals::Locals;
 use crate::report::{Ending, Meant};
 use crate::value::{Fault, value_of};
-use ae_code::{Block, Expr, Method, Program, Rhs, Stmt, StmtKind};
+use ae_tree::{Block, Expr, Method, Program, Rhs, Stmt, StmtKind};
 use ae_text::{Items, Memory, Spot};
 use std::alloc::{AllocError, Global};
 

@@ -1,11 +1,11 @@
 // The values of expressions.
 ghost use Rattle.std.specs.Prelude.{◌≡◌, ◌≢◌, pos, neg_ℤ, int_div, int_rem};
-ghost use Rattle.ae_code.specs.Shown.{expression};
+ghost use Rattle.ae_tree.specs.Shown.{expression};
 ghost use Rattle.ae_meaning.specs.Values.{Fine, value, found, fitted, unless_zero, applied, stepped};
 ghost use Rattle.ae_meaning.specs.Running.{env_of, Comes};
 
 use crate::locals::Locals;
-use ae_code::{Expr, Op, Path};
+use ae_tree::{Expr, Op, Path};
 
 /// Why an expression has no value: it traps, or it has a form that does not run yet or a name without a value.
 #[derive(Clone, Copy, Debug, PartialEq, Eq)]

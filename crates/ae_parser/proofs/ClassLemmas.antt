@@ -5,23 +5,23 @@ use Rattle.std.proofs.lemmas.List.{map-append}
 use Rattle.std.proofs.lemmas.List.Elements.{All-append, All-nil, All-head, All-tail}
 use Rattle.ae_text.specs.declared.token.Keyword.TheVariants as word
 use Rattle.ae_text.specs.declared.token.Sign.TheVariants as sign
-use Rattle.ae_code.specs.declared.lexeme.Lexeme.{Lexeme}
-use Rattle.ae_code.specs.declared.lexeme.Lexical.TheVariants as tok
-use Rattle.ae_code.specs.declared.tree.NameAt.{NameAt}
-use Rattle.ae_code.specs.declared.tree.Ty.{Ty}
-use Rattle.ae_code.specs.declared.tree.Field.{Field}
-use Rattle.ae_code.specs.declared.tree.Class.{Class}
-use Rattle.ae_code.specs.declared.tree.Method.{Method}
-use Rattle.ae_code.specs.Shown as shown
-use Rattle.ae_code.specs.Plain.{Definition}
-use Rattle.ae_code.specs.Grammar.{Tokens, each, name, groups, type_, field, method, numbers_from, Declaration, OfClass}
-use Rattle.ae_code.specs.Limits.{KeepsMethod}
+use Rattle.ae_tree.specs.declared.lexeme.Lexeme.{Lexeme}
+use Rattle.ae_tree.specs.declared.lexeme.Lexical.TheVariants as tok
+use Rattle.ae_tree.specs.declared.tree.NameAt.{NameAt}
+use Rattle.ae_tree.specs.declared.tree.Ty.{Ty}
+use Rattle.ae_tree.specs.declared.tree.Field.{Field}
+use Rattle.ae_tree.specs.declared.tree.Class.{Class}
+use Rattle.ae_tree.specs.declared.tree.Method.{Method}
+use Rattle.ae_tree.specs.Shown as shown
+use Rattle.ae_tree.specs.Plain.{Definition}
+use Rattle.ae_tree.specs.Grammar.{Tokens, each, name, groups, type_, field, method, numbers_from, Declaration, OfClass}
+use Rattle.ae_tree.specs.Limits.{KeepsMethod}
 use Rattle.ae_reading.specs.declared.fail.Fail.{Fail}
 use Rattle.ae_reading.specs.Reads.{head, Always, Is, Isnt, Free, IsWithin, Took, Failed, Mark}
 use Rattle.ae_reading.proofs.ReadsLemmas.{Lang, Bound, Follow, Links, Both, Pair, Has, Along, took_as, failed_as, has_mark, has_both, has_name}
 use Rattle.ae_reading.proofs.Begins.{begins_both, begins_not, opens_one, opens_isnt, is_isnt}
 use Rattle.ae_reading.proofs.Runs.{Run, run_start, run_more, run_end, run_failed}
-use Rattle.ae_types.proofs.TypeLemmas.{has_groups}
+use Rattle.ae_reading.proofs.TypeLemmas.{has_groups}
 use Rattle.ae_parser.specs.Productions.{BeginsType, NoType, AllKeep, KeepsOne, class_at}
 use Rattle.ae_parser.proofs.ParamLemmas.{begins_type, no_type}
 use Rattle.ae_parser.proofs.MethodLemmas.{method_begins}

@@ -4,16 +4,16 @@ use Rattle.std.specs.Prelude.{All}
 use Rattle.std.proofs.lemmas.List.{map-append, length-map}
 use Rattle.std.proofs.lemmas.List.Elements.{All-append, All-nil, All-head, All-tail}
 use Rattle.ae_text.specs.declared.token.Keyword.TheVariants as word
-use Rattle.ae_code.specs.declared.lexeme.Lexical.TheVariants as tok
-use Rattle.ae_code.specs.declared.limits.Limit.{Limit}
-use Rattle.ae_code.specs.declared.tree.Class.{Class}
-use Rattle.ae_code.specs.declared.tree.Method.{Method}
-use Rattle.ae_code.specs.declared.tree.Decl.{Decl}
-use Rattle.ae_code.specs.declared.tree.Decl.TheVariants as decl
-use Rattle.ae_code.specs.Shown as shown
-use Rattle.ae_code.specs.Plain.{Definition}
-use Rattle.ae_code.specs.Grammar.{Tokens, method, Declaration, OfClass, OfMethod, classes_in, methods_in, declared, declaration, declarations, classes_of, methods_of, decls_of}
-use Rattle.ae_code.specs.Limits.{KeepsMethod}
+use Rattle.ae_tree.specs.declared.lexeme.Lexical.TheVariants as tok
+use Rattle.ae_tree.specs.declared.limits.Limit.{Limit}
+use Rattle.ae_tree.specs.declared.tree.Class.{Class}
+use Rattle.ae_tree.specs.declared.tree.Method.{Method}
+use Rattle.ae_tree.specs.declared.tree.Decl.{Decl}
+use Rattle.ae_tree.specs.declared.tree.Decl.TheVariants as decl
+use Rattle.ae_tree.specs.Shown as shown
+use Rattle.ae_tree.specs.Plain.{Definition}
+use Rattle.ae_tree.specs.Grammar.{Tokens, method, Declaration, OfClass, OfMethod, classes_in, methods_in, declared, declaration, declarations, classes_of, methods_of, decls_of}
+use Rattle.ae_tree.specs.Limits.{KeepsMethod}
 use Rattle.ae_reading.specs.declared.fail.Fail.{Fail}
 use Rattle.ae_reading.specs.Reads.{head, Always, Is, Free, Took, Failed, Mark, chain, after}
 use Rattle.ae_reading.proofs.ReadsLemmas.{Lang, Follow, Links, Both, Pair, Along, NoneAt, took_as, failed_as, has_mark, first}

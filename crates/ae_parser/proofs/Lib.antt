@@ -9,3 +9,5 @@ pub mod ClassLemmas
 pub mod DeclarationLemmas
 pub mod OnePlace
 pub mod RefusalLemmas
+pub mod UniqueMethods
+pub mod UniquePrograms

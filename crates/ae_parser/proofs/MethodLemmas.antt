@@ -3,25 +3,25 @@ use Rattle.std.proofs.Common.{◌≡◌, ℕ, ◌++◌, List, [], ◌∷◌, Opt
 use Rattle.ae_text.specs.declared.token.Keyword.{Keyword}
 use Rattle.ae_text.specs.declared.token.Keyword.TheVariants as word
 use Rattle.ae_text.specs.declared.token.Sign.TheVariants as sign
-use Rattle.ae_code.specs.declared.lexeme.Lexeme.{Lexeme}
-use Rattle.ae_code.specs.declared.lexeme.Lexical.TheVariants as tok
-use Rattle.ae_code.specs.declared.limits.Limit.{Limit}
-use Rattle.ae_code.specs.declared.limits.Limit.TheVariants.{Statements, Levels, Depth, Params}
-use Rattle.ae_code.specs.declared.tree.NameAt.{NameAt}
-use Rattle.ae_code.specs.declared.tree.Ty.{Ty}
-use Rattle.ae_code.specs.declared.tree.Need.{Need}
-use Rattle.ae_code.specs.declared.tree.Need.TheVariants as need_of
-use Rattle.ae_code.specs.declared.tree.GroupNeed.{GroupNeed}
-use Rattle.ae_code.specs.Plain.{Lines, End, Definition}
-use Rattle.ae_code.specs.Grammar.{Tokens, Then, ◌⨾◌, one, separated, name, groups, type_, result, need_word, need, needs, body, IsOf, method}
-use Rattle.ae_code.specs.Limits.{KeepsBlock, HasFewParams, KeepsMethod}
+use Rattle.ae_tree.specs.declared.lexeme.Lexeme.{Lexeme}
+use Rattle.ae_tree.specs.declared.lexeme.Lexical.TheVariants as tok
+use Rattle.ae_tree.specs.declared.limits.Limit.{Limit}
+use Rattle.ae_tree.specs.declared.limits.Limit.TheVariants.{Statements, Levels, Depth, Params}
+use Rattle.ae_tree.specs.declared.tree.NameAt.{NameAt}
+use Rattle.ae_tree.specs.declared.tree.Ty.{Ty}
+use Rattle.ae_tree.specs.declared.tree.Need.{Need}
+use Rattle.ae_tree.specs.declared.tree.Need.TheVariants as need_of
+use Rattle.ae_tree.specs.declared.tree.GroupNeed.{GroupNeed}
+use Rattle.ae_tree.specs.Plain.{Lines, End, Definition}
+use Rattle.ae_tree.specs.Grammar.{Tokens, Then, ◌⨾◌, one, separated, name, groups, type_, result, need_word, need, needs, body, IsOf, method}
+use Rattle.ae_tree.specs.Limits.{KeepsBlock, HasFewParams, KeepsMethod}
 use Rattle.ae_reading.specs.declared.fail.Fail.{Fail}
 use Rattle.ae_reading.specs.Reads.{head, Always, Is, Free, Took, Failed, Mark, Isnt}
 use Rattle.ae_reading.proofs.ReadsLemmas.{Lang, Bound, Follow, Links, Both, Pair, Has, Along, took_as, failed_as, has_mark, has_both, has_name, at_once, nowhere, When, took_nothing}
 use Rattle.ae_reading.proofs.Begins.{not_both, opens_so, Opens, opens_one, opens_mark, opens_is, opens_other, of_other}
 use Rattle.ae_reading.proofs.Programs.{method_is}
 use Rattle.ae_statements.proofs.BlockLemmas.{none_few}
-use Rattle.ae_types.proofs.TypeLemmas.{NoLess, has_groups}
+use Rattle.ae_reading.proofs.TypeLemmas.{NoLess, has_groups}
 use Rattle.ae_parser.specs.declared.params.Given.{Given}
 use Rattle.ae_parser.specs.Productions.{BeginsType, HasMe, given, FewGiven, need_by, some_needs}
 use Rattle.ae_parser.proofs.ParamLemmas.{begins_type, no_type, has_given}

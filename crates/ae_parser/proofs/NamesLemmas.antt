@@ -8,12 +8,12 @@ use Rattle.indexmap.specs.IndexSet.{insert_key, insert_all}
 use Rattle.ae_text.specs.declared.token.TokenKind.{TokenKind}
 use Rattle.ae_text.specs.declared.token.TokenKind.TheVariants as k
 use Rattle.ae_text.specs.declared.token.Token.{Token}
-use Rattle.ae_code.specs.declared.lexeme.Lexical.{Lexical}
-use Rattle.ae_code.specs.declared.lexeme.Lexical.TheVariants as tok
-use Rattle.ae_code.specs.declared.lexeme.Lexeme.{Lexeme}
-use Rattle.ae_code.specs.Names.{spelled, spellings, first_names, names_of, number_of, lexical, lexeme, numbered}
-use Rattle.ae_code.specs.Grammar.{Tokens}
-use Rattle.ae_code.specs.Refused.{IsKnown, AreKnown}
+use Rattle.ae_tree.specs.declared.lexeme.Lexical.{Lexical}
+use Rattle.ae_tree.specs.declared.lexeme.Lexical.TheVariants as tok
+use Rattle.ae_tree.specs.declared.lexeme.Lexeme.{Lexeme}
+use Rattle.ae_tree.specs.Names.{spelled, spellings, first_names, names_of, number_of, lexical, lexeme, numbered}
+use Rattle.ae_tree.specs.Grammar.{Tokens}
+use Rattle.ae_tree.specs.Refused.{IsKnown, AreKnown}
 
 abbrev pub Words : Type 0
 Words = List (List ℕ)

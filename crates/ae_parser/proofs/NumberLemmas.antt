@@ -10,7 +10,7 @@ use Rattle.indexmap.specs.IndexSet.{insert_key, insert_all}
 use Rattle.ae_text.specs.declared.token.TokenKind.{TokenKind}
 use Rattle.ae_text.specs.declared.token.TokenKind.TheVariants as k
 use Rattle.ae_text.specs.declared.token.Token.{Token}
-use Rattle.ae_code.specs.Names.{spelled, spellings, number_of}
+use Rattle.ae_tree.specs.Names.{spelled, spellings, number_of}
 use Rattle.ae_parser.specs.Slices.{bytes_of}
 
 abbrev Slices : Type 0

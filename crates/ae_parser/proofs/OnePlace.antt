@@ -1,10 +1,10 @@
 -- A limit on expressions refuses one token at most behind the same tokens.
 use Rattle.std.proofs.Common.{◌≡◌, ℕ, ◌+◌, ◌≤◌, ◌++◌, [], ◌∷◌, length, sym, ap, ◌∙◌, subst, inl, inr, arith}
 use Rattle.std.specs.Prelude.{IsTrue, if◌then◌else◌}
-use Rattle.ae_code.specs.declared.lexeme.Lexeme.{Lexeme}
-use Rattle.ae_code.specs.declared.limits.Limit.TheVariants.{Depth}
-use Rattle.ae_code.specs.Grammar.{Tokens}
-use Rattle.ae_code.specs.Refused.{is_mark, marks_in, Is257th, IsPlaced}
+use Rattle.ae_tree.specs.declared.lexeme.Lexeme.{Lexeme}
+use Rattle.ae_tree.specs.declared.limits.Limit.TheVariants.{Depth}
+use Rattle.ae_tree.specs.Grammar.{Tokens}
+use Rattle.ae_tree.specs.Refused.{is_mark, marks_in, Is257th, IsPlaced}
 use Rattle.ae_parser.proofs.SideLemmas.{same_side}
 
 abbrev counted : Lexeme → ℕ

@@ -1,24 +1,24 @@
 -- What a method is given: how each production is read.
 use Rattle.std.proofs.Common.{◌≡◌, inl, inr, ℕ, ◌<◌, ◌≤◌, ◌++◌, List, [], ◌∷◌, length, Option, Some, None, refl, sym, ap, ◌∙◌, append_assoc, append-nil, subst, arith, length-append}
-use Rattle.ae_code.specs.Limits.{rank}
+use Rattle.ae_tree.specs.Limits.{rank}
 use Rattle.ae_text.specs.declared.refusal.Spot.{Spot}
 use Rattle.ae_text.specs.declared.token.Keyword.TheVariants as word
 use Rattle.ae_text.specs.declared.token.Sign.TheVariants as sign
-use Rattle.ae_code.specs.declared.lexeme.Lexeme.{Lexeme}
-use Rattle.ae_code.specs.declared.lexeme.Lexical.{Lexical}
-use Rattle.ae_code.specs.declared.lexeme.Lexical.TheVariants as tok
-use Rattle.ae_code.specs.declared.limits.Limit.{Limit}
-use Rattle.ae_code.specs.declared.limits.Limit.TheVariants.{Statements, Levels, Depth, Params}
-use Rattle.ae_code.specs.declared.tree.NameAt.{NameAt}
-use Rattle.ae_code.specs.declared.tree.PermAt.{PermAt}
-use Rattle.ae_code.specs.declared.tree.PermAt.TheVariants as perm_at
-use Rattle.ae_code.specs.declared.tree.KindAt.TheVariants as kind_at
-use Rattle.ae_code.specs.declared.tree.Ty.{Ty}
-use Rattle.ae_code.specs.declared.tree.Ty.TheVariants as ty
-use Rattle.ae_code.specs.declared.tree.Me.{Me}
-use Rattle.ae_code.specs.declared.tree.Param.{Param}
-use Rattle.ae_code.specs.Grammar.{Tokens, one_at, each, further, listed, name, permission, type_, away, param, me, parameters}
-use Rattle.ae_code.specs.Refused.{AreKnown, IsTypeWord}
+use Rattle.ae_tree.specs.declared.lexeme.Lexeme.{Lexeme}
+use Rattle.ae_tree.specs.declared.lexeme.Lexical.{Lexical}
+use Rattle.ae_tree.specs.declared.lexeme.Lexical.TheVariants as tok
+use Rattle.ae_tree.specs.declared.limits.Limit.{Limit}
+use Rattle.ae_tree.specs.declared.limits.Limit.TheVariants.{Statements, Levels, Depth, Params}
+use Rattle.ae_tree.specs.declared.tree.NameAt.{NameAt}
+use Rattle.ae_tree.specs.declared.tree.PermAt.{PermAt}
+use Rattle.ae_tree.specs.declared.tree.PermAt.TheVariants as perm_at
+use Rattle.ae_tree.specs.declared.tree.KindAt.TheVariants as kind_at
+use Rattle.ae_tree.specs.declared.tree.Ty.{Ty}
+use Rattle.ae_tree.specs.declared.tree.Ty.TheVariants as ty
+use Rattle.ae_tree.specs.declared.tree.Me.{Me}
+use Rattle.ae_tree.specs.declared.tree.Param.{Param}
+use Rattle.ae_tree.specs.Grammar.{Tokens, one_at, each, further, listed, name, permission, type_, away, param, me, parameters}
+use Rattle.ae_tree.specs.Refused.{AreKnown, IsTypeWord}
 use Rattle.ae_reading.specs.declared.fail.Fail.{Fail}
 use Rattle.ae_reading.specs.declared.fail.Fail.TheVariants.{Refused, Memory}
 use Rattle.ae_reading.specs.declared.fail.Why.{Why}
@@ -28,7 +28,7 @@ use Rattle.ae_reading.proofs.ReadsLemmas.{AreKnown-append, Lang, Bound, Follow, 
 use Rattle.ae_reading.proofs.Parts.{Commas, Parted, commas_go_on, no_comma, took_further, commas_link}
 use Rattle.ae_reading.proofs.Begins.{not_both, of_other, opens_so, begins_both, begins_not, Opens, opens_one, opens_at, opens_mark, opens_first, opens_other, opens_isnt, is_isnt}
 use Rattle.ae_reading.proofs.Runs.{each_chain, chain_each, has_none, Run, each-append, each-one, run_start, run_more, run_end, run_failed}
-use Rattle.ae_types.proofs.TypeLemmas.{NoLess, perm_word, begins_permission, has_type, has_permission}
+use Rattle.ae_reading.proofs.TypeLemmas.{NoLess, perm_word, begins_permission, has_type, has_permission}
 use Rattle.ae_parser.specs.declared.params.Given.{Given}
 use Rattle.ae_parser.specs.Productions.{BeginsType, NoType, given_away, AtMost, ParamNext, HasMe, given, FewGiven}
 

@@ -5,16 +5,16 @@ use Rattle.std.proofs.Math.Seq.{drop-append_seam, get_or-append_seam}
 use Rattle.ae_text.specs.Tokens.{IsWhole}
 use Rattle.ae_text.specs.declared.refusal.Rule.{Rule}
 use Rattle.ae_text.specs.declared.token.Token.{Token}
-use Rattle.ae_code.specs.declared.lexeme.Lexeme.{Lexeme}
-use Rattle.ae_code.specs.declared.lexeme.Lexical.TheVariants as tok
-use Rattle.ae_code.specs.declared.limits.Limit.{Limit}
-use Rattle.ae_code.specs.declared.limits.Limit.TheVariants.{Statements, Levels, Depth, Params}
-use Rattle.ae_code.specs.Plain.{Definition, Code}
-use Rattle.ae_code.specs.Names.{names_of, numbered}
-use Rattle.ae_code.specs.Grammar.{Tokens, Declaration, methods_of}
-use Rattle.ae_code.specs.Limits.{KeepsMethod, KeepsTo, IsNearly, Within, KeepsBefore}
+use Rattle.ae_tree.specs.declared.lexeme.Lexeme.{Lexeme}
+use Rattle.ae_tree.specs.declared.lexeme.Lexical.TheVariants as tok
+use Rattle.ae_tree.specs.declared.limits.Limit.{Limit}
+use Rattle.ae_tree.specs.declared.limits.Limit.TheVariants.{Statements, Levels, Depth, Params}
+use Rattle.ae_tree.specs.Plain.{Definition, Code}
+use Rattle.ae_tree.specs.Names.{names_of, numbered}
+use Rattle.ae_tree.specs.Grammar.{Tokens, Declaration, methods_of}
+use Rattle.ae_tree.specs.Limits.{KeepsMethod, KeepsTo, IsNearly, Within, KeepsBefore}
 use Rattle.std.specs.Prelude.{All}
-use Rattle.ae_code.specs.Refused.{Goes, GoesUpTo, Any, IsHead, CanPassAt, IsUnexpected, Passes, IsPlaced, IsOver, BreaksAt, IsRefused, AreKnown}
+use Rattle.ae_tree.specs.Refused.{Goes, GoesUpTo, Any, IsHead, CanPassAt, IsUnexpected, Passes, IsPlaced, IsOver, BreaksAt, IsRefused, AreKnown}
 use Rattle.ae_reading.specs.declared.fail.Why.{Why}
 use Rattle.ae_reading.specs.declared.fail.Why.TheVariants.{Unexpected, Over}
 use Rattle.ae_reading.specs.Reads.{head, Always, NoEnd, Counts, Larger, Stopped}

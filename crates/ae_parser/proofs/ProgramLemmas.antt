@@ -7,17 +7,17 @@ use Rattle.ae_text.specs.Tokens.{IsWhole}
 use Rattle.ae_text.specs.declared.token.Token.{Token}
 use Rattle.ae_text.specs.declared.token.TokenKind.{TokenKind}
 use Rattle.ae_text.specs.declared.token.TokenKind.TheVariants as kind
-use Rattle.ae_code.specs.declared.lexeme.Lexeme.{Lexeme}
-use Rattle.ae_code.specs.declared.lexeme.Lexical.TheVariants as tok
-use Rattle.ae_code.specs.declared.limits.Limit.{Limit}
-use Rattle.ae_code.specs.declared.tree.Class.{Class}
-use Rattle.ae_code.specs.declared.tree.Decl.{Decl}
-use Rattle.ae_code.specs.declared.tree.Program.{Program}
-use Rattle.ae_code.specs.Plain.{Definition, Code}
-use Rattle.ae_code.specs.Shown.{code, definition}
-use Rattle.ae_code.specs.Names.{names_of, numbered, lexeme, lexical}
-use Rattle.ae_code.specs.Grammar.{Tokens, one, Declaration, classes_of, methods_of, Derives}
-use Rattle.ae_code.specs.Limits.{KeepsMethod, Within}
+use Rattle.ae_tree.specs.declared.lexeme.Lexeme.{Lexeme}
+use Rattle.ae_tree.specs.declared.lexeme.Lexical.TheVariants as tok
+use Rattle.ae_tree.specs.declared.limits.Limit.{Limit}
+use Rattle.ae_tree.specs.declared.tree.Class.{Class}
+use Rattle.ae_tree.specs.declared.tree.Decl.{Decl}
+use Rattle.ae_tree.specs.declared.tree.Program.{Program}
+use Rattle.ae_tree.specs.Plain.{Definition, Code}
+use Rattle.ae_tree.specs.Shown.{code, definition}
+use Rattle.ae_tree.specs.Names.{names_of, numbered, lexeme, lexical}
+use Rattle.ae_tree.specs.Grammar.{Tokens, one, Declaration, classes_of, methods_of, Derives}
+use Rattle.ae_tree.specs.Limits.{KeepsMethod, Within}
 use Rattle.ae_reading.specs.declared.fail.Fail.{Fail}
 use Rattle.ae_reading.specs.declared.fail.Why.{Why}
 use Rattle.ae_reading.specs.declared.fail.Why.TheVariants.{Unexpected, Over}

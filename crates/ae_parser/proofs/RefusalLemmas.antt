@@ -7,15 +7,15 @@ use Rattle.ae_text.specs.declared.token.Token.{Token}
 use Rattle.ae_text.specs.declared.token.Keyword.{Keyword}
 use Rattle.ae_text.specs.declared.token.Keyword.TheVariants as word
 use Rattle.ae_text.specs.declared.token.Sign.TheVariants as sign
-use Rattle.ae_code.specs.declared.lexeme.Lexeme.{Lexeme}
-use Rattle.ae_code.specs.declared.lexeme.Lexical.{Lexical}
-use Rattle.ae_code.specs.declared.lexeme.Lexical.TheVariants as tok
-use Rattle.ae_code.specs.declared.limits.Limit.{Limit}
-use Rattle.ae_code.specs.declared.limits.Limit.TheVariants as limit
-use Rattle.ae_code.specs.Plain.{Code}
-use Rattle.ae_code.specs.Grammar.{Tokens, Derives}
-use Rattle.ae_code.specs.Limits.{KeepsTo, rank, IsNearly, Within}
-use Rattle.ae_code.specs.Refused.{Goes, Any, GoesUpTo, IsHead, OpensBlock, IsTypeWord, NoOpen, CanPassAt, lexemes, IsUnexpected, Passes, IsPlaced, IsOver, BreaksAt}
+use Rattle.ae_tree.specs.declared.lexeme.Lexeme.{Lexeme}
+use Rattle.ae_tree.specs.declared.lexeme.Lexical.{Lexical}
+use Rattle.ae_tree.specs.declared.lexeme.Lexical.TheVariants as tok
+use Rattle.ae_tree.specs.declared.limits.Limit.{Limit}
+use Rattle.ae_tree.specs.declared.limits.Limit.TheVariants as limit
+use Rattle.ae_tree.specs.Plain.{Code}
+use Rattle.ae_tree.specs.Grammar.{Tokens, Derives}
+use Rattle.ae_tree.specs.Limits.{KeepsTo, rank, IsNearly, Within}
+use Rattle.ae_tree.specs.Refused.{Goes, Any, GoesUpTo, IsHead, OpensBlock, IsTypeWord, NoOpen, CanPassAt, lexemes, IsUnexpected, Passes, IsPlaced, IsOver, BreaksAt}
 use Rattle.ae_parser.specs.Laws.{IsOneRefusal, NoProgramIsRefused}
 use Rattle.ae_parser.proofs.OnePlace.{one_place}
 

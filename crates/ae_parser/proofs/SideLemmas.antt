@@ -3,12 +3,12 @@ use Rattle.std.proofs.Common.{◌≡◌, ℕ, ◌+◌, ◌-◌, ◌<◌, ◌≤�
 use Rattle.std.proofs.lemmas.Bool.{false≢true}
 use Rattle.std.specs.Prelude.{◌⊎◌, false, IsTrue, if◌then◌else◌}
 use Rattle.ae_text.specs.declared.token.Sign.TheVariants as sign
-use Rattle.ae_code.specs.declared.lexeme.Lexeme.{Lexeme}
-use Rattle.ae_code.specs.declared.lexeme.Lexical.{Lexical}
-use Rattle.ae_code.specs.declared.lexeme.Lexical.TheVariants as tok
-use Rattle.ae_code.specs.declared.limits.Limit.TheVariants.{Depth}
-use Rattle.ae_code.specs.Grammar.{Tokens}
-use Rattle.ae_code.specs.Refused.{is_open, is_mark, marks_in, AreOpen, OpenSide, Is257th, IsPlaced}
+use Rattle.ae_tree.specs.declared.lexeme.Lexeme.{Lexeme}
+use Rattle.ae_tree.specs.declared.lexeme.Lexical.{Lexical}
+use Rattle.ae_tree.specs.declared.lexeme.Lexical.TheVariants as tok
+use Rattle.ae_tree.specs.declared.limits.Limit.TheVariants.{Depth}
+use Rattle.ae_tree.specs.Grammar.{Tokens}
+use Rattle.ae_tree.specs.Refused.{is_open, is_mark, marks_in, AreOpen, OpenSide, Is257th, IsPlaced}
 use Rattle.ae_parser.specs.declared.places.Side.{Side}
 use Rattle.ae_parser.specs.declared.places.Side.TheVariants.{Closed, Few, Many}
 use Rattle.ae_parser.specs.Sides.{HasFew, HasMany, Describes, Grows, IsOpenMark}

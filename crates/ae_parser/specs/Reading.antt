@@ -2,13 +2,13 @@
 use Rattle.std.specs.Prelude.{◌≡◌, ℕ, ◌+◌, List, Result, Ok, Err, All, map}
 use Rattle.ae_text.specs.declared.refusal.Rule.{Rule}
 use Rattle.ae_text.specs.declared.refusal.Rule.TheVariants as rule
-use Rattle.ae_code.specs.declared.lexeme.Lexical.TheVariants as tok
-use Rattle.ae_code.specs.declared.limits.Limit.{Limit}
-use Rattle.ae_code.specs.declared.limits.Limit.TheVariants as limit
-use Rattle.ae_code.specs.Shown as shown
-use Rattle.ae_code.specs.Grammar.{Tokens, ◌⨾◌, Declaration, declarations, classes_of, methods_of, decls_of}
-use Rattle.ae_code.specs.Limits.{KeepsMethod}
-use Rattle.ae_code.specs.Refused.{IsPlaced}
+use Rattle.ae_tree.specs.declared.lexeme.Lexical.TheVariants as tok
+use Rattle.ae_tree.specs.declared.limits.Limit.{Limit}
+use Rattle.ae_tree.specs.declared.limits.Limit.TheVariants as limit
+use Rattle.ae_tree.specs.Shown as shown
+use Rattle.ae_tree.specs.Grammar.{Tokens, ◌⨾◌, Declaration, declarations, classes_of, methods_of, decls_of}
+use Rattle.ae_tree.specs.Limits.{KeepsMethod}
+use Rattle.ae_tree.specs.Refused.{IsPlaced}
 use Rattle.ae_reading.specs.declared.fail.Why.{Why}
 use Rattle.ae_reading.specs.declared.fail.Why.TheVariants.{Unexpected, Over}
 use Rattle.ae_reading.specs.declared.fail.Fail.{Fail}

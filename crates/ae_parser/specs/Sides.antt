@@ -1,9 +1,9 @@
 -- The right side that tokens end with, where it may still become an expression or a call.
 use Rattle.std.specs.Prelude.{◌≡◌, ◌≤◌, ℕ, ◌+◌, ◌++◌, [], ◌∷◌, length, IsTrue}
-use Rattle.ae_code.specs.declared.lexeme.Lexical.{Lexical}
-use Rattle.ae_code.specs.declared.lexeme.Lexeme.{Lexeme}
-use Rattle.ae_code.specs.Grammar.{Tokens}
-use Rattle.ae_code.specs.Refused.{is_open, is_mark, marks_in, OpenSide, Is257th}
+use Rattle.ae_tree.specs.declared.lexeme.Lexical.{Lexical}
+use Rattle.ae_tree.specs.declared.lexeme.Lexeme.{Lexeme}
+use Rattle.ae_tree.specs.Grammar.{Tokens}
+use Rattle.ae_tree.specs.Refused.{is_open, is_mark, marks_in, OpenSide, Is257th}
 use Rattle.ae_parser.specs.declared.places.Side.{Side}
 use Rattle.ae_parser.specs.declared.places.Side.TheVariants.{Closed, Few, Many}
 

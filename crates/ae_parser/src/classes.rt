@@ -1,18 +1,17 @@
 // Classes with their methods.
 ghost use Rattle.std.specs.Prelude.{◌≡◌, ◌≤◌, ◌+◌, length, map, IfOk};
 ghost use Rattle.ae_text.specs.declared.token.Keyword.TheVariants as word;
-ghost use Rattle.ae_code.specs.declared.lexeme.Lexical.TheVariants as tok;
-ghost use Rattle.ae_code.specs.Shown as shown;
-ghost use Rattle.ae_code.specs.Grammar as grammar;
+ghost use Rattle.ae_tree.specs.declared.lexeme.Lexical.TheVariants as tok;
+ghost use Rattle.ae_tree.specs.Shown as shown;
+ghost use Rattle.ae_tree.specs.Grammar as grammar;
 ghost use Rattle.ae_reading.specs.Reads.{Reads, itself, Always, Free, Isnt};
 ghost use Rattle.ae_parser.specs.Productions.{NoType, AllKeep, KeepsOne, shown_class, class_at};
 
 use crate::methods::method;
 use crate::params::is_type_next;
-use ae_code::{Class, Field, Lexeme, Method};
-use ae_reading::{Fail, expect_sign, expect_word, is_word_next, name};
+use ae_tree::{Class, Field, Lexeme, Method};
+use ae_reading::{expect_sign, expect_word, Fail, groups, is_word_next, name, type_};
 use ae_text::{Items, Keyword, Sign};
-use ae_types::{groups, type_};
 use std::alloc::{AllocError, Global};
 
 /// A class, and the methods in it.

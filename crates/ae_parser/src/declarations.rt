@@ -1,12 +1,12 @@
 // Classes and methods, one after another.
 ghost use Rattle.std.specs.Prelude.{◌≡◌, ◌≤◌, ◌+◌, length};
-ghost use Rattle.ae_code.specs.Grammar as grammar;
+ghost use Rattle.ae_tree.specs.Grammar as grammar;
 ghost use Rattle.ae_parser.specs.Reading.{ReadsAll};
 ghost use Rattle.ae_parser.specs.Productions.{ReadsOne, class_at, method_at};
 
 use crate::classes::{WithMethods, class};
 use crate::methods::method;
-use ae_code::{Class, Decl, Lexeme, Method};
+use ae_tree::{Class, Decl, Lexeme, Method};
 use ae_reading::{Fail, is_end_next, is_word_next};
 use ae_text::{Items, Keyword};
 use std::alloc::Global;

@@ -1,5 +1,10 @@
-// What holds of refusals.
-ghost use Rattle.ae_parser.specs.Laws.{IsOneRefusal, NoProgramIsRefused};
+// What holds of the grammar and of refusals.
+ghost use Rattle.ae_parser.specs.Laws.{IsOneProgram, IsOneRefusal, NoProgramIsRefused};
+
+/// The tokens of a source stand for one program at most.
+pub fn tokens_stand_for_one_program()
+    ensures { IsOneProgram }
+{}
 
 /// Tokens are refused by one rule at one place at most.
 pub fn refusals_are_unique()

@@ -11,5 +11,5 @@ mod params;
 mod places;
 mod program;
 
-pub use laws::{programs_are_not_refused, refusals_are_unique};
+pub use laws::{programs_are_not_refused, refusals_are_unique, tokens_stand_for_one_program};
 pub use program::parse;

@@ -1,19 +1,18 @@
 // Methods.
 ghost use Rattle.std.specs.Prelude.{◌≤◌, length};
 ghost use Rattle.ae_text.specs.declared.token.Sign.TheVariants as sign;
-ghost use Rattle.ae_code.specs.declared.lexeme.Lexical.TheVariants as tok;
-ghost use Rattle.ae_code.specs.Shown as shown;
-ghost use Rattle.ae_code.specs.Grammar as grammar;
-ghost use Rattle.ae_code.specs.Limits.{KeepsMethod};
+ghost use Rattle.ae_tree.specs.declared.lexeme.Lexical.TheVariants as tok;
+ghost use Rattle.ae_tree.specs.Shown as shown;
+ghost use Rattle.ae_tree.specs.Grammar as grammar;
+ghost use Rattle.ae_tree.specs.Limits.{KeepsMethod};
 ghost use Rattle.ae_reading.specs.Reads.{Reads, itself, Always, Free, Isnt};
 
 use crate::needs::needs;
 use crate::params::{Given, read_given};
-use ae_code::{Lexeme, Method, Ty};
-use ae_reading::{Fail, expect_sign, expect_word, is_word_next, name};
+use ae_tree::{Lexeme, Method, Ty};
+use ae_reading::{expect_sign, expect_word, Fail, groups, is_word_next, name, type_};
 use ae_statements::body;
 use ae_text::{Keyword, Sign};
-use ae_types::{groups, type_};
 use std::alloc::Global;
 
 /// `void`, or the type of what a method returns.

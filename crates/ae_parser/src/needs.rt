@@ -1,15 +1,14 @@
 // What a method needs of its groups.
 ghost use Rattle.std.specs.Prelude.{◌≡◌};
 ghost use Rattle.ae_text.specs.declared.token.Sign.TheVariants as sign;
-ghost use Rattle.ae_code.specs.declared.lexeme.Lexical.TheVariants as tok;
-ghost use Rattle.ae_code.specs.Grammar as grammar;
+ghost use Rattle.ae_tree.specs.declared.lexeme.Lexical.TheVariants as tok;
+ghost use Rattle.ae_tree.specs.Grammar as grammar;
 ghost use Rattle.ae_reading.specs.Reads.{Reads, itself, Always, Free, Is};
 ghost use Rattle.ae_parser.specs.Productions as productions;
 
-use ae_code::{GroupNeed, Lexeme, Need};
-use ae_reading::{Fail, expect_sign, expect_word, is_sign_next, is_word_next, name};
+use ae_tree::{GroupNeed, Lexeme, Need};
+use ae_reading::{expect_sign, expect_word, Fail, in_front, is_sign_next, is_word_next, name};
 use ae_text::{Items, Keyword, Sign};
-use ae_types::in_front;
 use std::alloc::Global;
 
 fn need_by<'a>(

@@ -2,10 +2,10 @@
 ghost use Rattle.std.specs.Prelude.{◌≡◌, ◌≤◌, ◌+◌, length, [], ◌∷◌, IfOk, OnOk};
 ghost use Rattle.std.specs.Str.{bytes_eq};
 ghost use Rattle.indexmap.specs.IndexSet.{insert_all};
-ghost use Rattle.ae_code.specs.Names.{names_of, numbered, spelled, number_of, lexical, first_names};
+ghost use Rattle.ae_tree.specs.Names.{names_of, numbered, spelled, number_of, lexical, first_names};
 ghost use Rattle.ae_parser.specs.Slices.{bytes_of};
 
-use ae_code::{Lexeme, Lexical};
+use ae_tree::{Lexeme, Lexical};
 use ae_text::{Items, Token, TokenKind};
 use indexmap::IndexSet;
 use std::alloc::{AllocError, Global};

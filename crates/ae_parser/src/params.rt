@@ -1,16 +1,15 @@
 // What a method is given.
 ghost use Rattle.std.specs.Prelude.{◌≡◌, MatchBool};
 ghost use Rattle.ae_text.specs.declared.token.Sign.TheVariants as sign;
-ghost use Rattle.ae_code.specs.declared.lexeme.Lexical.TheVariants as tok;
-ghost use Rattle.ae_code.specs.Grammar as grammar;
+ghost use Rattle.ae_tree.specs.declared.lexeme.Lexical.TheVariants as tok;
+ghost use Rattle.ae_tree.specs.Grammar as grammar;
 ghost use Rattle.ae_reading.specs.Reads.{Reads, itself, Always, Free, Is, Isnt, head};
 ghost use Rattle.ae_parser.specs.Productions as productions;
 ghost use Rattle.ae_parser.specs.Productions.{BeginsType, NoType, AtMost, FewGiven, ParamNext};
 
-use ae_code::{Lexeme, Limit, Me, Param};
-use ae_reading::{Fail, Why, expect_sign, expect_word, is_sign_next, is_word_next, name};
+use ae_tree::{Lexeme, Limit, Me, Param};
+use ae_reading::{expect_sign, expect_word, Fail, in_front, is_sign_next, is_word_next, name, permission, type_, Why};
 use ae_text::{Items, Keyword, Sign, Spot};
-use ae_types::{in_front, permission, type_};
 use std::alloc::Global;
 
 /// How many parameters may stand behind the first one, or behind the receiver.

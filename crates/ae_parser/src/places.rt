@@ -1,12 +1,12 @@
 // Where the token stands that a limit on expressions refuses.
 ghost use Rattle.std.specs.Prelude.{◌≡◌, ◌↔◌, true, IsTrue};
-ghost use Rattle.ae_code.specs.Refused as refused;
-ghost use Rattle.ae_code.specs.Refused.{IsPlaced};
+ghost use Rattle.ae_tree.specs.Refused as refused;
+ghost use Rattle.ae_tree.specs.Refused.{IsPlaced};
 ghost use Rattle.ae_reading.specs.Reads.{Always, Stopped, Failed};
 ghost use Rattle.ae_parser.specs.Sides.{Describes, Grows, IsOpenMark};
 ghost use Rattle.ae_parser.specs.Reading.{whole_program, KeepsAllWhole, Stands, Refuses, Placed};
 
-use ae_code::{Lexeme, Lexical, Limit};
+use ae_tree::{Lexeme, Lexical, Limit};
 use ae_reading::{Fail, Why};
 use ae_text::{Keyword, Sign};
 

@@ -1,18 +1,18 @@
 // Whole programs, and the place of a refusal.
 ghost use Rattle.std.specs.Prelude.{◌≡◌, ◌≤◌, length, IfOk, IfErr, MatchResult};
 ghost use Rattle.ae_text.specs.Tokens.{IsWhole};
-ghost use Rattle.ae_code.specs.Plain.{Code};
-ghost use Rattle.ae_code.specs.Names.{names_of, numbered};
-ghost use Rattle.ae_code.specs.Shown.{code};
-ghost use Rattle.ae_code.specs.Grammar.{Derives};
-ghost use Rattle.ae_code.specs.Limits.{Within};
-ghost use Rattle.ae_code.specs.Refused.{IsRefused, IsDenied};
+ghost use Rattle.ae_tree.specs.Plain.{Code};
+ghost use Rattle.ae_tree.specs.Names.{names_of, numbered};
+ghost use Rattle.ae_tree.specs.Shown.{code};
+ghost use Rattle.ae_tree.specs.Grammar.{Derives};
+ghost use Rattle.ae_tree.specs.Limits.{Within};
+ghost use Rattle.ae_tree.specs.Refused.{IsRefused, IsDenied};
 ghost use Rattle.ae_parser.specs.Reading.{Refuses, Placed, rule_of};
 
 use crate::declarations::{Parts, read_all_declarations};
 use crate::numbers::{Numbered, number_names};
 use crate::places::placed;
-use ae_code::{Limit, Program};
+use ae_tree::{Limit, Program};
 use ae_reading::{Fail, Why};
 use ae_text::{Deny, Refusal, Rule, Token};
 use std::alloc::Global;

@@ -1,10 +1,10 @@
 -- The first token of a tree, and what may come next.
 use Rattle.std.proofs.Common.{◌≡◌, ℕ, ◌++◌, Option, Some, None, refl, sym, ap, ◌∙◌, append_assoc, subst}
 use Rattle.ae_text.specs.declared.refusal.Spot.{Spot}
-use Rattle.ae_code.specs.declared.lexeme.Lexeme.{Lexeme}
-use Rattle.ae_code.specs.declared.lexeme.Lexical.{Lexical}
-use Rattle.ae_code.specs.declared.lexeme.Lexical.TheVariants.{Name}
-use Rattle.ae_code.specs.Grammar.{Tokens, ◌⨾◌, Then, one_at, one, name}
+use Rattle.ae_tree.specs.declared.lexeme.Lexeme.{Lexeme}
+use Rattle.ae_tree.specs.declared.lexeme.Lexical.{Lexical}
+use Rattle.ae_tree.specs.declared.lexeme.Lexical.TheVariants.{Name}
+use Rattle.ae_tree.specs.Grammar.{Tokens, ◌⨾◌, Then, one_at, one, name}
 use Rattle.ae_reading.specs.Reads.{head, Is, Isnt, IsName, Token, Mark}
 use Rattle.ae_reading.proofs.ReadsLemmas.{Lang, Follow, Links, NoneAt}
 

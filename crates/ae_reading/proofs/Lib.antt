@@ -3,7 +3,10 @@ pub mod Begins
 pub mod Chains
 pub mod Runs
 pub mod Parts
-pub mod Paths
+pub mod PathLemmas
 pub mod UniqueLemmas
 pub mod UniquePaths
 pub mod Programs
+pub mod PartLemmas
+pub mod TypeLemmas
+pub mod UniqueTypes

@@ -1,11 +1,11 @@
 -- A program as a list of declarations, and its methods and classes as those of the list.
 use Rattle.std.proofs.Common.{◌≡◌, ℕ, ◌+◌, List, [], ◌∷◌, length, Option, Some, None, ap, ◌∙◌}
 use Rattle.ae_text.specs.declared.token.Token.{Token as SourceToken}
-use Rattle.ae_code.specs.declared.tree.Class.{Class}
-use Rattle.ae_code.specs.declared.tree.Decl.{Decl}
-use Rattle.ae_code.specs.Plain.{Definition, Code}
-use Rattle.ae_code.specs.Names.{names_of}
-use Rattle.ae_code.specs.Grammar.{Tokens, IsOf, Declaration, declaration, classes_in, methods_in, declarations, decls_of, classes_of, methods_of, Derives}
+use Rattle.ae_tree.specs.declared.tree.Class.{Class}
+use Rattle.ae_tree.specs.declared.tree.Decl.{Decl}
+use Rattle.ae_tree.specs.Plain.{Definition, Code}
+use Rattle.ae_tree.specs.Names.{names_of}
+use Rattle.ae_tree.specs.Grammar.{Tokens, IsOf, Declaration, declaration, classes_in, methods_in, declarations, decls_of, classes_of, methods_of, Derives}
 use Rattle.ae_reading.specs.Reads.{chain}
 use Rattle.ae_reading.proofs.ReadsLemmas.{Lang}
 

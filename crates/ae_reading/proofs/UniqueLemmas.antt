@@ -1,9 +1,9 @@
 -- Tokens stand for one tree at most: sequences, choices, loops and optional parts.
 use Rattle.std.proofs.Common.{◌≡◌, ◌++◌, List, [], ◌∷◌, Option, Some, None, refl, sym, ap, ◌∙◌, append_assoc, subst}
 use Rattle.ae_text.specs.declared.refusal.Spot.{Spot}
-use Rattle.ae_code.specs.declared.lexeme.Lexeme.{Lexeme}
-use Rattle.ae_code.specs.declared.lexeme.Lexical.{Lexical}
-use Rattle.ae_code.specs.Grammar.{Tokens, each, further, separated, listed, name}
+use Rattle.ae_tree.specs.declared.lexeme.Lexeme.{Lexeme}
+use Rattle.ae_tree.specs.declared.lexeme.Lexical.{Lexical}
+use Rattle.ae_tree.specs.Grammar.{Tokens, each, further, separated, listed, name}
 use Rattle.ae_reading.specs.Reads.{head, Always, Is, Isnt, Token, Mark, chain}
 use Rattle.ae_reading.proofs.ReadsLemmas.{Lang, Follow, Both, After, Links, name_token, name_of_token}
 use Rattle.ae_reading.proofs.Begins.{Begins, begins_as, begins_mark, links_by, of_kind, is_isnt}

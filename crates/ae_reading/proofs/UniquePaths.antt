@@ -3,15 +3,15 @@ use Rattle.std.proofs.Common.{◌≡◌, ◌++◌, ◌∷◌, refl, sym, ap, ◌
 use Rattle.std.specs.Prelude.{◌⊎◌}
 use Rattle.ae_text.specs.declared.token.Keyword.TheVariants as word
 use Rattle.ae_text.specs.declared.token.Sign.TheVariants as sign
-use Rattle.ae_code.specs.declared.lexeme.Lexeme.{Lexeme}
-use Rattle.ae_code.specs.declared.lexeme.Lexical.TheVariants as tok
-use Rattle.ae_code.specs.declared.tree.NameAt.{NameAt}
-use Rattle.ae_code.specs.Grammar.{Tokens, each, name, root, step, path}
+use Rattle.ae_tree.specs.declared.lexeme.Lexeme.{Lexeme}
+use Rattle.ae_tree.specs.declared.lexeme.Lexical.TheVariants as tok
+use Rattle.ae_tree.specs.declared.tree.NameAt.{NameAt}
+use Rattle.ae_tree.specs.Grammar.{Tokens, each, name, root, step, path}
 use Rattle.ae_reading.specs.Reads.{Always, Is, Isnt, IsName, Token, Mark}
 use Rattle.ae_reading.proofs.ReadsLemmas.{Follow, Both, name_token}
 use Rattle.ae_reading.proofs.UniqueLemmas.{Unique, apart_by, unique_at, unique_name, unique_mark, unique_then, unique_both, unique_each, unique_as}
 use Rattle.ae_reading.proofs.Begins.{Begins, begins_name, begins_token, begins_mark, begins_both, is_isnt}
-use Rattle.ae_reading.proofs.Paths.{dot, path_of}
+use Rattle.ae_reading.proofs.PathLemmas.{dot, path_of}
 
 -- what a path begins with
 abbrev pub IsRoot : Follow

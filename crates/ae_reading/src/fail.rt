@@ -1,5 +1,5 @@
 // Why a step of the parser gave no tree.
-use ae_code::Limit;
+use ae_tree::Limit;
 use std::alloc::AllocError;
 
 /// What is wrong with a token.

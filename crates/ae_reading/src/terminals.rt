@@ -1,10 +1,10 @@
 // Single tokens.
 ghost use Rattle.std.specs.Prelude.{◌≡◌, ◌≢◌, [], ◌∷◌, length, Err, MatchOption, MatchBool};
-ghost use Rattle.ae_code.specs.Grammar as grammar;
+ghost use Rattle.ae_tree.specs.Grammar as grammar;
 ghost use Rattle.ae_reading.specs.Reads.{Reads, itself, Always, Free, Is, IsName, Token, head};
 
 use crate::fail::{Fail, Why};
-use ae_code::{Lexeme, Lexical, NameAt};
+use ae_tree::{Lexeme, Lexical, NameAt};
 use ae_text::{Keyword, Sign, Spot};
 
 /// The next token, and those behind it.

@@ -4,21 +4,21 @@ use Rattle.std.specs.Prelude.{is_some, option_map}
 use Rattle.ae_text.specs.declared.refusal.Spot.{Spot}
 use Rattle.ae_text.specs.declared.refusal.Rule.{Rule}
 use Rattle.ae_text.specs.declared.refusal.Rule.TheVariants as rule
-use Rattle.ae_code.specs.declared.form.Form.{Form}
-use Rattle.ae_code.specs.declared.form.Form.TheVariants as f
-use Rattle.ae_code.specs.declared.tree.NameAt.{NameAt}
-use Rattle.ae_code.specs.declared.tree.Ty.TheVariants as ty
-use Rattle.ae_code.specs.declared.tree.Op.{Op}
-use Rattle.ae_code.specs.declared.tree.Op.TheVariants as op
-use Rattle.ae_code.specs.declared.tree.Need.TheVariants as need_of
-use Rattle.ae_code.specs.declared.tree.Decl.TheVariants as decl
-use Rattle.ae_code.specs.Names.{io, main, this}
-use Rattle.ae_code.specs.Grammar.{level, Declaration, OfClass, OfMethod, classes_of, methods_of, decls_of}
-use Rattle.ae_code.specs.Plain.{Expression, Number, Truth, Nothing, Read, Item, Length, Grouped, Negated, Minus, Binary, RightSide, Value, Taken, Zeros, Made, Returned, Lines, End, Next, Definition, Code}
-use Rattle.ae_code.specs.Plain.{Action, Declares, Assigns, Stores, StoresAt, Calls, Chooses, ChoosesElse, Repeats, Groups, Splits, Locks, Freezes, Shares, Prints, PrintsText, Asserts, Returns}
-use Rattle.ae_code.specs.Built.{IsBuiltExpression, IsBuiltRight, IsBuiltAction, AreBuilt, IsMain, Built}
-use Rattle.ae_code.specs.Judgement.{Scope, nobody, and_also, then_judge, visible, free, judge_expression, judge_right as judge_right_small, judge_action, judge, judge_methods, IsHeld}
-use Rattle.ae_code.specs.Judgement.{Verdict as Small, Holds as Fits, Broken as Fails}
+use Rattle.ae_tree.specs.declared.form.Form.{Form}
+use Rattle.ae_tree.specs.declared.form.Form.TheVariants as f
+use Rattle.ae_tree.specs.declared.tree.NameAt.{NameAt}
+use Rattle.ae_tree.specs.declared.tree.Ty.TheVariants as ty
+use Rattle.ae_tree.specs.declared.tree.Op.{Op}
+use Rattle.ae_tree.specs.declared.tree.Op.TheVariants as op
+use Rattle.ae_tree.specs.declared.tree.Need.TheVariants as need_of
+use Rattle.ae_tree.specs.declared.tree.Decl.TheVariants as decl
+use Rattle.ae_tree.specs.Names.{io, main, this}
+use Rattle.ae_tree.specs.Grammar.{level, Declaration, OfClass, OfMethod, classes_of, methods_of, decls_of}
+use Rattle.ae_tree.specs.Plain.{Expression, Number, Truth, Nothing, Read, Item, Length, Grouped, Negated, Minus, Binary, RightSide, Value, Taken, Zeros, Made, Returned, Lines, End, Next, Definition, Code}
+use Rattle.ae_tree.specs.Plain.{Action, Declares, Assigns, Stores, StoresAt, Calls, Chooses, ChoosesElse, Repeats, Groups, Splits, Locks, Freezes, Shares, Prints, PrintsText, Asserts, Returns}
+use Rattle.ae_tree.specs.Built.{IsBuiltExpression, IsBuiltRight, IsBuiltAction, AreBuilt, IsMain, Built}
+use Rattle.ae_tree.specs.Judgement.{Scope, nobody, and_also, then_judge, visible, free, judge_expression, judge_right as judge_right_small, judge_action, judge, judge_methods, IsHeld}
+use Rattle.ae_tree.specs.Judgement.{Verdict as Small, Holds as Fits, Broken as Fails}
 use Rattle.ae_rules.specs.declared.held.Held.TheVariants as held
 use Rattle.ae_rules.specs.declared.held.GroupPerm.{GroupPerm}
 use Rattle.ae_rules.specs.declared.held.GroupPerm.TheVariants as group

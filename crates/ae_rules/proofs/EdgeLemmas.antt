@@ -1,10 +1,10 @@
 -- Edges and chains of edges.
 use Rattle.std.proofs.Common.{◌≡◌, ◌<◌, ◌+◌, ◌-◌, ◌⊎◌, inl, inr, refl, subst, sym, arith, ℕ, zero, suc, true, false, Option, None, Some}
 use Rattle.std.proofs.lemmas.Bool.{cases_order}
-use Rattle.ae_code.specs.declared.uses.Resource.{Resource}
-use Rattle.ae_code.specs.declared.uses.Mode.{Mode}
-use Rattle.ae_code.specs.declared.uses.Mode.TheVariants.{Read, Write, GroupShared, GroupWhole}
-use Rattle.ae_code.specs.Edges.{are_compatible, is_strong, IsConflict, IsWeak, BlockUses, Edge, Before, Direct, Through}
+use Rattle.ae_rules.specs.declared.uses.Resource.{Resource}
+use Rattle.ae_rules.specs.declared.uses.Mode.{Mode}
+use Rattle.ae_rules.specs.declared.uses.Mode.TheVariants.{Read, Write, GroupShared, GroupWhole}
+use Rattle.ae_rules.specs.Edges.{are_compatible, is_strong, IsConflict, IsWeak, BlockUses, Edge, Before, Direct, Through}
 use Rattle.ae_rules.specs.EdgeLaws.{EdgesGoForward, ChainsGoForward, ConflictsAreOrdered}
 
 pub edges_go_forward : EdgesGoForward

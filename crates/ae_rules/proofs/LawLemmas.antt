@@ -4,8 +4,8 @@ use Rattle.std.proofs.lemmas.Bool.{eq-eqb}
 use Rattle.std.proofs.lemmas.Bool.Decides.{nat_tests}
 use Rattle.ae_text.specs.declared.refusal.Spot.{Spot}
 use Rattle.ae_text.specs.declared.refusal.Rule.{Rule}
-use Rattle.ae_code.specs.declared.form.Perm.{Perm}
-use Rattle.ae_code.specs.declared.form.Perm.TheVariants as need
+use Rattle.ae_tree.specs.declared.form.Perm.{Perm}
+use Rattle.ae_tree.specs.declared.form.Perm.TheVariants as need
 use Rattle.ae_rules.specs.declared.held.Held.{Held}
 use Rattle.ae_rules.specs.declared.held.Held.TheVariants as held
 use Rattle.ae_rules.specs.Verdict.{Verdict, Holds, Broken}

@@ -6,12 +6,12 @@ use Rattle.std.proofs.lemmas.List.{append-nil}
 use Rattle.std.proofs.lemmas.Bool.{cases_order}
 use Rattle.std.proofs.lemmas.Bool.Decides.{nat_tests}
 use Rattle.std.proofs.lemmas.List.Elements.{Contains-append_left, Contains-append_right, Contains-append_cases}
-use Rattle.ae_code.specs.declared.uses.Resource.{Resource}
-use Rattle.ae_code.specs.declared.uses.Resource.TheVariants as resource
-use Rattle.ae_code.specs.declared.uses.Mode.{Mode}
-use Rattle.ae_code.specs.Edges.{are_compatible, is_strong, IsConflict, IsWeak, IsRising, BlockUses, Edge}
+use Rattle.ae_rules.specs.declared.uses.Resource.{Resource}
+use Rattle.ae_rules.specs.declared.uses.Resource.TheVariants as resource
+use Rattle.ae_rules.specs.declared.uses.Mode.{Mode}
+use Rattle.ae_rules.specs.Edges.{are_compatible, is_strong, IsConflict, IsWeak, IsRising, BlockUses, Edge}
 use Rattle.ae_rules.specs.Context.{all_below}
-use Rattle.ae_rules.specs.Edges.{conflicts, is_weak, edge_on, any_below, is_edge, those_below}
+use Rattle.ae_rules.specs.EdgeLists.{conflicts, is_weak, edge_on, any_below, is_edge, those_below}
 use Rattle.ae_rules.specs.EdgeLaws.{name_of, NamesBelow, PredsAreEdges}
 
 -- ---- tests

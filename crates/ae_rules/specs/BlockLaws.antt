@@ -1,12 +1,12 @@
 -- What follows from the rules on the blocks of a program and on the contexts in them.
 use Rattle.std.specs.Prelude.{◌≡◌, ℕ, nat_eq, Bool, true, false, if◌then◌else◌, List, [], ◌∷◌, ◌++◌, length, map, Option, Some, option_map}
 use Rattle.std.specs.List.{All}
-use Rattle.ae_code.specs.Limits.{count}
+use Rattle.ae_tree.specs.Limits.{count}
 use Rattle.ae_text.specs.declared.refusal.Spot.{Spot}
-use Rattle.ae_code.specs.declared.tree.NameAt.{NameAt}
-use Rattle.ae_code.specs.declared.form.Form.{Form}
-use Rattle.ae_code.specs.Form.{form}
-use Rattle.ae_code.specs.Plain.{Action, Declares, Groups, Lines, End, Next, Definition, Code}
+use Rattle.ae_tree.specs.declared.tree.NameAt.{NameAt}
+use Rattle.ae_tree.specs.declared.form.Form.{Form}
+use Rattle.ae_tree.specs.Form.{form}
+use Rattle.ae_tree.specs.Plain.{Action, Declares, Groups, Lines, End, Next, Definition, Code}
 use Rattle.ae_rules.specs.Lookups.{method_at}
 use Rattle.ae_rules.specs.Verdict.{Holds, in_turn}
 use Rattle.ae_rules.specs.Groups.{declare}

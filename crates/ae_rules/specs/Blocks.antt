@@ -1,15 +1,15 @@
 -- The blocks of a method in the order in which they are opened, each with the context in which it begins, and the graph of each.
 use Rattle.std.specs.Prelude.{ℕ, nat_eq, Bool, true, false, if◌then◌else◌, List, [], ◌∷◌, ◌++◌, length, Option, None, Some, option_map}
-use Rattle.ae_code.specs.Edges.{BlockUses}
-use Rattle.ae_code.specs.Limits.{count}
-use Rattle.ae_code.specs.Plain.{Action, Chooses, ChoosesElse, Repeats, Splits, Locks, Lines, End, Next, Definition, Code}
+use Rattle.ae_rules.specs.Edges.{BlockUses}
+use Rattle.ae_tree.specs.Limits.{count}
+use Rattle.ae_tree.specs.Plain.{Action, Chooses, ChoosesElse, Repeats, Splits, Locks, Lines, End, Next, Definition, Code}
 use Rattle.ae_rules.specs.Verdict.{given, judged}
 use Rattle.ae_rules.specs.Lookups.{method_at}
 use Rattle.ae_rules.specs.Context.{Context}
 use Rattle.ae_rules.specs.Statements.{while_split, while_locked, judge_statement}
 use Rattle.ae_rules.specs.Judges.{start}
 use Rattle.ae_rules.specs.Uses.{block_uses}
-use Rattle.ae_rules.specs.Edges.{graph}
+use Rattle.ae_rules.specs.EdgeLists.{graph}
 
 -- a block of a method, and the context in which it begins
 pub record Scene : Type 0 where

@@ -3,13 +3,13 @@ use Rattle.std.specs.Prelude.{◌≡◌, ℕ, List, [], ◌∷◌, Some}
 use Rattle.ae_text.specs.declared.refusal.Spot.{Spot}
 use Rattle.ae_text.specs.declared.refusal.Rule.{Rule}
 use Rattle.ae_text.specs.declared.token.Token.{Token}
-use Rattle.ae_code.specs.declared.tree.Decl.TheVariants as decl
-use Rattle.ae_code.specs.declared.uses.Resource.{Resource}
-use Rattle.ae_code.specs.Plain.{Definition, Code}
-use Rattle.ae_code.specs.Grammar.{Derives}
-use Rattle.ae_code.specs.Built.{Built}
-use Rattle.ae_code.specs.Judgement.{Accepted, Breaks}
-use Rattle.ae_code.specs.Uses.{use_at}
+use Rattle.ae_tree.specs.declared.tree.Decl.TheVariants as decl
+use Rattle.ae_rules.specs.declared.uses.Resource.{Resource}
+use Rattle.ae_tree.specs.Plain.{Definition, Code}
+use Rattle.ae_tree.specs.Grammar.{Derives}
+use Rattle.ae_tree.specs.Built.{Built}
+use Rattle.ae_tree.specs.Judgement.{Accepted, Breaks}
+use Rattle.ae_rules.specs.BuiltUses.{use_at}
 use Rattle.ae_rules.specs.Judges.{Accepts, FirstBroken}
 use Rattle.ae_rules.specs.Blocks.{Scene, scene, scene_uses}
 

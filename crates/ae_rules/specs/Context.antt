@@ -2,11 +2,11 @@
 use Rattle.std.specs.Prelude.{ℕ, zero, suc, nat_eq, Bool, true, false, ◌&&◌, ◌||◌, not, if◌then◌else◌, length, Option, None, Some, is_some, option_map, ⊤}
 use Rattle.ae_text.specs.declared.refusal.Spot.{Spot}
 use Rattle.ae_text.specs.declared.refusal.Rule.TheVariants as rule
-use Rattle.ae_code.specs.declared.form.Perm.{Perm}
-use Rattle.ae_code.specs.declared.form.Perm.TheVariants as perm
-use Rattle.ae_code.specs.declared.form.Form.{Form}
-use Rattle.ae_code.specs.declared.form.Form.TheVariants as f
-use Rattle.ae_code.specs.Plain.{Code}
+use Rattle.ae_tree.specs.declared.form.Perm.{Perm}
+use Rattle.ae_tree.specs.declared.form.Perm.TheVariants as perm
+use Rattle.ae_tree.specs.declared.form.Form.{Form}
+use Rattle.ae_tree.specs.declared.form.Form.TheVariants as f
+use Rattle.ae_tree.specs.Plain.{Code}
 use Rattle.ae_rules.specs.declared.held.Held.{Held}
 use Rattle.ae_rules.specs.declared.held.Held.TheVariants as held
 use Rattle.ae_rules.specs.Verdict.{Verdict, Broken, fine, given}

@@ -1,19 +1,19 @@
 -- What follows from the rules on uses and edges.
 use Rattle.std.specs.Prelude.{◌≡◌, ◌<◌, ℕ, Bool, true, false, ◌&&◌, Some, is_some}
 use Rattle.ae_text.specs.declared.refusal.Spot.{Spot}
-use Rattle.ae_code.specs.declared.uses.Resource.{Resource}
-use Rattle.ae_code.specs.declared.uses.Resource.TheVariants as resource
-use Rattle.ae_code.specs.declared.uses.Mode.{Mode}
-use Rattle.ae_code.specs.declared.uses.Mode.TheVariants as mode
-use Rattle.ae_code.specs.Edges.{IsConflict, BlockUses, Edge, Before, Preds}
-use Rattle.ae_code.specs.Plain.{Action, Definition, Code}
+use Rattle.ae_rules.specs.declared.uses.Resource.{Resource}
+use Rattle.ae_rules.specs.declared.uses.Resource.TheVariants as resource
+use Rattle.ae_rules.specs.declared.uses.Mode.{Mode}
+use Rattle.ae_rules.specs.declared.uses.Mode.TheVariants as mode
+use Rattle.ae_rules.specs.Edges.{IsConflict, BlockUses, Edge, Before, Preds}
+use Rattle.ae_tree.specs.Plain.{Action, Definition, Code}
 use Rattle.ae_rules.specs.declared.held.GroupPerm.{GroupPerm}
 use Rattle.ae_rules.specs.declared.held.GroupPerm.TheVariants as group
 use Rattle.ae_rules.specs.Verdict.{given}
 use Rattle.ae_rules.specs.Context.{Context}
 use Rattle.ae_rules.specs.Judges.{Judges, Accepts}
 use Rattle.ae_rules.specs.Uses.{statement_uses}
-use Rattle.ae_rules.specs.Edges.{preds}
+use Rattle.ae_rules.specs.EdgeLists.{preds}
 use Rattle.ae_rules.specs.Blocks.{Scene}
 use Rattle.ae_rules.specs.Instances.{Instance, InBlock, Ordered, Conflict}
 

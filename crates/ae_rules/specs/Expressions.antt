@@ -2,12 +2,12 @@
 use Rattle.std.specs.Prelude.{not, Option, None, Some, ⊤}
 use Rattle.ae_text.specs.declared.refusal.Spot.{Spot}
 use Rattle.ae_text.specs.declared.refusal.Rule.TheVariants as rule
-use Rattle.ae_code.specs.declared.tree.Path.{Path}
-use Rattle.ae_code.specs.declared.tree.Op.{Op}
-use Rattle.ae_code.specs.declared.tree.Op.TheVariants as op
-use Rattle.ae_code.specs.declared.form.Form.{Form}
-use Rattle.ae_code.specs.declared.form.Form.TheVariants as f
-use Rattle.ae_code.specs.Plain.{Expression, Number, Truth, Nothing, Read, Item, Length, Grouped, Negated, Minus, Binary, Code}
+use Rattle.ae_tree.specs.declared.tree.Path.{Path}
+use Rattle.ae_tree.specs.declared.tree.Op.{Op}
+use Rattle.ae_tree.specs.declared.tree.Op.TheVariants as op
+use Rattle.ae_tree.specs.declared.form.Form.{Form}
+use Rattle.ae_tree.specs.declared.form.Form.TheVariants as f
+use Rattle.ae_tree.specs.Plain.{Expression, Number, Truth, Nothing, Read, Item, Length, Grouped, Negated, Minus, Binary, Code}
 use Rattle.ae_rules.specs.declared.held.Held.TheVariants as held
 use Rattle.ae_rules.specs.Verdict.{Verdict, Holds, Broken, ◌>>=◌, ◌>>◌, require}
 use Rattle.ae_rules.specs.Forms.{same_value, is_object, is_ints}

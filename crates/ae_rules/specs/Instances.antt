@@ -1,18 +1,18 @@
 -- Statements as they run, by paths of numbers: where two of them part, which is first, and which conflict.
 use Rattle.std.specs.Prelude.{◌≡◌, ◌<◌, ◌⊎◌, ℕ, zero, suc, nat_eq, Bool, true, false, if◌then◌else◌, List, [], ◌∷◌, ◌++◌, map, zip, Option, None, Some, option_map}
-use Rattle.ae_code.specs.declared.tree.Me.{Me}
-use Rattle.ae_code.specs.declared.tree.Param.{Param}
-use Rattle.ae_code.specs.declared.uses.Resource.{Resource}
-use Rattle.ae_code.specs.declared.uses.Resource.TheVariants as resource
-use Rattle.ae_code.specs.declared.uses.Mode.{Mode}
-use Rattle.ae_code.specs.declared.form.Form.{Form}
-use Rattle.ae_code.specs.Form.{bare_names}
-use Rattle.ae_code.specs.Names.{io, main, this}
-use Rattle.ae_code.specs.Uses.{statement_at}
-use Rattle.ae_code.specs.Limits.{count}
-use Rattle.ae_code.specs.Edges.{IsConflict, Uses, Before}
-use Rattle.ae_code.specs.Plain.{Expression, Invocation, RightSide, Value, Taken, Zeros, Made, Returned, Definition, Code}
-use Rattle.ae_code.specs.Plain.{Action, Declares, Assigns, Calls, Chooses, ChoosesElse, Repeats, Splits, Locks}
+use Rattle.ae_tree.specs.declared.tree.Me.{Me}
+use Rattle.ae_tree.specs.declared.tree.Param.{Param}
+use Rattle.ae_rules.specs.declared.uses.Resource.{Resource}
+use Rattle.ae_rules.specs.declared.uses.Resource.TheVariants as resource
+use Rattle.ae_rules.specs.declared.uses.Mode.{Mode}
+use Rattle.ae_tree.specs.declared.form.Form.{Form}
+use Rattle.ae_tree.specs.Form.{bare_names}
+use Rattle.ae_tree.specs.Names.{io, main, this}
+use Rattle.ae_rules.specs.BuiltUses.{statement_at}
+use Rattle.ae_tree.specs.Limits.{count}
+use Rattle.ae_rules.specs.Edges.{IsConflict, Uses, Before}
+use Rattle.ae_tree.specs.Plain.{Expression, Invocation, RightSide, Value, Taken, Zeros, Made, Returned, Definition, Code}
+use Rattle.ae_tree.specs.Plain.{Action, Declares, Assigns, Calls, Chooses, ChoosesElse, Repeats, Splits, Locks}
 use Rattle.ae_rules.specs.Verdict.{given, judged}
 use Rattle.ae_rules.specs.Forms.{is_unique, is_object}
 use Rattle.ae_rules.specs.Lookups.{top_called, is_empty}

@@ -3,16 +3,16 @@ use Rattle.std.specs.Prelude.{◌≡◌, ℕ, nat_eq, Bool, true, false, ◌&&�
 use Rattle.ae_text.specs.declared.refusal.Spot.{Spot}
 use Rattle.ae_text.specs.declared.refusal.Rule.{Rule}
 use Rattle.ae_text.specs.declared.refusal.Rule.TheVariants as rule
-use Rattle.ae_code.specs.declared.tree.NameAt.{NameAt}
-use Rattle.ae_code.specs.declared.tree.Me.{Me}
-use Rattle.ae_code.specs.declared.tree.Param.{Param}
-use Rattle.ae_code.specs.declared.tree.Need.{Need}
-use Rattle.ae_code.specs.declared.tree.Need.TheVariants as need_of
-use Rattle.ae_code.specs.declared.tree.GroupNeed.{GroupNeed}
-use Rattle.ae_code.specs.declared.form.Form.{Form}
-use Rattle.ae_code.specs.Form.{form, bare_names}
-use Rattle.ae_code.specs.Names.{io, this}
-use Rattle.ae_code.specs.Plain.{Action, Returns, Lines, End, Next, Definition, Code}
+use Rattle.ae_tree.specs.declared.tree.NameAt.{NameAt}
+use Rattle.ae_tree.specs.declared.tree.Me.{Me}
+use Rattle.ae_tree.specs.declared.tree.Param.{Param}
+use Rattle.ae_tree.specs.declared.tree.Need.{Need}
+use Rattle.ae_tree.specs.declared.tree.Need.TheVariants as need_of
+use Rattle.ae_tree.specs.declared.tree.GroupNeed.{GroupNeed}
+use Rattle.ae_tree.specs.declared.form.Form.{Form}
+use Rattle.ae_tree.specs.Form.{form, bare_names}
+use Rattle.ae_tree.specs.Names.{io, this}
+use Rattle.ae_tree.specs.Plain.{Action, Returns, Lines, End, Next, Definition, Code}
 use Rattle.ae_rules.specs.declared.held.Held.TheVariants as held
 use Rattle.ae_rules.specs.declared.held.GroupPerm.{GroupPerm}
 use Rattle.ae_rules.specs.declared.held.GroupPerm.TheVariants as group

@@ -3,17 +3,17 @@ use Rattle.std.specs.Prelude.{◌≡◌, ◌⊎◌, ℕ, nat_eq, Bool, true, ◌
 use Rattle.std.specs.List.{list_all}
 use Rattle.ae_text.specs.declared.refusal.Spot.{Spot}
 use Rattle.ae_text.specs.declared.refusal.Rule.{Rule}
-use Rattle.ae_code.specs.declared.tree.NameAt.{NameAt}
-use Rattle.ae_code.specs.declared.form.Perm.{Perm}
-use Rattle.ae_code.specs.declared.form.Perm.TheVariants as need
-use Rattle.ae_code.specs.Plain.{Action, Expression, Definition, Code}
+use Rattle.ae_tree.specs.declared.tree.NameAt.{NameAt}
+use Rattle.ae_tree.specs.declared.form.Perm.{Perm}
+use Rattle.ae_tree.specs.declared.form.Perm.TheVariants as need
+use Rattle.ae_tree.specs.Plain.{Action, Expression, Definition, Code}
 use Rattle.ae_rules.specs.declared.held.Held.{Held}
 use Rattle.ae_rules.specs.declared.held.Held.TheVariants as held
 use Rattle.ae_rules.specs.declared.held.GroupPerm.{GroupPerm}
 use Rattle.ae_rules.specs.Shares.{splits, Splits, Joins}
 use Rattle.ae_rules.specs.Context.{Local, Context, held_in}
-use Rattle.ae_code.specs.declared.form.Form.{Form}
-use Rattle.ae_code.specs.Form.{bare_names}
+use Rattle.ae_tree.specs.declared.form.Form.{Form}
+use Rattle.ae_tree.specs.Form.{bare_names}
 use Rattle.ae_rules.specs.Verdict.{Holds, in_turn}
 use Rattle.ae_rules.specs.Groups.{Groups, declare, forget, enter_split, exclusive_again}
 use Rattle.ae_rules.specs.Into.{into, name_into}

@@ -14,6 +14,8 @@ pub mod Statements
 pub mod Judges
 pub mod Uses
 pub mod Edges
+pub mod EdgeLists
+pub mod BuiltUses
 pub mod EdgeLaws
 pub mod Blocks
 pub mod Instances

@@ -1,19 +1,19 @@
 -- What a program declares under a name or a number.
 use Rattle.std.specs.Prelude.{ℕ, nat_eq, Bool, true, false, List, [], ◌∷◌, ◌++◌, map, Option, None, Some, slice_get, find, filter_map, position, option_map}
 use Rattle.std.specs.List.{list_any}
-use Rattle.ae_code.specs.declared.tree.NameAt.{NameAt}
-use Rattle.ae_code.specs.declared.tree.Field.{Field}
-use Rattle.ae_code.specs.declared.tree.Class.{Class}
-use Rattle.ae_code.specs.declared.tree.Decl.{Decl}
-use Rattle.ae_code.specs.declared.tree.Decl.TheVariants as decl
-use Rattle.ae_code.specs.declared.table.Member.{Member}
-use Rattle.ae_code.specs.declared.table.Member.TheVariants as member
-use Rattle.ae_code.specs.declared.form.Kind.{Kind}
-use Rattle.ae_code.specs.declared.form.Kind.TheVariants as kind
-use Rattle.ae_code.specs.declared.form.Form.{Form}
-use Rattle.ae_code.specs.declared.form.Form.TheVariants as f
-use Rattle.ae_code.specs.Form.{form, bare_names}
-use Rattle.ae_code.specs.Plain.{Definition, Code}
+use Rattle.ae_tree.specs.declared.tree.NameAt.{NameAt}
+use Rattle.ae_tree.specs.declared.tree.Field.{Field}
+use Rattle.ae_tree.specs.declared.tree.Class.{Class}
+use Rattle.ae_tree.specs.declared.tree.Decl.{Decl}
+use Rattle.ae_tree.specs.declared.tree.Decl.TheVariants as decl
+use Rattle.ae_rules.specs.declared.table.Member.{Member}
+use Rattle.ae_rules.specs.declared.table.Member.TheVariants as member
+use Rattle.ae_tree.specs.declared.form.Kind.{Kind}
+use Rattle.ae_tree.specs.declared.form.Kind.TheVariants as kind
+use Rattle.ae_tree.specs.declared.form.Form.{Form}
+use Rattle.ae_tree.specs.declared.form.Form.TheVariants as f
+use Rattle.ae_tree.specs.Form.{form, bare_names}
+use Rattle.ae_tree.specs.Plain.{Definition, Code}
 use Rattle.ae_rules.specs.Verdict.{given}
 use Rattle.ae_rules.specs.Forms.{in_place, form_with}
 

@@ -1,9 +1,9 @@
 -- When a class table stands for a program: it has the declared classes, top-level methods and members.
 use Rattle.std.specs.Prelude.{◌≡◌, ℕ, nat_eq, Some, length, slice_get, option_map}
 use Rattle.indexmap.specs.IndexMap.{get}
-use Rattle.ae_code.specs.declared.tree.Class.{Class}
-use Rattle.ae_code.specs.declared.table.ClassTable.{ClassTable}
-use Rattle.ae_code.specs.Plain.{Code}
+use Rattle.ae_tree.specs.declared.tree.Class.{Class}
+use Rattle.ae_rules.specs.declared.table.ClassTable.{ClassTable}
+use Rattle.ae_tree.specs.Plain.{Code}
 use Rattle.ae_rules.specs.Lookups.{class_at, class_number, top_number, member_called}
 
 pub record StandsFor (t : ClassTable) (p : Code) : Type 0 where

@@ -2,13 +2,13 @@
 use Rattle.std.specs.Prelude.{Bool, List, [], ◌∷◌, ⊤}
 use Rattle.ae_text.specs.declared.refusal.Spot.{Spot}
 use Rattle.ae_text.specs.declared.refusal.Rule.TheVariants as rule
-use Rattle.ae_code.specs.declared.tree.NameAt.{NameAt}
-use Rattle.ae_code.specs.declared.tree.Path.{Path}
-use Rattle.ae_code.specs.declared.form.Perm.{Perm}
-use Rattle.ae_code.specs.declared.form.Perm.TheVariants as perm
-use Rattle.ae_code.specs.declared.form.Form.{Form}
-use Rattle.ae_code.specs.declared.form.Form.TheVariants as f
-use Rattle.ae_code.specs.Plain.{Code}
+use Rattle.ae_tree.specs.declared.tree.NameAt.{NameAt}
+use Rattle.ae_tree.specs.declared.tree.Path.{Path}
+use Rattle.ae_tree.specs.declared.form.Perm.{Perm}
+use Rattle.ae_tree.specs.declared.form.Perm.TheVariants as perm
+use Rattle.ae_tree.specs.declared.form.Form.{Form}
+use Rattle.ae_tree.specs.declared.form.Form.TheVariants as f
+use Rattle.ae_tree.specs.Plain.{Code}
 use Rattle.ae_rules.specs.declared.held.Held.{Held}
 use Rattle.ae_rules.specs.declared.held.Held.TheVariants as held
 use Rattle.ae_rules.specs.Verdict.{Verdict, Holds, ◌>>=◌, ◌>>◌, require, found, in_turn}

@@ -1,5 +1,5 @@
 // What is held of an object, and of a group.
-use ae_code::Name;
+use ae_tree::Name;
 
 /// What is held of an object. `Split` stands while parts of a unique object are lent, with their number.
 /// `Inner` is held of a unique object inside a member of a group.

@@ -3,6 +3,8 @@
 
 mod held;
 mod laws;
+mod table;
+mod uses;
 
 pub use held::{GroupPerm, Held};
 pub use laws::{
@@ -14,3 +16,5 @@ pub use laws::{
     statements_are_judged_or_broken, statements_are_never_both, statements_keep_what_is_visible,
     taken_is_given_back, todays_judgement_is_a_case, todays_uses_are_a_case, uses_are_allowed,
 };
+pub use table::{ClassTable, Member};
+pub use uses::{Footprint, Mode, Resource, Use};

@@ -1,11 +1,11 @@
 -- Of what went through, all that it conflicts with before it went through.
 use Rattle.std.proofs.Common.{◌≡◌, ◌<◌, ◌≤◌, ◌+◌, ◌-◌, ℕ, zero, suc, Bool, true, false, Option, None, Some, IsSome, refl, arith, subst}
-use Rattle.ae_code.specs.declared.uses.Resource.{Resource}
-use Rattle.ae_code.specs.declared.uses.Mode.{Mode}
-use Rattle.ae_code.specs.declared.uses.Mode.TheVariants.{Read, Write, GroupShared, GroupWhole}
-use Rattle.ae_code.specs.Plain.{Lines}
-use Rattle.ae_code.specs.Uses.{use_at}
-use Rattle.ae_code.specs.Edges.{is_strong, are_compatible, IsConflict, IsWeak}
+use Rattle.ae_rules.specs.declared.uses.Resource.{Resource}
+use Rattle.ae_rules.specs.declared.uses.Mode.{Mode}
+use Rattle.ae_rules.specs.declared.uses.Mode.TheVariants.{Read, Write, GroupShared, GroupWhole}
+use Rattle.ae_tree.specs.Plain.{Lines}
+use Rattle.ae_rules.specs.BuiltUses.{use_at}
+use Rattle.ae_rules.specs.Edges.{is_strong, are_compatible, IsConflict, IsWeak}
 use Rattle.ae_run.specs.Flow.{is_strong_use, IsClosed}
 
 -- the least number below n that passes a test, or none

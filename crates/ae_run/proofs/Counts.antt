@@ -2,9 +2,9 @@
 use Rattle.std.proofs.Common.{◌≡◌, ◌≢◌, ◌<◌, ◌≤◌, ◌+◌, inl, inr, ℕ, suc, nat_eq, if◌then◌else◌, Bool, true, false, List, [], ◌∷◌, length, get_or, count_by, Contains, refl, ap, sym, ◌∙◌, arith, subst}
 use Rattle.std.proofs.lemmas.List.Sums.{sum_by-cons, get_or-le-sum_by}
 use Rattle.std.proofs.lemmas.Bool.{cases_eq}
-use Rattle.ae_code.specs.Plain.{Lines}
-use Rattle.ae_code.specs.Uses.{ArePreds}
-use Rattle.ae_code.specs.Edges.{IsRising}
+use Rattle.ae_tree.specs.Plain.{Lines}
+use Rattle.ae_rules.specs.BuiltUses.{ArePreds}
+use Rattle.ae_rules.specs.Edges.{IsRising}
 use Rattle.ae_graph.specs.Graph.{Graph, preds_in, AreSuccs}
 use Rattle.ae_run.specs.Queue.{times}
 use Rattle.ae_run.proofs.Lists.{same_number, other_number}

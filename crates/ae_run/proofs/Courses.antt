@@ -2,10 +2,10 @@
 use Rattle.std.proofs.Common.{◌≡◌, ◌≢◌, ◌<◌, ◌≤◌, ◌+◌, ◌⊎◌, inl, inr, ℕ, zero, suc, Bool, true, false, List, [], ◌∷◌, length, get_or, set, get_or-set_same, get_or-set_other, Option, None, Some, refl, ap, sym, ◌∙◌, arith, subst}
 use Rattle.std.proofs.Math.ListN.{length-set}
 use Rattle.std.proofs.lemmas.Bool.{cases_eq}
-use Rattle.ae_code.specs.Plain.{Lines}
-use Rattle.ae_code.specs.Limits.{count}
-use Rattle.ae_code.specs.Shown.{action, lines_from}
-use Rattle.ae_code.specs.declared.tree.Stmt.{Stmt}
+use Rattle.ae_tree.specs.Plain.{Lines}
+use Rattle.ae_tree.specs.Limits.{count}
+use Rattle.ae_tree.specs.Shown.{action, lines_from}
+use Rattle.ae_tree.specs.declared.tree.Stmt.{Stmt}
 use Rattle.ae_meaning.specs.declared.report.Ending.{Ending}
 use Rattle.ae_meaning.specs.Values.{Env, empty}
 use Rattle.ae_meaning.specs.Meaning.{State, Went, Ends, Stops, one}

@@ -1,8 +1,8 @@
 -- What the statements of a block do, by their numbers, from the laws of the meaning.
 use Rattle.std.proofs.Common.{◌≡◌, ◌<◌, ◌≤◌, ◌+◌, ℕ, zero, suc, Bool, true, false, [], IsSome, is_some, refl, ap, ◌∙◌, arith}
-use Rattle.ae_code.specs.declared.uses.Resource.TheVariants.{Local}
-use Rattle.ae_code.specs.Plain.{Action, Lines, End, Next}
-use Rattle.ae_code.specs.Uses.{use_of, use_at}
+use Rattle.ae_rules.specs.declared.uses.Resource.TheVariants.{Local}
+use Rattle.ae_tree.specs.Plain.{Action, Lines, End, Next}
+use Rattle.ae_rules.specs.BuiltUses.{use_of, use_at}
 use Rattle.ae_meaning.specs.Values.{Env, empty}
 use Rattle.ae_meaning.specs.Meaning.{State, Run, Went, Ends, Stops, one}
 use Rattle.ae_meaning.specs.Frame.{View, AgreeAfter, ReadsItsUses, Keeps, ChangesItsWrites}

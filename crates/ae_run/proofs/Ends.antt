@@ -1,9 +1,9 @@
 -- A run that is over has the ending and the output of the run in source order.
 use Rattle.std.proofs.Common.{◌≡◌, ◌<◌, ◌+◌, ◌⊎◌, inl, inr, ℕ, zero, suc, Bool, true, false, not, List, [], ◌∷◌, ◌++◌, length, take, append_assoc, Option, None, Some, IsSome, refl, ap, sym, ◌∙◌, arith, subst}
 use Rattle.std.proofs.lemmas.Bool.{cases_order}
-use Rattle.ae_code.specs.Plain.{Lines, End, Next}
-use Rattle.ae_code.specs.Limits.{count}
-use Rattle.ae_code.specs.Uses.{IsEdge}
+use Rattle.ae_tree.specs.Plain.{Lines, End, Next}
+use Rattle.ae_tree.specs.Limits.{count}
+use Rattle.ae_rules.specs.BuiltUses.{IsEdge}
 use Rattle.ae_graph.specs.Graph.{Graph, IsGraph}
 use Rattle.ae_meaning.specs.declared.report.Ending.{Ending}
 use Rattle.ae_meaning.specs.Values.{Env, empty}

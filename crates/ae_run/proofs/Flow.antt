@@ -2,9 +2,9 @@
 use Rattle.std.proofs.Common.{◌≡◌, ◌≢◌, ◌<◌, ◌≤◌, ◌+◌, ◌-◌, ◌⊎◌, inl, inr, ℕ, suc, Bool, true, false, ◌||◌, nat_eq, List, [], IsSome, refl, ap, sym, ◌∙◌, arith, subst}
 use Rattle.std.proofs.lemmas.Bool.{cases_eq, cases_order}
 use Rattle.std.proofs.lemmas.Bool.Decides.{nat_tests}
-use Rattle.ae_code.specs.declared.uses.Resource.TheVariants.{Local}
-use Rattle.ae_code.specs.Plain.{Lines}
-use Rattle.ae_code.specs.Uses.{use_at, IsEdge}
+use Rattle.ae_rules.specs.declared.uses.Resource.TheVariants.{Local}
+use Rattle.ae_tree.specs.Plain.{Lines}
+use Rattle.ae_rules.specs.BuiltUses.{use_at, IsEdge}
 use Rattle.ae_meaning.specs.declared.report.Ending.{Ending}
 use Rattle.ae_meaning.specs.Values.{Env, empty}
 use Rattle.ae_meaning.specs.Meaning.{State, Run, Went, Ends, Stops}

@@ -1,14 +1,14 @@
 -- The one method of an accepted program, and its block.
 use Rattle.std.proofs.Common.{◌≡◌, ◌<◌, ℕ, ℤ, nat_eq, if◌then◌else◌, List, [], ◌∷◌, map, length, get_or, Option, None, Some, IsSome, refl, ap, sym, ◌∙◌, arith, subst}
-use Rattle.ae_code.specs.declared.tree.Block.{out-Block}
-use Rattle.ae_code.specs.declared.tree.Stmt.{Stmt}
-use Rattle.ae_code.specs.declared.tree.Method.{Method}
-use Rattle.ae_code.specs.declared.tree.Program.{Program}
-use Rattle.ae_code.specs.Names.{main}
-use Rattle.ae_code.specs.Plain.{Lines, Definition, Code}
-use Rattle.ae_code.specs.Shown.{lines_from, lines-out, definition, code}
-use Rattle.ae_code.specs.Judgement.{Accepted}
-use Rattle.ae_code.specs.Uses.{block_in, block_of}
+use Rattle.ae_tree.specs.declared.tree.Block.{out-Block}
+use Rattle.ae_tree.specs.declared.tree.Stmt.{Stmt}
+use Rattle.ae_tree.specs.declared.tree.Method.{Method}
+use Rattle.ae_tree.specs.declared.tree.Program.{Program}
+use Rattle.ae_tree.specs.Names.{main}
+use Rattle.ae_tree.specs.Plain.{Lines, Definition, Code}
+use Rattle.ae_tree.specs.Shown.{lines_from, lines-out, definition, code}
+use Rattle.ae_tree.specs.Judgement.{Accepted}
+use Rattle.ae_rules.specs.BuiltUses.{block_in, block_of}
 use Rattle.ae_meaning.specs.Meaning.{many, begin, ended, main_body, seq}
 
 block_here : (m : Definition) → m.no ≡ 0 → block_in (m ∷ []) 0 0 ≡ Some m.body

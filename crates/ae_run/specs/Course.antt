@@ -1,7 +1,7 @@
 -- What became of the statements of a block, against its run in source order.
 use Rattle.std.specs.Prelude.{◌≡◌, ◌<◌, ◌≤◌, ◌⊎◌, ◌++◌, ℕ, Bool, true, false, List, [], ◌∷◌, length, slice_index_or, slice_set, Option, None, Some, Contains}
-use Rattle.ae_code.specs.Plain.{Lines}
-use Rattle.ae_code.specs.Limits.{count}
+use Rattle.ae_tree.specs.Plain.{Lines}
+use Rattle.ae_tree.specs.Limits.{count}
 use Rattle.ae_meaning.specs.declared.report.Ending.{Ending}
 use Rattle.ae_meaning.specs.declared.report.Ending.TheVariants.{Done}
 use Rattle.ae_meaning.specs.Values.{Env}

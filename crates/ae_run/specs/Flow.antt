@@ -1,10 +1,10 @@
 -- What each statement of a block finds and comes to in source order, by its number.
 use Rattle.std.specs.Prelude.{◌≡◌, ◌<◌, ◌≤◌, ℕ, zero, suc, Bool, true, false, List, [], Option, None, Some}
-use Rattle.ae_code.specs.declared.uses.Resource.TheVariants.{Local}
-use Rattle.ae_code.specs.declared.uses.Mode.{Mode}
-use Rattle.ae_code.specs.Plain.{Lines, End, Next}
-use Rattle.ae_code.specs.Uses.{use_at, IsEdge}
-use Rattle.ae_code.specs.Edges.{is_strong}
+use Rattle.ae_rules.specs.declared.uses.Resource.TheVariants.{Local}
+use Rattle.ae_rules.specs.declared.uses.Mode.{Mode}
+use Rattle.ae_tree.specs.Plain.{Lines, End, Next}
+use Rattle.ae_rules.specs.BuiltUses.{use_at, IsEdge}
+use Rattle.ae_rules.specs.Edges.{is_strong}
 use Rattle.ae_meaning.specs.Values.{Env, empty}
 use Rattle.ae_meaning.specs.Meaning.{Run, Went, Ends, Stops, one}
 

@@ -1,13 +1,13 @@
 // What became of the statements of a block. A law of the meaning is called where a proof takes it from there; the call does nothing.
 ghost use Rattle.std.specs.Prelude.{◌≡◌, ◌<◌, ◌≤◌, ◌↔◌, ℕ, false, [], length, take, IfOk, OnOk, IsTrue, slice_set};
-ghost use Rattle.ae_code.specs.Shown.{action, lines_from};
+ghost use Rattle.ae_tree.specs.Shown.{action, lines_from};
 ghost use Rattle.ae_meaning.specs.Values.{empty};
 ghost use Rattle.ae_meaning.specs.Meaning.{one};
 ghost use Rattle.ae_meaning.specs.Running.{env_of, held};
 ghost use Rattle.ae_run.specs.Flow.{IsReady};
 ghost use Rattle.ae_run.specs.Course.{went, taken, fate_at, Gives, IsOnCourse, IsBehind, Settles, piece_of, pieces, ending_of, end_of};
 
-use ae_code::Stmt;
+use ae_tree::Stmt;
 use ae_meaning::{
     Ending, Locals, RunReport, Running, Stop, run_stmt, statements_change_what_they_write,
     statements_read_what_they_use,

@@ -1,15 +1,15 @@
 // Runs a block from a list of ready statements. A law of the meaning is called where a proof takes it from there; the call does nothing.
 ghost use Rattle.std.specs.Prelude.{◌≡◌, ◌<◌, ◌≤◌, ℕ, length, IfOk, Some, IsSome};
-ghost use Rattle.ae_code.specs.Shown.{code, lines_from};
-ghost use Rattle.ae_code.specs.Limits.{Within};
-ghost use Rattle.ae_code.specs.Judgement.{Accepted};
+ghost use Rattle.ae_tree.specs.Shown.{code, lines_from};
+ghost use Rattle.ae_tree.specs.Limits.{Within};
+ghost use Rattle.ae_tree.specs.Judgement.{Accepted};
 ghost use Rattle.ae_graph.specs.Graph.{IsGraph};
 ghost use Rattle.ae_meaning.specs.Meaning.{many, begin, ended, seq};
 ghost use Rattle.ae_run.specs.Course.{IsOnCourse, IsOver};
 
 use crate::course::Course;
 use crate::queue::Queue;
-use ae_code::{Program, Stmt};
+use ae_tree::{Program, Stmt};
 use ae_graph::BlockGraph;
 use ae_meaning::{
     RunReport, accepted_programs_end, statements_add_to_the_log, statements_change_what_they_write,

@@ -1,11 +1,11 @@
 -- Two runs that go alongside each other with the same states: what a relation on notes and runs has to keep.
-use Rattle.ae_code.specs.Edges.{Uses}
+use Rattle.ae_rules.specs.Edges.{Uses}
 use Rattle.std.proofs.Common.{◌≡◌, ◌⊎◌, ℕ, ℤ, suc, nat_eq, Bool, true, false, if◌then◌else◌, List, [], ◌∷◌, ◌++◌, Option, None, Some, refl, ap, sym, subst, ◌∙◌}
 use Rattle.ae_text.specs.declared.refusal.Spot.{Spot}
-use Rattle.ae_code.specs.declared.tree.NameAt.{NameAt}
-use Rattle.ae_code.specs.declared.form.Form.{Form}
-use Rattle.ae_code.specs.Names.{io}
-use Rattle.ae_code.specs.Plain.{Action, Invocation, Lines, End, Next, Locks, Code}
+use Rattle.ae_tree.specs.declared.tree.NameAt.{NameAt}
+use Rattle.ae_tree.specs.declared.form.Form.{Form}
+use Rattle.ae_tree.specs.Names.{io}
+use Rattle.ae_tree.specs.Plain.{Action, Invocation, Lines, End, Next, Locks, Code}
 use Rattle.ae_rules.specs.Calls.{Callee, givens}
 use Rattle.ae_rules.specs.Blocks.{Scene}
 use Rattle.ae_rules.specs.Instances.{Instance}

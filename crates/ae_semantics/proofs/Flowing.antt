@@ -3,7 +3,7 @@
 use Rattle.std.proofs.Common.{◌≡◌, ◌⊎◌, inl, inr, refl, ap, sym, subst, ◌∙◌, ℕ, suc, ℤ, Bool, true, false, List, [], ◌∷◌, ◌++◌, Option, None, Some}
 use Rattle.std.specs.Prelude.{⊤}
 use Rattle.std.proofs.lemmas.List.{append_assoc, append-nil}
-use Rattle.ae_code.specs.Plain.{Lines, End, Next, Code}
+use Rattle.ae_tree.specs.Plain.{Lines, End, Next, Code}
 use Rattle.ae_rules.specs.Blocks.{Scene}
 use Rattle.ae_rules.specs.Instances.{Instance}
 use Rattle.ae_rules.specs.Verdict as rules

@@ -1,6 +1,6 @@
 -- A run by one observer is the run by another that answers alike wherever the first one answers.
 use Rattle.std.proofs.Common.{◌≡◌, inl, inr, ℕ, ℤ, List, Option, None, Some, refl, ap, sym, subst, ◌∙◌}
-use Rattle.ae_code.specs.Plain.{Code}
+use Rattle.ae_tree.specs.Plain.{Code}
 use Rattle.ae_rules.specs.Verdict as rules
 use Rattle.ae_semantics.specs.Places.{State}
 use Rattle.ae_semantics.specs.Observations.{Origin, Seen, Query, Notes, Observer}

@@ -2,9 +2,9 @@
 use Rattle.std.proofs.Common.{◌≡◌, ℕ, zero, suc, nat_eq, ℤ, Bool, true, false, ◌&&◌, List, [], ◌∷◌, ◌++◌, map, Option, None, Some, Contains, inl, inr, refl, ap, sym, subst, ◌∙◌, arith}
 use Rattle.std.proofs.lemmas.Bool.{eq-eqb}
 use Rattle.std.proofs.lemmas.List.Elements.{Contains-append_left}
-use Rattle.ae_code.specs.Names.{main}
-use Rattle.ae_code.specs.Limits.{count}
-use Rattle.ae_code.specs.Plain.{Lines, End, Next, Definition, Code}
+use Rattle.ae_tree.specs.Names.{main}
+use Rattle.ae_tree.specs.Limits.{count}
+use Rattle.ae_tree.specs.Plain.{Lines, End, Next, Definition, Code}
 use Rattle.ae_rules.specs.Verdict.{given}
 use Rattle.ae_rules.specs.Lookups.{method_at, top_number}
 use Rattle.ae_rules.specs.Instances.{Instance}

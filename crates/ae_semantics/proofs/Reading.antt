@@ -3,15 +3,15 @@
 use Rattle.std.proofs.Common.{◌≡◌, inl, inr, refl, ap, sym, subst, ℕ, suc, nat_eq, Bool, true, false, List, Option, None, Some}
 use Rattle.std.specs.Prelude.{is_some}
 use Rattle.ae_text.specs.declared.refusal.Spot.{Spot}
-use Rattle.ae_code.specs.declared.uses.Resource.{Resource}
-use Rattle.ae_code.specs.declared.uses.Resource.TheVariants as resource
-use Rattle.ae_code.specs.Names.{io}
-use Rattle.ae_code.specs.Plain.{Action, Lines, End, Next, Code}
+use Rattle.ae_rules.specs.declared.uses.Resource.{Resource}
+use Rattle.ae_rules.specs.declared.uses.Resource.TheVariants as resource
+use Rattle.ae_tree.specs.Names.{io}
+use Rattle.ae_tree.specs.Plain.{Action, Lines, End, Next, Code}
 use Rattle.ae_rules.specs.Verdict as rules
 use Rattle.ae_rules.specs.Context.{Context}
-use Rattle.ae_code.specs.declared.form.Form.{Form}
-use Rattle.ae_code.specs.declared.form.Form.TheVariants as f
-use Rattle.ae_code.specs.Plain.{Expression, Definition, Chooses, ChoosesElse, Prints, Asserts}
+use Rattle.ae_tree.specs.declared.form.Form.{Form}
+use Rattle.ae_tree.specs.declared.form.Form.TheVariants as f
+use Rattle.ae_tree.specs.Plain.{Expression, Definition, Chooses, ChoosesElse, Prints, Asserts}
 use Rattle.ae_rules.specs.Expressions.{place, judge_value, is_value}
 use Rattle.ae_semantics.proofs.Walked.{SameOn, on_left, FitsShallow, value_same, judged_walked, bind_holds, formed}
 use Rattle.ae_rules.specs.Uses.{is_seen, whole, ◌∪◌, outside, value_uses, lines_use, statement_uses}

@@ -1,7 +1,7 @@
 -- The run that is watched goes as the run of the meaning past what stopped.
 use Rattle.std.proofs.Common.{◌≡◌, inl, inr, ℕ, Bool, true, false, List, [], ◌∷◌, ◌++◌, Option, None, Some, refl, ap, sym, subst, ◌∙◌}
 use Rattle.std.specs.Prelude.{⊤, option_map}
-use Rattle.ae_code.specs.Plain.{Code}
+use Rattle.ae_tree.specs.Plain.{Code}
 use Rattle.ae_rules.specs.Verdict as rules
 use Rattle.ae_rules.specs.Blocks.{Scene}
 use Rattle.ae_rules.specs.Instances.{Instance}

@@ -1,9 +1,9 @@
 -- What an atomic block answers, and the meaning that goes on past what stopped.
-use Rattle.ae_code.specs.Edges.{Uses}
+use Rattle.ae_rules.specs.Edges.{Uses}
 use Rattle.std.specs.Prelude.{ℕ, nat_eq, ℤ, true, if◌then◌else◌, List, [], Option, None, Some, option_map, ⊤}
-use Rattle.ae_code.specs.Names.{io}
-use Rattle.ae_code.specs.Plain.{Lines, End, Next, Definition, Code}
-use Rattle.ae_code.specs.Plain.{Action, Chooses, ChoosesElse, Repeats, Splits, Locks}
+use Rattle.ae_tree.specs.Names.{io}
+use Rattle.ae_tree.specs.Plain.{Lines, End, Next, Definition, Code}
+use Rattle.ae_tree.specs.Plain.{Action, Chooses, ChoosesElse, Repeats, Splits, Locks}
 use Rattle.ae_rules.specs.Verdict.{given}
 use Rattle.ae_rules.specs.Lookups.{method_at}
 use Rattle.ae_rules.specs.Blocks.{Scene, or_else, scene}

@@ -1,7 +1,7 @@
 -- A call in two halves: what goes into the method's body, and what comes back from it.
 use Rattle.std.specs.Prelude.{ℕ, ◌+◌, nat_eq, Bool, true, false, ◌&&◌, not, if◌then◌else◌, List, [], ◌∷◌, zip, filter_map, Option, None, Some, option_map}
-use Rattle.ae_code.specs.declared.tree.GroupNeed.{GroupNeed}
-use Rattle.ae_code.specs.Plain.{Definition, Code, Expression, Read, Invocation}
+use Rattle.ae_tree.specs.declared.tree.GroupNeed.{GroupNeed}
+use Rattle.ae_tree.specs.Plain.{Definition, Code, Expression, Read, Invocation}
 use Rattle.ae_rules.specs.Verdict as rules
 use Rattle.ae_rules.specs.Forms.{is_unique}
 use Rattle.ae_rules.specs.Into.{name_into}

@@ -1,13 +1,13 @@
 -- The contexts of the judgement, where the meaning asks for them.
 use Rattle.std.specs.Prelude.{Bool, not, List, Option}
 use Rattle.ae_text.specs.declared.refusal.Spot.{Spot}
-use Rattle.ae_code.specs.declared.tree.NameAt.{NameAt}
-use Rattle.ae_code.specs.declared.uses.Mode.{Mode}
-use Rattle.ae_code.specs.Plain.{Action, Definition, Code}
+use Rattle.ae_tree.specs.declared.tree.NameAt.{NameAt}
+use Rattle.ae_rules.specs.declared.uses.Mode.{Mode}
+use Rattle.ae_tree.specs.Plain.{Action, Definition, Code}
 use Rattle.ae_rules.specs.Verdict.{Verdict, Holds, Broken}
 use Rattle.ae_rules.specs.Context.{Context}
 use Rattle.ae_rules.specs.Statements.{while_split, judge_statement}
-use Rattle.ae_rules.specs.Edges.{is_weak}
+use Rattle.ae_rules.specs.EdgeLists.{is_weak}
 
 -- the context that a verdict gives; where a rule is broken, the one before
 abbrev pub or_before : Verdict Context → Context → Context

@@ -1,11 +1,11 @@
 -- One equation for each form of statement, and for statements one after another.
 use Rattle.std.specs.Prelude.{◌≡◌, refl, ℕ, zero, suc, List, [], Option, None, Some}
 use Rattle.ae_text.specs.declared.refusal.Spot.{Spot}
-use Rattle.ae_code.specs.declared.tree.NameAt.{NameAt}
-use Rattle.ae_code.specs.declared.tree.Path.{Path}
-use Rattle.ae_code.specs.declared.tree.Ty.{Ty}
-use Rattle.ae_code.specs.Form.{form}
-use Rattle.ae_code.specs.Plain.{Expression, Invocation, RightSide, Lines, End, Next, Action, Declares, Assigns, Stores, StoresAt, Calls, Chooses, ChoosesElse, Repeats, Groups, Splits, Locks, Freezes, Shares, Prints, PrintsText, Asserts, Returns}
+use Rattle.ae_tree.specs.declared.tree.NameAt.{NameAt}
+use Rattle.ae_tree.specs.declared.tree.Path.{Path}
+use Rattle.ae_tree.specs.declared.tree.Ty.{Ty}
+use Rattle.ae_tree.specs.Form.{form}
+use Rattle.ae_tree.specs.Plain.{Expression, Invocation, RightSide, Lines, End, Next, Action, Declares, Assigns, Stores, StoresAt, Calls, Chooses, ChoosesElse, Repeats, Groups, Splits, Locks, Freezes, Shares, Prints, PrintsText, Asserts, Returns}
 use Rattle.ae_semantics.specs.Places.{◌>>=◌, State, Here, with_group}
 use Rattle.ae_semantics.specs.Expressions.{value, truth_of}
 use Rattle.ae_rules.specs.Blocks.{Scene}

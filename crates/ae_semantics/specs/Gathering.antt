@@ -1,6 +1,6 @@
 -- Runs that keep the answers that they get.
 use Rattle.std.specs.Prelude.{◌≡◌, ℕ, ℤ, List, [], ◌∷◌, ◌++◌, Option, Some, option_map, ⊤}
-use Rattle.ae_code.specs.Plain.{Code}
+use Rattle.ae_tree.specs.Plain.{Code}
 use Rattle.ae_semantics.specs.Observations.{Seen, Query, Ending, Observer}
 use Rattle.ae_semantics.specs.Runs.{Run, Machine, stopping}
 use Rattle.ae_semantics.specs.Means.{run, notes_of, ending_of, meant, mean}

@@ -1,8 +1,8 @@
 -- What holds of the meaning of every program.
 use Rattle.std.specs.Prelude.{◌≡◌, ℕ, ℤ, List, ◌++◌, Some, false, Contains}
 use Rattle.ae_text.specs.declared.refusal.Spot.{Spot}
-use Rattle.ae_code.specs.Names.{main}
-use Rattle.ae_code.specs.Plain.{Action, Definition, Code}
+use Rattle.ae_tree.specs.Names.{main}
+use Rattle.ae_tree.specs.Plain.{Action, Definition, Code}
 use Rattle.ae_rules.specs.Lookups.{top_called}
 use Rattle.ae_rules.specs.Context.{Context}
 use Rattle.ae_rules.specs.Judges.{Judges}

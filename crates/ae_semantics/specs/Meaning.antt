@@ -3,17 +3,17 @@ use Rattle.std.specs.Prelude.{ℕ, zero, suc, nat_lt, ℤ, pos, negsuc, Bool, tr
 use Rattle.std.specs.Prelude as prelude
 use Rattle.std.specs.Fmt.{signed_decimal}
 use Rattle.ae_text.specs.declared.refusal.Spot.{Spot}
-use Rattle.ae_code.specs.declared.tree.NameAt.{NameAt}
-use Rattle.ae_code.specs.declared.tree.Path.{Path}
-use Rattle.ae_code.specs.declared.tree.Class.{Class}
-use Rattle.ae_code.specs.declared.uses.Resource.TheVariants as resource
-use Rattle.ae_code.specs.declared.form.Perm.{Perm}
-use Rattle.ae_code.specs.declared.form.Perm.TheVariants as perm
-use Rattle.ae_code.specs.declared.form.Form.{Form}
-use Rattle.ae_code.specs.declared.form.Form.TheVariants as f
-use Rattle.ae_code.specs.Form.{form, bare_names}
-use Rattle.ae_code.specs.Plain.{Expression, Invocation, RightSide, Value, Taken, Zeros, Made, Returned, Lines, End, Next, Definition, Code}
-use Rattle.ae_code.specs.Plain.{Action, Declares, Assigns, Stores, StoresAt, Calls, Chooses, ChoosesElse, Repeats, Groups, Splits, Locks, Freezes, Shares, Prints, PrintsText, Asserts, Returns}
+use Rattle.ae_tree.specs.declared.tree.NameAt.{NameAt}
+use Rattle.ae_tree.specs.declared.tree.Path.{Path}
+use Rattle.ae_tree.specs.declared.tree.Class.{Class}
+use Rattle.ae_rules.specs.declared.uses.Resource.TheVariants as resource
+use Rattle.ae_tree.specs.declared.form.Perm.{Perm}
+use Rattle.ae_tree.specs.declared.form.Perm.TheVariants as perm
+use Rattle.ae_tree.specs.declared.form.Form.{Form}
+use Rattle.ae_tree.specs.declared.form.Form.TheVariants as f
+use Rattle.ae_tree.specs.Form.{form, bare_names}
+use Rattle.ae_tree.specs.Plain.{Expression, Invocation, RightSide, Value, Taken, Zeros, Made, Returned, Lines, End, Next, Definition, Code}
+use Rattle.ae_tree.specs.Plain.{Action, Declares, Assigns, Stores, StoresAt, Calls, Chooses, ChoosesElse, Repeats, Groups, Splits, Locks, Freezes, Shares, Prints, PrintsText, Asserts, Returns}
 use Rattle.ae_rules.specs.Verdict as rules
 use Rattle.ae_rules.specs.Lookups.{class_called, field_form}
 use Rattle.ae_rules.specs.Context.{Local, Context}

@@ -1,8 +1,8 @@
 -- The meaning of a whole program with observations, and its bytes.
 use Rattle.std.specs.Prelude.{ℕ, ℤ, false, List, [], ◌∷◌, ◌++◌, Option, None, Some}
 use Rattle.ae_text.specs.declared.refusal.Spot.{Spot}
-use Rattle.ae_code.specs.Names.{main}
-use Rattle.ae_code.specs.Plain.{Definition, Code}
+use Rattle.ae_tree.specs.Names.{main}
+use Rattle.ae_tree.specs.Plain.{Definition, Code}
 use Rattle.ae_rules.specs.Verdict.{given}
 use Rattle.ae_rules.specs.Lookups.{method_at, top_number}
 use Rattle.ae_rules.specs.Judges as judges

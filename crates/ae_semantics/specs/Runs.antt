@@ -2,12 +2,12 @@
 use Rattle.std.specs.Prelude.{ℕ, suc, Bool, true, false, if◌then◌else◌, List, [], ◌∷◌, ◌++◌, length, Option, None, Some, ⊤}
 use Rattle.std.specs.List.{list_any}
 use Rattle.ae_text.specs.declared.refusal.Spot.{Spot}
-use Rattle.ae_code.specs.declared.tree.NameAt.{NameAt}
-use Rattle.ae_code.specs.declared.uses.Resource.TheVariants as resource
-use Rattle.ae_code.specs.Plain.{Expression, Lines, Definition, Code}
+use Rattle.ae_tree.specs.declared.tree.NameAt.{NameAt}
+use Rattle.ae_rules.specs.declared.uses.Resource.TheVariants as resource
+use Rattle.ae_tree.specs.Plain.{Expression, Lines, Definition, Code}
 use Rattle.ae_rules.specs.Context.{Context}
 use Rattle.ae_rules.specs.Statements.{while_locked}
-use Rattle.ae_rules.specs.Edges.{is_edge}
+use Rattle.ae_rules.specs.EdgeLists.{is_edge}
 use Rattle.ae_rules.specs.Blocks.{Scene, scene_uses}
 use Rattle.ae_rules.specs.Instances.{Instance}
 use Rattle.ae_semantics.specs.Places.{Outcome, Fine, Traps, Lacks, State}

@@ -1,12 +1,12 @@
 -- A run that is under way, as a tree of the blocks that were begun, and when such a tree stands for the meaning past what stopped.
-use Rattle.ae_code.specs.Edges.{Uses}
+use Rattle.ae_rules.specs.Edges.{Uses}
 use Rattle.std.specs.Prelude.{◌≡◌, ◌⊎◌, ℕ, zero, suc, nat_eq, nat_lt, ℤ, Bool, true, false, ◌&&◌, if◌then◌else◌, List, [], ◌∷◌, ◌++◌, map, Option, None, Some, is_some, option_map, Contains}
 use Rattle.ae_text.specs.declared.refusal.Spot.{Spot}
-use Rattle.ae_code.specs.declared.uses.Resource.TheVariants as resource
-use Rattle.ae_code.specs.declared.uses.Mode.{Mode}
-use Rattle.ae_code.specs.Names.{io}
-use Rattle.ae_code.specs.Limits.{count}
-use Rattle.ae_code.specs.Plain.{Lines, End, Next, Code}
+use Rattle.ae_rules.specs.declared.uses.Resource.TheVariants as resource
+use Rattle.ae_rules.specs.declared.uses.Mode.{Mode}
+use Rattle.ae_tree.specs.Names.{io}
+use Rattle.ae_tree.specs.Limits.{count}
+use Rattle.ae_tree.specs.Plain.{Lines, End, Next, Code}
 use Rattle.ae_rules.specs.Verdict.{given}
 use Rattle.ae_rules.specs.Uses.{lines_use}
 use Rattle.ae_rules.specs.Blocks.{Scene, scene_uses}

@@ -3,15 +3,15 @@ use Rattle.std.proofs.Common.{◌≡◌, ◌≢◌, ℕ, ◌++◌, List, [], ◌
 use Rattle.ae_text.specs.declared.token.Keyword.TheVariants as word
 use Rattle.ae_text.specs.declared.token.Sign.{Sign}
 use Rattle.ae_text.specs.declared.token.Sign.TheVariants as sign
-use Rattle.ae_code.specs.declared.lexeme.Lexeme.{Lexeme}
-use Rattle.ae_code.specs.declared.lexeme.Lexical.{Lexical}
-use Rattle.ae_code.specs.declared.lexeme.Lexical.TheVariants as tok
-use Rattle.ae_code.specs.declared.tree.NameAt.{NameAt}
-use Rattle.ae_code.specs.declared.tree.Path.{Path}
-use Rattle.ae_code.specs.Names.{this}
-use Rattle.ae_code.specs.Plain.{Expression, Invocation, RightSide, Value, Returned}
-use Rattle.ae_code.specs.Grammar.{Tokens, each, root, step, path, receiver, whole, call, right_side}
-use Rattle.ae_code.specs.Limits.{KeepsRight, AllKeep, early}
+use Rattle.ae_tree.specs.declared.lexeme.Lexeme.{Lexeme}
+use Rattle.ae_tree.specs.declared.lexeme.Lexical.{Lexical}
+use Rattle.ae_tree.specs.declared.lexeme.Lexical.TheVariants as tok
+use Rattle.ae_tree.specs.declared.tree.NameAt.{NameAt}
+use Rattle.ae_tree.specs.declared.tree.Path.{Path}
+use Rattle.ae_tree.specs.Names.{this}
+use Rattle.ae_tree.specs.Plain.{Expression, Invocation, RightSide, Value, Returned}
+use Rattle.ae_tree.specs.Grammar.{Tokens, each, root, step, path, receiver, whole, call, right_side}
+use Rattle.ae_tree.specs.Limits.{KeepsRight, AllKeep, early}
 use Rattle.ae_reading.specs.declared.fail.Why.TheVariants.{Unexpected}
 use Rattle.ae_reading.specs.Reads.{head, Always, Is, Isnt, IsName, IsWithin, NoEnd, Stopped}
 use Rattle.ae_reading.proofs.ReadsLemmas.{NoEnd-append, lead_here, name_token}

@@ -5,20 +5,20 @@ use Rattle.ae_text.specs.declared.refusal.Spot.{Spot}
 use Rattle.ae_text.specs.declared.token.Keyword.{Keyword}
 use Rattle.ae_text.specs.declared.token.Keyword.TheVariants as word
 use Rattle.ae_text.specs.declared.token.Sign.TheVariants as sign
-use Rattle.ae_code.specs.declared.lexeme.Lexeme.{Lexeme}
-use Rattle.ae_code.specs.declared.lexeme.Lexical.{Lexical}
-use Rattle.ae_code.specs.declared.lexeme.Lexical.TheVariants as tok
-use Rattle.ae_code.specs.declared.limits.Limit.{Limit}
-use Rattle.ae_code.specs.declared.limits.Limit.TheVariants as limit
-use Rattle.ae_code.specs.declared.tree.NameAt.{NameAt}
-use Rattle.ae_code.specs.declared.tree.Path.{Path}
-use Rattle.ae_code.specs.declared.tree.Op.{Op}
-use Rattle.ae_code.specs.declared.tree.Op.TheVariants as op
-use Rattle.ae_code.specs.Plain.{Expression, Number, Truth, Nothing, Read, Item, Length, Grouped, Negated, Minus, Binary, End}
-use Rattle.ae_code.specs.Plain.{Action, Chooses, ChoosesElse, Repeats, Splits, Locks, Groups}
-use Rattle.ae_code.specs.Grammar.{Tokens, Then, ◌⨾◌, one, one_at, name, root, step, path, each, further, separated, whole, expression, sign_of, statement}
-use Rattle.ae_code.specs.Limits.{Keeps, KeepsIn, early, rank}
-use Rattle.ae_code.specs.Refused.{AreKnown, OpensBlock, NoOpen, IsHead, IsTypeWord}
+use Rattle.ae_tree.specs.declared.lexeme.Lexeme.{Lexeme}
+use Rattle.ae_tree.specs.declared.lexeme.Lexical.{Lexical}
+use Rattle.ae_tree.specs.declared.lexeme.Lexical.TheVariants as tok
+use Rattle.ae_tree.specs.declared.limits.Limit.{Limit}
+use Rattle.ae_tree.specs.declared.limits.Limit.TheVariants as limit
+use Rattle.ae_tree.specs.declared.tree.NameAt.{NameAt}
+use Rattle.ae_tree.specs.declared.tree.Path.{Path}
+use Rattle.ae_tree.specs.declared.tree.Op.{Op}
+use Rattle.ae_tree.specs.declared.tree.Op.TheVariants as op
+use Rattle.ae_tree.specs.Plain.{Expression, Number, Truth, Nothing, Read, Item, Length, Grouped, Negated, Minus, Binary, End}
+use Rattle.ae_tree.specs.Plain.{Action, Chooses, ChoosesElse, Repeats, Splits, Locks, Groups}
+use Rattle.ae_tree.specs.Grammar.{Tokens, Then, ◌⨾◌, one, one_at, name, root, step, path, each, further, separated, whole, expression, sign_of, statement}
+use Rattle.ae_tree.specs.Limits.{Keeps, KeepsIn, early, rank}
+use Rattle.ae_tree.specs.Refused.{AreKnown, OpensBlock, NoOpen, IsHead, IsTypeWord}
 use Rattle.ae_reading.specs.declared.fail.Fail.{Fail}
 use Rattle.ae_reading.specs.declared.fail.Why.{Why}
 use Rattle.ae_reading.specs.declared.fail.Why.TheVariants.{Unexpected, Over}

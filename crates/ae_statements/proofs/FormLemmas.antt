@@ -2,15 +2,15 @@
 use Rattle.std.proofs.Common.{◌≡◌, ℕ, ◌++◌, List, [], ◌∷◌, ◌⊎◌, inl, inr, Bool, true, false, Option, Some, None, refl, sym, ap, ◌∙◌, append_assoc, append-nil, subst}
 use Rattle.ae_text.specs.declared.refusal.Spot.{Spot}
 use Rattle.ae_text.specs.declared.token.Keyword.TheVariants as word
-use Rattle.ae_code.specs.declared.lexeme.Lexeme.{Lexeme}
-use Rattle.ae_code.specs.declared.lexeme.Lexical.{Lexical}
-use Rattle.ae_code.specs.declared.lexeme.Lexical.TheVariants as tok
-use Rattle.ae_code.specs.declared.tree.NameAt.{NameAt}
-use Rattle.ae_code.specs.declared.tree.Path.{Path}
-use Rattle.ae_code.specs.declared.tree.Ty.{Ty}
-use Rattle.ae_code.specs.Plain.{Expression, RightSide, Lines}
-use Rattle.ae_code.specs.Plain.{Action, Declares, Assigns, Stores, StoresAt, Calls, Chooses, ChoosesElse, Repeats, Groups, Splits, Locks, Freezes, Shares, Prints, PrintsText, Asserts, Returns}
-use Rattle.ae_code.specs.Grammar.{Tokens, Then, ◌⨾◌, one_at, name, root, step, path, receiver, statement}
+use Rattle.ae_tree.specs.declared.lexeme.Lexeme.{Lexeme}
+use Rattle.ae_tree.specs.declared.lexeme.Lexical.{Lexical}
+use Rattle.ae_tree.specs.declared.lexeme.Lexical.TheVariants as tok
+use Rattle.ae_tree.specs.declared.tree.NameAt.{NameAt}
+use Rattle.ae_tree.specs.declared.tree.Path.{Path}
+use Rattle.ae_tree.specs.declared.tree.Ty.{Ty}
+use Rattle.ae_tree.specs.Plain.{Expression, RightSide, Lines}
+use Rattle.ae_tree.specs.Plain.{Action, Declares, Assigns, Stores, StoresAt, Calls, Chooses, ChoosesElse, Repeats, Groups, Splits, Locks, Freezes, Shares, Prints, PrintsText, Asserts, Returns}
+use Rattle.ae_tree.specs.Grammar.{Tokens, Then, ◌⨾◌, one_at, name, root, step, path, receiver, statement}
 use Rattle.ae_reading.specs.Reads.{head, Is}
 use Rattle.ae_reading.proofs.ReadsLemmas.{NoneAt}
 use Rattle.ae_reading.proofs.Runs.{each-append, each-one}

@@ -1,14 +1,14 @@
 -- Right sides that are calls, and those that are expressions.
 use Rattle.std.proofs.Common.{◌≡◌, ℕ, ◌++◌, List, [], ◌∷◌, ◌⊎◌, inl, inr, Some, refl, sym, ap, ◌∙◌, append_assoc, append-nil, subst}
 use Rattle.ae_text.specs.declared.token.Sign.TheVariants as sign
-use Rattle.ae_code.specs.declared.lexeme.Lexeme.{Lexeme}
-use Rattle.ae_code.specs.declared.lexeme.Lexical.TheVariants as tok
-use Rattle.ae_code.specs.declared.limits.Limit.{Limit}
-use Rattle.ae_code.specs.declared.tree.Path.{Path}
-use Rattle.ae_code.specs.Plain.{Expression, Invocation, RightSide, Returned}
-use Rattle.ae_code.specs.Grammar.{Tokens, path, groups, arguments, whole, call, right_side}
-use Rattle.ae_code.specs.Limits.{KeepsRight}
-use Rattle.ae_code.specs.Names.{io}
+use Rattle.ae_tree.specs.declared.lexeme.Lexeme.{Lexeme}
+use Rattle.ae_tree.specs.declared.lexeme.Lexical.TheVariants as tok
+use Rattle.ae_tree.specs.declared.limits.Limit.{Limit}
+use Rattle.ae_tree.specs.declared.tree.Path.{Path}
+use Rattle.ae_tree.specs.Plain.{Expression, Invocation, RightSide, Returned}
+use Rattle.ae_tree.specs.Grammar.{Tokens, path, groups, arguments, whole, call, right_side}
+use Rattle.ae_tree.specs.Limits.{KeepsRight}
+use Rattle.ae_tree.specs.Names.{io}
 use Rattle.ae_reading.specs.declared.fail.Fail.{Fail}
 use Rattle.ae_reading.specs.declared.fail.Fail.TheVariants.{Refused, Memory}
 use Rattle.ae_reading.specs.declared.fail.Why.{Why}

@@ -4,16 +4,16 @@ use Rattle.ae_text.specs.declared.refusal.Spot.{Spot}
 use Rattle.ae_text.specs.declared.token.Keyword.{Keyword}
 use Rattle.ae_text.specs.declared.token.Keyword.TheVariants as word
 use Rattle.ae_text.specs.declared.token.Sign.TheVariants as sign
-use Rattle.ae_code.specs.declared.lexeme.Lexeme.{Lexeme}
-use Rattle.ae_code.specs.declared.lexeme.Lexical.{Lexical}
-use Rattle.ae_code.specs.declared.lexeme.Lexical.TheVariants as tok
-use Rattle.ae_code.specs.declared.limits.Limit.{Limit}
-use Rattle.ae_code.specs.declared.tree.NameAt.{NameAt}
-use Rattle.ae_code.specs.declared.tree.Ty.{Ty}
-use Rattle.ae_code.specs.Plain.{Expression, RightSide, Value}
-use Rattle.ae_code.specs.Plain.{Action, Declares, Assigns, Stores, StoresAt, Calls, Chooses, ChoosesElse, Repeats, Groups, Splits, Locks, Freezes, Shares, Prints, PrintsText, Asserts, Returns}
-use Rattle.ae_code.specs.Grammar.{Tokens, name, type_, whole, right_side, statement}
-use Rattle.ae_code.specs.Limits.{Keeps, KeepsRight, KeepsIn}
+use Rattle.ae_tree.specs.declared.lexeme.Lexeme.{Lexeme}
+use Rattle.ae_tree.specs.declared.lexeme.Lexical.{Lexical}
+use Rattle.ae_tree.specs.declared.lexeme.Lexical.TheVariants as tok
+use Rattle.ae_tree.specs.declared.limits.Limit.{Limit}
+use Rattle.ae_tree.specs.declared.tree.NameAt.{NameAt}
+use Rattle.ae_tree.specs.declared.tree.Ty.{Ty}
+use Rattle.ae_tree.specs.Plain.{Expression, RightSide, Value}
+use Rattle.ae_tree.specs.Plain.{Action, Declares, Assigns, Stores, StoresAt, Calls, Chooses, ChoosesElse, Repeats, Groups, Splits, Locks, Freezes, Shares, Prints, PrintsText, Asserts, Returns}
+use Rattle.ae_tree.specs.Grammar.{Tokens, name, type_, whole, right_side, statement}
+use Rattle.ae_tree.specs.Limits.{Keeps, KeepsRight, KeepsIn}
 use Rattle.ae_reading.specs.declared.fail.Fail.{Fail}
 use Rattle.ae_reading.specs.declared.fail.Why.TheVariants.{Unexpected}
 use Rattle.ae_reading.specs.Reads.{head, Always, Free, Is, Isnt, Took, Stopped, Failed, Token}
@@ -23,7 +23,7 @@ use Rattle.ae_statements.specs.Productions.{ended, value, text, printed, IsText,
 use Rattle.ae_statements.proofs.ShapeLemmas.{Pre, has_pre, has_suf, has_whole}
 use Rattle.ae_statements.proofs.CallLemmas.{no_whole}
 use Rattle.ae_statements.proofs.FormLemmas.{Formed, formed}
-use Rattle.ae_types.proofs.TypeLemmas.{has_type}
+use Rattle.ae_reading.proofs.TypeLemmas.{has_type}
 
 -- a form of a statement that ends by itself
 pub simple_took : {B : Type 0} {E : Lang B} {V : Bound B} {n levels : ℕ} {ts rest : Tokens} {q : B} (build : B → Spot × Action) →

@@ -3,15 +3,15 @@ use Rattle.std.proofs.Common.{◌≡◌, ℕ, ◌++◌, List, [], ◌∷◌, ◌
 use Rattle.ae_text.specs.declared.token.Keyword.TheVariants as word
 use Rattle.ae_text.specs.declared.token.Sign.{Sign}
 use Rattle.ae_text.specs.declared.token.Sign.TheVariants as sign
-use Rattle.ae_code.specs.declared.lexeme.Lexeme.{Lexeme}
-use Rattle.ae_code.specs.declared.lexeme.Lexical.TheVariants as tok
-use Rattle.ae_code.specs.declared.tree.NameAt.{NameAt}
-use Rattle.ae_code.specs.declared.tree.Path.{Path}
-use Rattle.ae_code.specs.declared.tree.Op.TheVariants as op
-use Rattle.ae_code.specs.Plain.{Expression, Number, Read, Binary}
-use Rattle.ae_code.specs.Grammar.{Tokens, ◌⨾◌, each, name, root, step, path, receiver, arguments, call, whole, expression}
-use Rattle.ae_code.specs.Names.{io}
-use Rattle.ae_code.specs.Refused.{AreKnown, marks_in}
+use Rattle.ae_tree.specs.declared.lexeme.Lexeme.{Lexeme}
+use Rattle.ae_tree.specs.declared.lexeme.Lexical.TheVariants as tok
+use Rattle.ae_tree.specs.declared.tree.NameAt.{NameAt}
+use Rattle.ae_tree.specs.declared.tree.Path.{Path}
+use Rattle.ae_tree.specs.declared.tree.Op.TheVariants as op
+use Rattle.ae_tree.specs.Plain.{Expression, Number, Read, Binary}
+use Rattle.ae_tree.specs.Grammar.{Tokens, ◌⨾◌, each, name, root, step, path, receiver, arguments, call, whole, expression}
+use Rattle.ae_tree.specs.Names.{io}
+use Rattle.ae_tree.specs.Refused.{AreKnown, marks_in}
 use Rattle.ae_reading.proofs.ReadsLemmas.{nowhere, io_name, name_token}
 use Rattle.ae_statements.specs.Productions.{ended, called, invoked, receiver_of}
 use Rattle.ae_statements.specs.Deciding.{IsCallable, Calling, IsUndecided}

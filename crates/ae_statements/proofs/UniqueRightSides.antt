@@ -5,22 +5,22 @@ use Rattle.ae_text.specs.declared.refusal.Spot.{Spot}
 use Rattle.ae_text.specs.declared.token.Keyword.{Keyword}
 use Rattle.ae_text.specs.declared.token.Keyword.TheVariants as word
 use Rattle.ae_text.specs.declared.token.Sign.TheVariants as sign
-use Rattle.ae_code.specs.declared.lexeme.Lexeme.{Lexeme}
-use Rattle.ae_code.specs.declared.lexeme.Lexical.{Lexical}
-use Rattle.ae_code.specs.declared.lexeme.Lexical.TheVariants as tok
-use Rattle.ae_code.specs.declared.tree.NameAt.{NameAt}
-use Rattle.ae_code.specs.declared.tree.Path.{Path}
-use Rattle.ae_code.specs.declared.tree.Op.{Op}
-use Rattle.ae_code.specs.declared.tree.Op.TheVariants as op
-use Rattle.ae_code.specs.Plain.{Expression, Read, Invocation, RightSide, Value, Taken, Zeros, Made, Returned}
-use Rattle.ae_code.specs.Grammar.{Tokens, each, further, listed, name, step, path, groups, level, left_level, sign_of, whole, arguments, receiver, call, right_side}
+use Rattle.ae_tree.specs.declared.lexeme.Lexeme.{Lexeme}
+use Rattle.ae_tree.specs.declared.lexeme.Lexical.{Lexical}
+use Rattle.ae_tree.specs.declared.lexeme.Lexical.TheVariants as tok
+use Rattle.ae_tree.specs.declared.tree.NameAt.{NameAt}
+use Rattle.ae_tree.specs.declared.tree.Path.{Path}
+use Rattle.ae_tree.specs.declared.tree.Op.{Op}
+use Rattle.ae_tree.specs.declared.tree.Op.TheVariants as op
+use Rattle.ae_tree.specs.Plain.{Expression, Read, Invocation, RightSide, Value, Taken, Zeros, Made, Returned}
+use Rattle.ae_tree.specs.Grammar.{Tokens, each, further, listed, name, step, path, groups, level, left_level, sign_of, whole, arguments, receiver, call, right_side}
 use Rattle.ae_reading.specs.Reads.{head, Always, Is, Isnt, IsName, Token, Mark}
 use Rattle.ae_reading.proofs.ReadsLemmas.{Lang, Follow, Both, Links}
 use Rattle.ae_reading.proofs.UniqueLemmas.{Unique, apart_by, unique_at, unique_mark, unique_name, unique_then, unique_both, unique_as, unique_under, unique_always, unique_choice, by_first, unique_listed, unique_closing}
 use Rattle.ae_reading.proofs.UniquePaths.{IsRoot, begins_path, unique_path}
 use Rattle.ae_reading.proofs.Runs.{each-append, each-one}
 use Rattle.ae_reading.proofs.Begins.{Begins, begins_token, begins_mark, begins_name, begins_both, of_kind, of_other, links_by, not_both}
-use Rattle.ae_types.proofs.UniqueTypes.{unique_groups}
+use Rattle.ae_reading.proofs.UniqueTypes.{unique_groups}
 use Rattle.ae_expressions.specs.Ends.{Ends}
 use Rattle.ae_expressions.proofs.UniqueExpressions.{left_cases, sign_ends, Form, OfPath, form_of, kind_form, word_form, form_at_root, unique_expression}
 use Rattle.ae_expressions.proofs.LeadingOperands.{operator_at, Outer, Behind, leads_path, IsStart, begins_expression}

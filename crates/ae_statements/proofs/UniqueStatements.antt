@@ -6,22 +6,22 @@ use Rattle.ae_text.specs.declared.token.Keyword.{Keyword}
 use Rattle.ae_text.specs.declared.token.Keyword.TheVariants as word
 use Rattle.ae_text.specs.declared.token.Sign.{Sign}
 use Rattle.ae_text.specs.declared.token.Sign.TheVariants as sign
-use Rattle.ae_code.specs.declared.lexeme.Lexeme.{Lexeme}
-use Rattle.ae_code.specs.declared.lexeme.Lexical.{Lexical}
-use Rattle.ae_code.specs.declared.lexeme.Lexical.TheVariants as tok
-use Rattle.ae_code.specs.declared.tree.NameAt.{NameAt}
-use Rattle.ae_code.specs.declared.tree.Path.{Path}
-use Rattle.ae_code.specs.declared.tree.Ty.{Ty}
-use Rattle.ae_code.specs.Plain.{Expression, Invocation, RightSide, Value, Lines, End, Next}
-use Rattle.ae_code.specs.Plain.{Action, Declares, Assigns, Stores, StoresAt, Calls, Chooses, ChoosesElse, Repeats, Groups, Splits, Locks, Freezes, Shares, Prints, PrintsText, Asserts, Returns}
-use Rattle.ae_code.specs.Grammar.{Tokens, ◌⨾◌, a_sign, one, name, path, type_, groups, arguments, call, separated, whole, right_side, opened, opened_in, first_spot, braced, statement, statements, returning, with_return, body}
+use Rattle.ae_tree.specs.declared.lexeme.Lexeme.{Lexeme}
+use Rattle.ae_tree.specs.declared.lexeme.Lexical.{Lexical}
+use Rattle.ae_tree.specs.declared.lexeme.Lexical.TheVariants as tok
+use Rattle.ae_tree.specs.declared.tree.NameAt.{NameAt}
+use Rattle.ae_tree.specs.declared.tree.Path.{Path}
+use Rattle.ae_tree.specs.declared.tree.Ty.{Ty}
+use Rattle.ae_tree.specs.Plain.{Expression, Invocation, RightSide, Value, Lines, End, Next}
+use Rattle.ae_tree.specs.Plain.{Action, Declares, Assigns, Stores, StoresAt, Calls, Chooses, ChoosesElse, Repeats, Groups, Splits, Locks, Freezes, Shares, Prints, PrintsText, Asserts, Returns}
+use Rattle.ae_tree.specs.Grammar.{Tokens, ◌⨾◌, a_sign, one, name, path, type_, groups, arguments, call, separated, whole, right_side, opened, opened_in, first_spot, braced, statement, statements, returning, with_return, body}
 use Rattle.ae_reading.specs.Reads.{head, Always, Is, Isnt, Token, Mark, chain}
 use Rattle.ae_reading.proofs.ReadsLemmas.{lengths, Lang, Follow, Both, Links, After}
 use Rattle.ae_reading.proofs.UniqueLemmas.{Unique, apart_by, none_at, isnt_at, unique_at, unique_mark, unique_name, unique_then, unique_both, unique_after, unique_as, unique_always, unique_choice, by_first, unique_optional, unique_separated, unique_closing, unique_chain}
 use Rattle.ae_reading.proofs.UniquePaths.{IsRoot, begins_path, unique_path}
 use Rattle.ae_reading.proofs.Begins.{Begins, begins_token, begins_mark, begins_both, of_kind, of_other, links_by, is_isnt, not_both}
 use Rattle.ae_reading.proofs.Parts.{optional}
-use Rattle.ae_types.proofs.UniqueTypes.{unique_type}
+use Rattle.ae_reading.proofs.UniqueTypes.{unique_type}
 use Rattle.ae_expressions.specs.Ends.{Ends}
 use Rattle.ae_expressions.proofs.UniqueExpressions.{sign_ends, form_of, unique_expression}
 use Rattle.ae_expressions.proofs.LeadingOperands.{IsStart, begins_expression}

@@ -2,16 +2,16 @@
 use Rattle.std.proofs.Common.{◌≡◌, ℕ, nat_lt, ◌+◌, ◌≤◌, ◌<◌, ◌++◌, [], ◌∷◌, length, ◌⊎◌, inl, inr, Bool, true, false, if◌then◌else◌, Option, refl, sym, ap, ◌∙◌, append_assoc, append-nil, length-append, subst, arith}
 use Rattle.std.proofs.lemmas.Bool.{cases_lt}
 use Rattle.std.proofs.lemmas.Bool.Decides.{nat_tests}
-use Rattle.ae_code.specs.declared.limits.Limit.{Limit}
+use Rattle.ae_tree.specs.declared.limits.Limit.{Limit}
 use Rattle.ae_text.specs.declared.token.Keyword.TheVariants as word
 use Rattle.ae_text.specs.declared.token.Sign.TheVariants as sign
-use Rattle.ae_code.specs.declared.lexeme.Lexeme.{Lexeme}
-use Rattle.ae_code.specs.declared.lexeme.Lexical.TheVariants as tok
-use Rattle.ae_code.specs.declared.limits.Limit.TheVariants as limit
-use Rattle.ae_code.specs.Plain.{Expression, RightSide, Value, Returned}
-use Rattle.ae_code.specs.Grammar.{Tokens, one, whole, right_side}
-use Rattle.ae_code.specs.Limits.{Keeps, KeepsRight, marks, early, rank}
-use Rattle.ae_code.specs.Refused.{is_mark, marks_in}
+use Rattle.ae_tree.specs.declared.lexeme.Lexeme.{Lexeme}
+use Rattle.ae_tree.specs.declared.lexeme.Lexical.TheVariants as tok
+use Rattle.ae_tree.specs.declared.limits.Limit.TheVariants as limit
+use Rattle.ae_tree.specs.Plain.{Expression, RightSide, Value, Returned}
+use Rattle.ae_tree.specs.Grammar.{Tokens, one, whole, right_side}
+use Rattle.ae_tree.specs.Limits.{Keeps, KeepsRight, marks, early, rank}
+use Rattle.ae_tree.specs.Refused.{is_mark, marks_in}
 use Rattle.ae_reading.specs.declared.fail.Fail.{Fail}
 use Rattle.ae_reading.specs.declared.fail.Fail.TheVariants.{Refused, Memory}
 use Rattle.ae_reading.specs.declared.fail.Why.{Why}

@@ -3,14 +3,14 @@ use Rattle.std.specs.Prelude.{ℕ, List}
 use Rattle.ae_text.specs.declared.refusal.Spot.{Spot}
 use Rattle.ae_text.specs.declared.token.Keyword.{Keyword}
 use Rattle.ae_text.specs.declared.token.Keyword.TheVariants as word
-use Rattle.ae_code.specs.declared.lexeme.Lexical.TheVariants as tok
-use Rattle.ae_code.specs.declared.limits.Limit.{Limit}
-use Rattle.ae_code.specs.declared.tree.NameAt.{NameAt}
-use Rattle.ae_code.specs.declared.tree.Expr.{Expr}
-use Rattle.ae_code.specs.Plain.{Expression}
-use Rattle.ae_code.specs.Shown as shown
-use Rattle.ae_code.specs.Grammar.{Tokens, ◌⨾◌, one_at, name, separated, whole}
-use Rattle.ae_code.specs.Limits.{Keeps}
+use Rattle.ae_tree.specs.declared.lexeme.Lexical.TheVariants as tok
+use Rattle.ae_tree.specs.declared.limits.Limit.{Limit}
+use Rattle.ae_tree.specs.declared.tree.NameAt.{NameAt}
+use Rattle.ae_tree.specs.declared.tree.Expr.{Expr}
+use Rattle.ae_tree.specs.Plain.{Expression}
+use Rattle.ae_tree.specs.Shown as shown
+use Rattle.ae_tree.specs.Grammar.{Tokens, ◌⨾◌, one_at, name, separated, whole}
+use Rattle.ae_tree.specs.Limits.{Keeps}
 use Rattle.ae_reading.specs.declared.fail.Fail.{Fail}
 use Rattle.ae_reading.specs.Reads.{Failed}
 use Rattle.ae_statements.specs.Productions.{stmt, KeepsStmt, NoElse}

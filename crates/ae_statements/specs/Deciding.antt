@@ -2,15 +2,15 @@
 use Rattle.std.specs.Prelude.{◌≡◌, ◌⊎◌, ℕ, nat_lt, ◌++◌, List, [], ◌∷◌, length, Bool, true, false, if◌then◌else◌}
 use Rattle.ae_text.specs.declared.token.Keyword.TheVariants as word
 use Rattle.ae_text.specs.declared.token.Sign.TheVariants as sign
-use Rattle.ae_code.specs.declared.lexeme.Lexeme.{Lexeme}
-use Rattle.ae_code.specs.declared.lexeme.Lexical.{Lexical}
-use Rattle.ae_code.specs.declared.lexeme.Lexical.TheVariants as tok
-use Rattle.ae_code.specs.declared.tree.NameAt.{NameAt}
-use Rattle.ae_code.specs.declared.tree.Path.{Path}
-use Rattle.ae_code.specs.Plain.{Expression, Invocation, RightSide, Value}
-use Rattle.ae_code.specs.Grammar.{Tokens, ◌⨾◌, a_sign, each, name, step, path, receiver, whole, call, right_side}
-use Rattle.ae_code.specs.Limits.{KeepsRight}
-use Rattle.ae_code.specs.Refused.{AreKnown, marks_in}
+use Rattle.ae_tree.specs.declared.lexeme.Lexeme.{Lexeme}
+use Rattle.ae_tree.specs.declared.lexeme.Lexical.{Lexical}
+use Rattle.ae_tree.specs.declared.lexeme.Lexical.TheVariants as tok
+use Rattle.ae_tree.specs.declared.tree.NameAt.{NameAt}
+use Rattle.ae_tree.specs.declared.tree.Path.{Path}
+use Rattle.ae_tree.specs.Plain.{Expression, Invocation, RightSide, Value}
+use Rattle.ae_tree.specs.Grammar.{Tokens, ◌⨾◌, a_sign, each, name, step, path, receiver, whole, call, right_side}
+use Rattle.ae_tree.specs.Limits.{KeepsRight}
+use Rattle.ae_tree.specs.Refused.{AreKnown, marks_in}
 use Rattle.ae_reading.specs.declared.fail.Fail.{Fail}
 use Rattle.ae_reading.specs.declared.fail.Fail.TheVariants.{Refused, Memory}
 use Rattle.ae_reading.specs.declared.fail.Why.TheVariants.{Unexpected}

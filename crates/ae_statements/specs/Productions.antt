@@ -4,19 +4,19 @@ use Rattle.std.specs.Borrow.{Bor}
 use Rattle.ae_text.specs.declared.refusal.Spot.{Spot}
 use Rattle.ae_text.specs.declared.token.Keyword.TheVariants as word
 use Rattle.ae_text.specs.declared.token.Sign.TheVariants as sign
-use Rattle.ae_code.specs.declared.lexeme.Lexical.TheVariants as tok
-use Rattle.ae_code.specs.declared.lexeme.Lexeme.{Lexeme}
-use Rattle.ae_code.specs.declared.limits.Limit.{Limit}
-use Rattle.ae_code.specs.declared.limits.Limit.TheVariants as limit
-use Rattle.ae_code.specs.declared.tree.NameAt.{NameAt}
-use Rattle.ae_code.specs.declared.tree.Path.{Path}
-use Rattle.ae_code.specs.declared.tree.Expr.{Expr}
-use Rattle.ae_code.specs.declared.tree.Stmt.{Stmt}
-use Rattle.ae_code.specs.Plain.{Expression, Invocation, RightSide, Zeros, Made, Lines, Action, Assigns, Stores, StoresAt, Calls, Prints, PrintsText}
-use Rattle.ae_code.specs.Shown as shown
-use Rattle.ae_code.specs.Grammar.{Tokens, ◌⨾◌, one_at, one, a_word, a_sign, never, name, path, whole, with_return, right_side, groups, arguments, statement, statements, opened}
-use Rattle.ae_code.specs.Grammar as grammar
-use Rattle.ae_code.specs.Limits.{Keeps, KeepsRight, AllKeep, IsFew, Opens, KeepsIn, EachKeeps}
+use Rattle.ae_tree.specs.declared.lexeme.Lexical.TheVariants as tok
+use Rattle.ae_tree.specs.declared.lexeme.Lexeme.{Lexeme}
+use Rattle.ae_tree.specs.declared.limits.Limit.{Limit}
+use Rattle.ae_tree.specs.declared.limits.Limit.TheVariants as limit
+use Rattle.ae_tree.specs.declared.tree.NameAt.{NameAt}
+use Rattle.ae_tree.specs.declared.tree.Path.{Path}
+use Rattle.ae_tree.specs.declared.tree.Expr.{Expr}
+use Rattle.ae_tree.specs.declared.tree.Stmt.{Stmt}
+use Rattle.ae_tree.specs.Plain.{Expression, Invocation, RightSide, Zeros, Made, Lines, Action, Assigns, Stores, StoresAt, Calls, Prints, PrintsText}
+use Rattle.ae_tree.specs.Shown as shown
+use Rattle.ae_tree.specs.Grammar.{Tokens, ◌⨾◌, one_at, one, a_word, a_sign, never, name, path, whole, with_return, right_side, groups, arguments, statement, statements, opened}
+use Rattle.ae_tree.specs.Grammar as grammar
+use Rattle.ae_tree.specs.Limits.{Keeps, KeepsRight, AllKeep, IsFew, Opens, KeepsIn, EachKeeps}
 use Rattle.ae_reading.specs.declared.fail.Why.{Why}
 use Rattle.ae_reading.specs.declared.fail.Why.TheVariants.{Unexpected, Over}
 use Rattle.ae_reading.specs.declared.fail.Fail.{Fail}

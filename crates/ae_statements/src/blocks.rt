@@ -1,9 +1,9 @@
 // Statements and blocks, with the numbers of the blocks in the order of opening.
 ghost use Rattle.std.specs.Prelude.{◌≡◌, ◌≤◌, ◌+◌, ℕ, MatchBool, IfOk, length};
-ghost use Rattle.ae_code.specs.Shown as shown;
-ghost use Rattle.ae_code.specs.Grammar as grammar;
-ghost use Rattle.ae_code.specs.Grammar.{opened, opened_in};
-ghost use Rattle.ae_code.specs.Limits.{KeepsBlock};
+ghost use Rattle.ae_tree.specs.Shown as shown;
+ghost use Rattle.ae_tree.specs.Grammar as grammar;
+ghost use Rattle.ae_tree.specs.Grammar.{opened, opened_in};
+ghost use Rattle.ae_tree.specs.Limits.{KeepsBlock};
 ghost use Rattle.ae_reading.specs.Reads.{Reads, Always, Is, head};
 ghost use Rattle.ae_statements.specs.Productions as productions;
 ghost use Rattle.ae_statements.specs.Productions.{Closes, Further, IsOpener, IsRoot, IsSimple, ReadsSimple, KeepsBraced, KeepsStmt, NoElse, braced, otherwise, shown_block, shown_numbered, shown_stmts, stmt};
@@ -11,13 +11,10 @@ ghost use Rattle.ae_statements.specs.Productions.{Closes, Further, IsOpener, IsR
 use crate::deep::too_deep;
 use crate::led::led;
 use crate::simple::{assertion, declaration, freezing, group, printing, sharing};
-use ae_code::{Block, Lexeme, Lexical, Limit, Stmt, StmtKind};
+use ae_tree::{Block, Lexeme, Lexical, Limit, Stmt, StmtKind};
 use ae_expressions::expression;
-use ae_reading::{
-    Fail, Why, expect_sign, expect_word, is_name_next, is_sign_next, is_word_next, name, unexpected,
-};
+use ae_reading::{expect_sign, expect_word, Fail, is_name_next, is_sign_next, is_word_next, name, names, unexpected, Why};
 use ae_text::{Items, Keyword, Sign};
-use ae_types::names;
 use std::alloc::Global;
 
 pub(crate) const MOST_STATEMENTS: usize = 1024;

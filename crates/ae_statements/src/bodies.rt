@@ -1,15 +1,15 @@
 // The body of a method.
 ghost use Rattle.std.specs.Prelude.{◌≡◌, ◌≤◌, IfOk, length};
-ghost use Rattle.ae_code.specs.Shown as shown;
-ghost use Rattle.ae_code.specs.Grammar as grammar;
-ghost use Rattle.ae_code.specs.Limits.{Keeps, KeepsBlock};
+ghost use Rattle.ae_tree.specs.Shown as shown;
+ghost use Rattle.ae_tree.specs.Grammar as grammar;
+ghost use Rattle.ae_tree.specs.Limits.{Keeps, KeepsBlock};
 ghost use Rattle.ae_reading.specs.Reads.{Reads, Always, Is, head};
 ghost use Rattle.ae_statements.specs.Productions as productions;
 ghost use Rattle.ae_statements.specs.Productions.{KeepsReturned, returned, returning, shown_returned};
 
 use crate::blocks::{MOST_STATEMENTS, NumberedStmts, statements};
 use crate::simple::ended_expression;
-use ae_code::{Block, Expr, Lexeme, Lexical, Limit, Stmt, StmtKind};
+use ae_tree::{Block, Expr, Lexeme, Lexical, Limit, Stmt, StmtKind};
 use ae_reading::{Fail, Why, expect_sign, expect_word, is_word_next};
 use ae_text::{Items, Keyword, Sign, Spot};
 use std::alloc::Global;

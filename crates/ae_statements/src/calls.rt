@@ -1,18 +1,17 @@
 // Arguments and calls.
 ghost use Rattle.std.specs.Prelude.{◌≡◌, map};
-ghost use Rattle.ae_code.specs.Shown as shown;
-ghost use Rattle.ae_code.specs.Grammar as grammar;
-ghost use Rattle.ae_code.specs.Limits.{Keeps, AllKeep};
+ghost use Rattle.ae_tree.specs.Shown as shown;
+ghost use Rattle.ae_tree.specs.Grammar as grammar;
+ghost use Rattle.ae_tree.specs.Limits.{Keeps, AllKeep};
 ghost use Rattle.ae_reading.specs.Reads.{Reads, Always, Is};
 ghost use Rattle.ae_expressions.specs.Ends.{Ends};
 ghost use Rattle.ae_statements.specs.Productions as productions;
 ghost use Rattle.ae_statements.specs.Productions.{KeepsCalled, shown_called};
 
-use ae_code::{Call, Expr, Lexeme, Lexical, NameAt, Path};
+use ae_tree::{Call, Expr, Lexeme, Lexical, NameAt, Path};
 use ae_expressions::expression;
-use ae_reading::{Fail, expect_sign, is_sign_next};
+use ae_reading::{expect_sign, Fail, groups, in_front, is_sign_next};
 use ae_text::{Items, Sign};
-use ae_types::{groups, in_front};
 use std::alloc::Global;
 
 fn further_argument<'a>(alloc: Global, ts: &'a [Lexeme]) -> Result<(Expr, &'a [Lexeme]), Fail>

@@ -3,7 +3,7 @@ ghost use Rattle.std.specs.Prelude.{◌≡◌, ◌∷◌, MatchOption};
 ghost use Rattle.ae_statements.specs.Deciding as deciding;
 ghost use Rattle.ae_statements.specs.Deciding.{AllSteps, BehindLess, BehindName, BehindPath, Decides, IsPlain, Steps};
 
-use ae_code::{Lexeme, Lexical};
+use ae_tree::{Lexeme, Lexical};
 use ae_reading::{is_name_next, is_sign_next, is_word_next, next};
 use ae_text::{Keyword, Sign};
 

@@ -1,19 +1,18 @@
 // Statements that begin with a path.
 ghost use Rattle.std.specs.Prelude.{◌≡◌, ◌≢◌};
-ghost use Rattle.ae_code.specs.Shown as shown;
-ghost use Rattle.ae_code.specs.Grammar as grammar;
-ghost use Rattle.ae_code.specs.Limits.{Keeps};
+ghost use Rattle.ae_tree.specs.Shown as shown;
+ghost use Rattle.ae_tree.specs.Grammar as grammar;
+ghost use Rattle.ae_tree.specs.Limits.{Keeps};
 ghost use Rattle.ae_reading.specs.Reads.{Reads, itself, Always, Free, Is, head};
 ghost use Rattle.ae_statements.specs.Productions as productions;
 ghost use Rattle.ae_statements.specs.Productions.{ReadsSimple, IsRoot, KeepsIndexed, KeepsTail, Only, shown_indexed, shown_tail};
 
 use crate::calls::{called, invoke};
 use crate::simple::{ended_expression, value};
-use ae_code::{Expr, Lexeme, Lexical, NameAt, Path, Rhs, Stmt, StmtKind};
+use ae_tree::{Expr, Lexeme, Lexical, NameAt, Path, Rhs, Stmt, StmtKind};
 use ae_expressions::expression;
-use ae_reading::{Fail, expect_sign, is_name_next, is_sign_next, unexpected};
+use ae_reading::{expect_sign, Fail, is_name_next, is_sign_next, path, unexpected};
 use ae_text::{Items, Sign};
-use ae_types::path;
 use std::alloc::Global;
 
 /// What a path at the front of a statement is.

@@ -1,18 +1,17 @@
 // Statements with no block and no path in front.
 ghost use Rattle.std.specs.Prelude.{ℕ, MatchBool};
-ghost use Rattle.ae_code.specs.Shown as shown;
-ghost use Rattle.ae_code.specs.Grammar as grammar;
-ghost use Rattle.ae_code.specs.Limits.{Keeps, KeepsRight};
+ghost use Rattle.ae_tree.specs.Shown as shown;
+ghost use Rattle.ae_tree.specs.Grammar as grammar;
+ghost use Rattle.ae_tree.specs.Limits.{Keeps, KeepsRight};
 ghost use Rattle.ae_reading.specs.Reads.{Reads, itself, Always, Free, Is, head};
 ghost use Rattle.ae_statements.specs.Productions as productions;
 ghost use Rattle.ae_statements.specs.Productions.{ReadsSimple, KeepsPrinted, IsText, ended};
 
 use crate::values::right_side;
-use ae_code::{Expr, Lexeme, Lexical, NameAt, Rhs, Stmt, StmtKind};
+use ae_tree::{Expr, Lexeme, Lexical, NameAt, Rhs, Stmt, StmtKind};
 use ae_expressions::expression;
-use ae_reading::{Fail, expect_sign, expect_word, name, next, unexpected};
+use ae_reading::{expect_sign, expect_word, Fail, name, next, type_, unexpected};
 use ae_text::{Items, Keyword, Sign};
-use ae_types::type_;
 use std::alloc::Global;
 
 /// A name and a semicolon.

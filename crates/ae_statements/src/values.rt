@@ -1,7 +1,7 @@
 // What stands right of a `=`.
-ghost use Rattle.ae_code.specs.Shown as shown;
-ghost use Rattle.ae_code.specs.Grammar as grammar;
-ghost use Rattle.ae_code.specs.Limits.{Keeps, KeepsRight};
+ghost use Rattle.ae_tree.specs.Shown as shown;
+ghost use Rattle.ae_tree.specs.Grammar as grammar;
+ghost use Rattle.ae_tree.specs.Limits.{Keeps, KeepsRight};
 ghost use Rattle.ae_reading.specs.Reads.{Reads, itself, head, Always, Free, Is, Isnt};
 ghost use Rattle.std.specs.Prelude.{◌≡◌};
 ghost use Rattle.ae_statements.specs.Deciding as deciding;
@@ -12,11 +12,10 @@ ghost use Rattle.ae_statements.specs.Productions.{ended};
 use crate::calls::{called, invoke};
 use crate::decide::{Decided, decide};
 use crate::simple::ended_expression;
-use ae_code::{Expr, Lexeme, Lexical, Path, Rhs};
+use ae_tree::{Expr, Lexeme, Lexical, Path, Rhs};
 use ae_expressions::expression;
-use ae_reading::{Fail, Why, expect_sign, expect_word, is_word_next, name, unexpected};
+use ae_reading::{expect_sign, expect_word, Fail, is_word_next, name, path, unexpected, Why};
 use ae_text::{Keyword, Sign, Spot};
-use ae_types::path;
 use std::alloc::Global;
 
 /// The failure, no earlier than at the token from which on this many are left.

@@ -1,6 +1,6 @@
 -- Groups that are split inside an atomic block: what calls do to them stays, also where one group is given for two.
 use Rattle.std.specs.Prelude.{refl, pos, List, [], ◌∷◌}
-use Rattle.ae_code.specs.Plain.{Code}
+use Rattle.ae_tree.specs.Plain.{Code}
 use Rattle.ae_rules.specs.Verdict.{given}
 use Rattle.ae_semantics.specs.Observations.{Seen, OfBlock, OfCell, OfStore, Done}
 use Rattle.ae_semantics.specs.Meaning.{one, many, below}

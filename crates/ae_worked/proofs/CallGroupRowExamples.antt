@@ -1,14 +1,14 @@
 -- Calls: the rows of the page on the language, from lent parameters on. Made by `tests/worked`.
 use Rattle.std.specs.Prelude.{refl, [], ◌∷◌, codes, None}
 use Rattle.ae_text.specs.declared.refusal.Rule.TheVariants as rule
-use Rattle.ae_code.specs.declared.tree.PermAt.TheVariants as perm_at
-use Rattle.ae_code.specs.declared.tree.KindAt.TheVariants as kind_at
-use Rattle.ae_code.specs.declared.tree.Ty.TheVariants as ty
-use Rattle.ae_code.specs.declared.tree.Need.TheVariants as need_of
-use Rattle.ae_code.specs.declared.tree.Decl.TheVariants as decl
-use Rattle.ae_code.specs.Plain.{Code, Nothing, Read}
-use Rattle.ae_code.specs.Plain.{Made, Returned, End, Next}
-use Rattle.ae_code.specs.Plain.{Declares, Calls, Groups, Splits, Locks}
+use Rattle.ae_tree.specs.declared.tree.PermAt.TheVariants as perm_at
+use Rattle.ae_tree.specs.declared.tree.KindAt.TheVariants as kind_at
+use Rattle.ae_tree.specs.declared.tree.Ty.TheVariants as ty
+use Rattle.ae_tree.specs.declared.tree.Need.TheVariants as need_of
+use Rattle.ae_tree.specs.declared.tree.Decl.TheVariants as decl
+use Rattle.ae_tree.specs.Plain.{Code, Nothing, Read}
+use Rattle.ae_tree.specs.Plain.{Made, Returned, End, Next}
+use Rattle.ae_tree.specs.Plain.{Declares, Calls, Groups, Splits, Locks}
 use Rattle.ae_rules.specs.Judges.{Accepts, FirstBroken}
 use Rattle.ae_worked.proofs.ProgramWords.{at, name, path, call, field, class_with, param}
 use Rattle.ae_worked.proofs.ProgramWords.{need, top_method}

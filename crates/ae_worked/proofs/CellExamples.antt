@@ -2,9 +2,9 @@
 use Rattle.std.proofs.Common.{◌≡◌, inl, inr, refl, ap, arith, ℕ, nat_eq, if◌then◌else◌, List, [], ◌∷◌, Option, None}
 use Rattle.std.proofs.Common.{Some}
 use Rattle.std.specs.Prelude.{pos}
-use Rattle.ae_code.specs.declared.form.Form.TheVariants as f
-use Rattle.ae_code.specs.declared.form.Perm.TheVariants as perm
-use Rattle.ae_code.specs.declared.form.Kind.TheVariants as kind
+use Rattle.ae_tree.specs.declared.form.Form.TheVariants as f
+use Rattle.ae_tree.specs.declared.form.Perm.TheVariants as perm
+use Rattle.ae_tree.specs.declared.form.Kind.TheVariants as kind
 use Rattle.ae_rules.specs.Instances.{Instance}
 use Rattle.ae_semantics.specs.Values.{Object, OfInt, Member, AndValue, NoValue}
 use Rattle.ae_semantics.specs.Places.{Bound}

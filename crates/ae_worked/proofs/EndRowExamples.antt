@@ -1,15 +1,15 @@
 -- The ends of blocks and methods, and names: the rows of the page on the language. Made by `tests/worked`.
 use Rattle.std.specs.Prelude.{refl, pos, true, [], ◌∷◌, codes, None, Some}
 use Rattle.ae_text.specs.declared.refusal.Rule.TheVariants as rule
-use Rattle.ae_code.specs.declared.tree.PermAt.TheVariants as perm_at
-use Rattle.ae_code.specs.declared.tree.KindAt.TheVariants as kind_at
-use Rattle.ae_code.specs.declared.tree.Ty.TheVariants as ty
-use Rattle.ae_code.specs.declared.tree.Need.TheVariants as need_of
-use Rattle.ae_code.specs.declared.tree.Decl.TheVariants as decl
-use Rattle.ae_code.specs.Plain.{Code, Number, Truth, Read}
-use Rattle.ae_code.specs.Plain.{Value, Made, End, Next}
-use Rattle.ae_code.specs.Plain.{Declares, Chooses, Groups}
-use Rattle.ae_code.specs.Plain.{Shares}
+use Rattle.ae_tree.specs.declared.tree.PermAt.TheVariants as perm_at
+use Rattle.ae_tree.specs.declared.tree.KindAt.TheVariants as kind_at
+use Rattle.ae_tree.specs.declared.tree.Ty.TheVariants as ty
+use Rattle.ae_tree.specs.declared.tree.Need.TheVariants as need_of
+use Rattle.ae_tree.specs.declared.tree.Decl.TheVariants as decl
+use Rattle.ae_tree.specs.Plain.{Code, Number, Truth, Read}
+use Rattle.ae_tree.specs.Plain.{Value, Made, End, Next}
+use Rattle.ae_tree.specs.Plain.{Declares, Chooses, Groups}
+use Rattle.ae_tree.specs.Plain.{Shares}
 use Rattle.ae_rules.specs.Judges.{Accepts, FirstBroken}
 use Rattle.ae_worked.proofs.ProgramWords.{at, name, path, class_with, param, given_away}
 use Rattle.ae_worked.proofs.ProgramWords.{need, top_method, class_method}

@@ -1,17 +1,17 @@
 -- What goes on past an ending, and which statements of a block are joined by an edge.
 use Rattle.std.specs.Prelude.{◌≡◌, refl, ℕ, pos, true, false, List, [], ◌∷◌, Option, None, Some, Bool, map, length}
-use Rattle.ae_code.specs.Plain.{Code}
+use Rattle.ae_tree.specs.Plain.{Code}
 use Rattle.ae_semantics.specs.Observations.{Trap}
 use Rattle.ae_semantics.specs.Meaning.{one, many, below}
-use Rattle.ae_code.specs.Names.{main}
-use Rattle.ae_code.specs.declared.uses.Resource.{Resource}
-use Rattle.ae_code.specs.declared.uses.Resource.TheVariants.{Local, Group}
-use Rattle.ae_code.specs.declared.uses.Mode.{Mode}
-use Rattle.ae_code.specs.declared.uses.Mode.TheVariants as mode
+use Rattle.ae_tree.specs.Names.{main}
+use Rattle.ae_rules.specs.declared.uses.Resource.{Resource}
+use Rattle.ae_rules.specs.declared.uses.Resource.TheVariants.{Local, Group}
+use Rattle.ae_rules.specs.declared.uses.Mode.{Mode}
+use Rattle.ae_rules.specs.declared.uses.Mode.TheVariants as mode
 use Rattle.ae_rules.specs.Verdict.{given}
 use Rattle.ae_rules.specs.Lookups.{top_called}
 use Rattle.ae_rules.specs.Blocks.{Scene, scene_uses}
-use Rattle.ae_rules.specs.Edges.{is_edge}
+use Rattle.ae_rules.specs.EdgeLists.{is_edge}
 use Rattle.ae_rules.specs.Instances.{body, Instance, Parting, parting, uses_from}
 use Rattle.ae_semantics.specs.Means.{At, Meant}
 use Rattle.ae_semantics.specs.Atom.{part}

@@ -1,7 +1,7 @@
 -- What some programs with split blocks come to, with observations.
 use Rattle.std.specs.Prelude.{◌≡◌, refl, ℕ, pos, List, [], ◌∷◌, codes, Option, None, Some}
-use Rattle.ae_code.specs.declared.form.Form.TheVariants as f
-use Rattle.ae_code.specs.Plain.{Code}
+use Rattle.ae_tree.specs.declared.form.Form.TheVariants as f
+use Rattle.ae_tree.specs.Plain.{Code}
 use Rattle.ae_semantics.specs.Values.{OfInt, Member, Object, NoValue, AndValue}
 use Rattle.ae_semantics.specs.Places.{Bound}
 use Rattle.ae_semantics.specs.Observations.{OfBlock, OfCell, Piece, Image, OfStore, OfLog, Answer, Gave, Trapped, Done}

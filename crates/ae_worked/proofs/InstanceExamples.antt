@@ -1,10 +1,10 @@
 -- Which instances of some programs are first, and which conflict.
 use Rattle.std.proofs.Common.{◌≡◌, ◌<◌, inr, refl, arith, zero, suc, ℕ, true, false, [], ◌∷◌, Option, None, Some}
-use Rattle.ae_code.specs.declared.uses.Resource.{Resource}
-use Rattle.ae_code.specs.declared.uses.Resource.TheVariants as resource
-use Rattle.ae_code.specs.declared.uses.Mode.TheVariants.{Read, GroupShared, GroupWhole}
-use Rattle.ae_code.specs.Edges.{IsConflict, Direct, Edge}
-use Rattle.ae_code.specs.Plain.{Code}
+use Rattle.ae_rules.specs.declared.uses.Resource.{Resource}
+use Rattle.ae_rules.specs.declared.uses.Resource.TheVariants as resource
+use Rattle.ae_rules.specs.declared.uses.Mode.TheVariants.{Read, GroupShared, GroupWhole}
+use Rattle.ae_rules.specs.Edges.{IsConflict, Direct, Edge}
+use Rattle.ae_tree.specs.Plain.{Code}
 use Rattle.ae_rules.specs.Blocks.{scene_uses}
 use Rattle.ae_rules.specs.Instances.{Instance, Point, InBlock, AtChoice, AtLoop, Nowhere, Parting, parting, first_point}
 use Rattle.ae_rules.specs.Instances.{IsFirstAt, Ordered, Conflict, uses_from}

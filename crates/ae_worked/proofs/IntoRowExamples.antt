@@ -1,14 +1,14 @@
 -- What goes into a form: the rows of the page on the language. Made by `tests/worked`.
 use Rattle.std.specs.Prelude.{refl, [], ◌∷◌, codes, None, Some}
 use Rattle.ae_text.specs.declared.refusal.Rule.TheVariants as rule
-use Rattle.ae_code.specs.declared.tree.PermAt.TheVariants as perm_at
-use Rattle.ae_code.specs.declared.tree.KindAt.TheVariants as kind_at
-use Rattle.ae_code.specs.declared.tree.Ty.TheVariants as ty
-use Rattle.ae_code.specs.declared.tree.Decl.TheVariants as decl
-use Rattle.ae_code.specs.Plain.{Code, Nothing, Read}
-use Rattle.ae_code.specs.Plain.{Value, Made, Returned, End, Next}
-use Rattle.ae_code.specs.Plain.{Declares}
-use Rattle.ae_code.specs.Plain.{Returns}
+use Rattle.ae_tree.specs.declared.tree.PermAt.TheVariants as perm_at
+use Rattle.ae_tree.specs.declared.tree.KindAt.TheVariants as kind_at
+use Rattle.ae_tree.specs.declared.tree.Ty.TheVariants as ty
+use Rattle.ae_tree.specs.declared.tree.Decl.TheVariants as decl
+use Rattle.ae_tree.specs.Plain.{Code, Nothing, Read}
+use Rattle.ae_tree.specs.Plain.{Value, Made, Returned, End, Next}
+use Rattle.ae_tree.specs.Plain.{Declares}
+use Rattle.ae_tree.specs.Plain.{Returns}
 use Rattle.ae_rules.specs.Judges.{FirstBroken}
 use Rattle.ae_worked.proofs.ProgramWords.{at, name, path, call, field, class_with, param}
 use Rattle.ae_worked.proofs.ProgramWords.{top_method}

@@ -1,16 +1,16 @@
 -- Programs at the limits of the language. Made by `tests/worked`.
 use Rattle.std.specs.Prelude.{refl, pos, [], ◌∷◌, codes, None}
 use Rattle.ae_text.specs.declared.refusal.Rule.TheVariants as rule
-use Rattle.ae_code.specs.declared.tree.PermAt.TheVariants as perm_at
-use Rattle.ae_code.specs.declared.tree.KindAt.TheVariants as kind_at
-use Rattle.ae_code.specs.declared.tree.Ty.TheVariants as ty
-use Rattle.ae_code.specs.declared.tree.Op.TheVariants as op
-use Rattle.ae_code.specs.declared.tree.Need.TheVariants as need_of
-use Rattle.ae_code.specs.declared.tree.Decl.TheVariants as decl
-use Rattle.ae_code.specs.Plain.{Code, Number, Nothing, Read, Item, Grouped, Binary}
-use Rattle.ae_code.specs.Plain.{Value, Made, End, Next}
-use Rattle.ae_code.specs.Plain.{Declares, Assigns, Calls, Chooses, Repeats, Groups, Splits}
-use Rattle.ae_code.specs.Plain.{Prints}
+use Rattle.ae_tree.specs.declared.tree.PermAt.TheVariants as perm_at
+use Rattle.ae_tree.specs.declared.tree.KindAt.TheVariants as kind_at
+use Rattle.ae_tree.specs.declared.tree.Ty.TheVariants as ty
+use Rattle.ae_tree.specs.declared.tree.Op.TheVariants as op
+use Rattle.ae_tree.specs.declared.tree.Need.TheVariants as need_of
+use Rattle.ae_tree.specs.declared.tree.Decl.TheVariants as decl
+use Rattle.ae_tree.specs.Plain.{Code, Number, Nothing, Read, Item, Grouped, Binary}
+use Rattle.ae_tree.specs.Plain.{Value, Made, End, Next}
+use Rattle.ae_tree.specs.Plain.{Declares, Assigns, Calls, Chooses, Repeats, Groups, Splits}
+use Rattle.ae_tree.specs.Plain.{Prints}
 use Rattle.ae_rules.specs.Judges.{Accepts, FirstBroken}
 use Rattle.ae_worked.proofs.ProgramWords.{at, name, path, call, field, class_with, param}
 use Rattle.ae_worked.proofs.ProgramWords.{need, top_method}

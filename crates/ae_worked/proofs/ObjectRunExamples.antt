@@ -1,15 +1,15 @@
 -- Objects that are made, moved, taken and given back. Made by `tests/worked`.
 use Rattle.std.specs.Prelude.{refl, pos, [], ◌∷◌, codes, None, Some}
-use Rattle.ae_code.specs.declared.tree.PermAt.TheVariants as perm_at
-use Rattle.ae_code.specs.declared.tree.KindAt.TheVariants as kind_at
-use Rattle.ae_code.specs.declared.tree.Ty.TheVariants as ty
-use Rattle.ae_code.specs.declared.tree.Op.TheVariants as op
-use Rattle.ae_code.specs.declared.tree.Need.TheVariants as need_of
-use Rattle.ae_code.specs.declared.tree.Decl.TheVariants as decl
-use Rattle.ae_code.specs.Plain.{Code, Number, Nothing, Read, Binary}
-use Rattle.ae_code.specs.Plain.{Value, Taken, Made, Returned, End, Next}
-use Rattle.ae_code.specs.Plain.{Declares, Assigns, Stores, Calls, Chooses, Groups}
-use Rattle.ae_code.specs.Plain.{Shares, Prints, Returns}
+use Rattle.ae_tree.specs.declared.tree.PermAt.TheVariants as perm_at
+use Rattle.ae_tree.specs.declared.tree.KindAt.TheVariants as kind_at
+use Rattle.ae_tree.specs.declared.tree.Ty.TheVariants as ty
+use Rattle.ae_tree.specs.declared.tree.Op.TheVariants as op
+use Rattle.ae_tree.specs.declared.tree.Need.TheVariants as need_of
+use Rattle.ae_tree.specs.declared.tree.Decl.TheVariants as decl
+use Rattle.ae_tree.specs.Plain.{Code, Number, Nothing, Read, Binary}
+use Rattle.ae_tree.specs.Plain.{Value, Taken, Made, Returned, End, Next}
+use Rattle.ae_tree.specs.Plain.{Declares, Assigns, Stores, Calls, Chooses, Groups}
+use Rattle.ae_tree.specs.Plain.{Shares, Prints, Returns}
 use Rattle.ae_rules.specs.Judges.{Accepts}
 use Rattle.ae_worked.proofs.ProgramWords.{at, name, path, call, call_on, field, class_with, param}
 use Rattle.ae_worked.proofs.ProgramWords.{need, top_method, class_method}

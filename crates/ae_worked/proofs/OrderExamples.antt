@@ -1,15 +1,15 @@
 -- Which of two broken premises counts. Made by `tests/worked`.
 use Rattle.std.specs.Prelude.{refl, pos, true, false, [], ◌∷◌, codes, None}
 use Rattle.ae_text.specs.declared.refusal.Rule.TheVariants as rule
-use Rattle.ae_code.specs.declared.tree.PermAt.TheVariants as perm_at
-use Rattle.ae_code.specs.declared.tree.KindAt.TheVariants as kind_at
-use Rattle.ae_code.specs.declared.tree.Ty.TheVariants as ty
-use Rattle.ae_code.specs.declared.tree.Op.TheVariants as op
-use Rattle.ae_code.specs.declared.tree.Decl.TheVariants as decl
-use Rattle.ae_code.specs.Plain.{Code, Number, Truth, Nothing, Read, Item, Binary}
-use Rattle.ae_code.specs.Plain.{Value, Taken, Zeros, Made, End, Next}
-use Rattle.ae_code.specs.Plain.{Declares, Assigns, Stores, StoresAt, Calls, Chooses, ChoosesElse}
-use Rattle.ae_code.specs.Plain.{Shares, Prints, Asserts}
+use Rattle.ae_tree.specs.declared.tree.PermAt.TheVariants as perm_at
+use Rattle.ae_tree.specs.declared.tree.KindAt.TheVariants as kind_at
+use Rattle.ae_tree.specs.declared.tree.Ty.TheVariants as ty
+use Rattle.ae_tree.specs.declared.tree.Op.TheVariants as op
+use Rattle.ae_tree.specs.declared.tree.Decl.TheVariants as decl
+use Rattle.ae_tree.specs.Plain.{Code, Number, Truth, Nothing, Read, Item, Binary}
+use Rattle.ae_tree.specs.Plain.{Value, Taken, Zeros, Made, End, Next}
+use Rattle.ae_tree.specs.Plain.{Declares, Assigns, Stores, StoresAt, Calls, Chooses, ChoosesElse}
+use Rattle.ae_tree.specs.Plain.{Shares, Prints, Asserts}
 use Rattle.ae_rules.specs.Judges.{FirstBroken}
 use Rattle.ae_worked.proofs.ProgramWords.{at, name, path, call, field, class_with, param}
 use Rattle.ae_worked.proofs.ProgramWords.{top_method}

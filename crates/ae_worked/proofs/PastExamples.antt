@@ -3,9 +3,9 @@ use Rattle.std.proofs.Common.{◌≡◌, ◌<◌, inl, inr, refl, sym, ap, subst
 use Rattle.std.proofs.Common.{Some, Contains}
 use Rattle.std.proofs.Math.Dec.{eqb-zero-suc}
 use Rattle.ae_text.specs.declared.refusal.Spot.{Spot}
-use Rattle.ae_code.specs.declared.uses.Resource.{Resource}
-use Rattle.ae_code.specs.declared.uses.Resource.TheVariants.{Local, Group}
-use Rattle.ae_code.specs.Edges.{IsConflict}
+use Rattle.ae_rules.specs.declared.uses.Resource.{Resource}
+use Rattle.ae_rules.specs.declared.uses.Resource.TheVariants.{Local, Group}
+use Rattle.ae_rules.specs.Edges.{IsConflict}
 use Rattle.ae_rules.specs.Instances.{Instance, Ordered}
 use Rattle.ae_rules.specs.Paths.{comes_before}
 use Rattle.ae_semantics.specs.Observations.{Piece, OfLog, Trapped, Done, Trap}

@@ -1,15 +1,15 @@
 -- A program for each premise that no other worked program needs. Made by `tests/worked`.
 use Rattle.std.specs.Prelude.{refl, pos, true, [], ◌∷◌, codes, None, Some}
 use Rattle.ae_text.specs.declared.refusal.Rule.TheVariants as rule
-use Rattle.ae_code.specs.declared.tree.PermAt.TheVariants as perm_at
-use Rattle.ae_code.specs.declared.tree.KindAt.TheVariants as kind_at
-use Rattle.ae_code.specs.declared.tree.Ty.TheVariants as ty
-use Rattle.ae_code.specs.declared.tree.Op.TheVariants as op
-use Rattle.ae_code.specs.declared.tree.Decl.TheVariants as decl
-use Rattle.ae_code.specs.Plain.{Code, Number, Truth, Nothing, Read, Item, Binary}
-use Rattle.ae_code.specs.Plain.{Value, Returned, End, Next}
-use Rattle.ae_code.specs.Plain.{Declares, Calls, ChoosesElse, Groups, Locks}
-use Rattle.ae_code.specs.Plain.{Asserts, Returns}
+use Rattle.ae_tree.specs.declared.tree.PermAt.TheVariants as perm_at
+use Rattle.ae_tree.specs.declared.tree.KindAt.TheVariants as kind_at
+use Rattle.ae_tree.specs.declared.tree.Ty.TheVariants as ty
+use Rattle.ae_tree.specs.declared.tree.Op.TheVariants as op
+use Rattle.ae_tree.specs.declared.tree.Decl.TheVariants as decl
+use Rattle.ae_tree.specs.Plain.{Code, Number, Truth, Nothing, Read, Item, Binary}
+use Rattle.ae_tree.specs.Plain.{Value, Returned, End, Next}
+use Rattle.ae_tree.specs.Plain.{Declares, Calls, ChoosesElse, Groups, Locks}
+use Rattle.ae_tree.specs.Plain.{Asserts, Returns}
 use Rattle.ae_rules.specs.Judges.{FirstBroken}
 use Rattle.ae_worked.proofs.ProgramWords.{at, name, path, call, field, class_with, param, given_away}
 use Rattle.ae_worked.proofs.ProgramWords.{top_method}

@@ -1,16 +1,16 @@
 -- Words to write programs as plain data with.
 use Rattle.std.specs.Prelude.{ℕ, List, Option, None, Some}
 use Rattle.ae_text.specs.declared.refusal.Spot.{Spot}
-use Rattle.ae_code.specs.declared.tree.NameAt.{NameAt}
-use Rattle.ae_code.specs.declared.tree.Ty.{Ty}
-use Rattle.ae_code.specs.declared.tree.Path.{Path}
-use Rattle.ae_code.specs.declared.tree.Me.{Me}
-use Rattle.ae_code.specs.declared.tree.Param.{Param}
-use Rattle.ae_code.specs.declared.tree.Need.{Need}
-use Rattle.ae_code.specs.declared.tree.GroupNeed.{GroupNeed}
-use Rattle.ae_code.specs.declared.tree.Field.{Field}
-use Rattle.ae_code.specs.declared.tree.Class.{Class}
-use Rattle.ae_code.specs.Plain.{Expression, Invocation, Lines, Definition}
+use Rattle.ae_tree.specs.declared.tree.NameAt.{NameAt}
+use Rattle.ae_tree.specs.declared.tree.Ty.{Ty}
+use Rattle.ae_tree.specs.declared.tree.Path.{Path}
+use Rattle.ae_tree.specs.declared.tree.Me.{Me}
+use Rattle.ae_tree.specs.declared.tree.Param.{Param}
+use Rattle.ae_tree.specs.declared.tree.Need.{Need}
+use Rattle.ae_tree.specs.declared.tree.GroupNeed.{GroupNeed}
+use Rattle.ae_tree.specs.declared.tree.Field.{Field}
+use Rattle.ae_tree.specs.declared.tree.Class.{Class}
+use Rattle.ae_tree.specs.Plain.{Expression, Invocation, Lines, Definition}
 
 -- a line and a column
 abbrev pub at : ℕ → ℕ → Spot

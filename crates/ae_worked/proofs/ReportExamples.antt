@@ -4,10 +4,10 @@ use Rattle.std.proofs.Common.{◌++◌, ◌∙◌, map, Option, Some, Contains}
 use Rattle.std.proofs.Math.Dec.{eqb-zero-suc}
 use Rattle.std.specs.Prelude.{pos}
 use Rattle.ae_text.specs.declared.refusal.Spot.{Spot}
-use Rattle.ae_code.specs.Plain.{Code}
-use Rattle.ae_code.specs.declared.uses.Resource.{Resource}
-use Rattle.ae_code.specs.declared.uses.Resource.TheVariants.{Local, Group}
-use Rattle.ae_code.specs.Edges.{IsConflict}
+use Rattle.ae_tree.specs.Plain.{Code}
+use Rattle.ae_rules.specs.declared.uses.Resource.{Resource}
+use Rattle.ae_rules.specs.declared.uses.Resource.TheVariants.{Local, Group}
+use Rattle.ae_rules.specs.Edges.{IsConflict}
 use Rattle.ae_rules.specs.Instances.{Instance, Point, inside, first_point, Ordered}
 use Rattle.ae_rules.specs.Paths.{comes_before}
 use Rattle.ae_semantics.specs.Places.{CellName}

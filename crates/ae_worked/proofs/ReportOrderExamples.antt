@@ -1,10 +1,10 @@
 -- Reports of a run in which one block reads what another one writes.
-use Rattle.ae_code.specs.Edges.{Direct}
+use Rattle.ae_rules.specs.Edges.{Direct}
 use Rattle.std.proofs.Common.{◌≡◌, ◌<◌, inl, inr, refl, sym, ap, subst, arith, zero, suc, true, List, [], ◌∷◌, map}
 use Rattle.std.proofs.Common.{Some, Contains}
 use Rattle.std.proofs.Math.Dec.{eqb-zero-suc}
 use Rattle.std.specs.Prelude.{pos}
-use Rattle.ae_code.specs.declared.uses.Resource.TheVariants.{Local}
+use Rattle.ae_rules.specs.declared.uses.Resource.TheVariants.{Local}
 use Rattle.ae_rules.specs.Instances.{inside, first_point, Ordered}
 use Rattle.ae_rules.specs.Paths.{comes_before}
 use Rattle.ae_semantics.specs.Observations.{Piece, OfLog, Carried, Gave, Done}

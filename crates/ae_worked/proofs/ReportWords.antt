@@ -1,14 +1,14 @@
 -- Words for the examples of reports.
-use Rattle.ae_code.specs.Edges.{BlockUses, Edge, Before, Direct, Through, IsConflict}
+use Rattle.ae_rules.specs.Edges.{BlockUses, Edge, Before, Direct, Through, IsConflict}
 use Rattle.std.proofs.Common.{◌≡◌, ◌≢◌, ◌<◌, ◌⊎◌, inl, inr, refl, sym, ap, subst, arith, ℕ, zero, suc, nat_eq, true}
 use Rattle.std.proofs.Common.{false, not, ◌&&◌, Bool, if◌then◌else◌, List, [], ◌∷◌, ◌∙◌, Option, None, Some, Contains}
 use Rattle.std.proofs.Common.{◌++◌, append-nil}
 use mathlib.Core.Path.{fun_ext}
 use Rattle.std.proofs.lemmas.Bool.Decides.{eqb_tells}
 use Rattle.std.specs.Prelude.{slice_get}
-use Rattle.ae_code.specs.declared.uses.Resource.{Resource}
-use Rattle.ae_code.specs.declared.uses.Mode.{Mode}
-use Rattle.ae_code.specs.Plain.{Code}
+use Rattle.ae_rules.specs.declared.uses.Resource.{Resource}
+use Rattle.ae_rules.specs.declared.uses.Mode.{Mode}
+use Rattle.ae_tree.specs.Plain.{Code}
 use Rattle.ae_rules.specs.Verdict.{given}
 use Rattle.ae_rules.specs.Uses.{nothing}
 use Rattle.ae_rules.specs.Blocks.{scene_uses}

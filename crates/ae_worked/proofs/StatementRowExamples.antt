@@ -1,13 +1,13 @@
 -- Statements up to conditions: the rows of the page on the language. Made by `tests/worked`.
 use Rattle.std.specs.Prelude.{refl, pos, true, [], ◌∷◌, codes, None}
 use Rattle.ae_text.specs.declared.refusal.Rule.TheVariants as rule
-use Rattle.ae_code.specs.declared.tree.PermAt.TheVariants as perm_at
-use Rattle.ae_code.specs.declared.tree.KindAt.TheVariants as kind_at
-use Rattle.ae_code.specs.declared.tree.Ty.TheVariants as ty
-use Rattle.ae_code.specs.declared.tree.Decl.TheVariants as decl
-use Rattle.ae_code.specs.Plain.{Code, Number, Truth, Nothing, Read}
-use Rattle.ae_code.specs.Plain.{Value, Made, End, Next}
-use Rattle.ae_code.specs.Plain.{Declares, Assigns, Stores, StoresAt, Chooses, Repeats}
+use Rattle.ae_tree.specs.declared.tree.PermAt.TheVariants as perm_at
+use Rattle.ae_tree.specs.declared.tree.KindAt.TheVariants as kind_at
+use Rattle.ae_tree.specs.declared.tree.Ty.TheVariants as ty
+use Rattle.ae_tree.specs.declared.tree.Decl.TheVariants as decl
+use Rattle.ae_tree.specs.Plain.{Code, Number, Truth, Nothing, Read}
+use Rattle.ae_tree.specs.Plain.{Value, Made, End, Next}
+use Rattle.ae_tree.specs.Plain.{Declares, Assigns, Stores, StoresAt, Chooses, Repeats}
 use Rattle.ae_rules.specs.Judges.{FirstBroken}
 use Rattle.ae_worked.proofs.ProgramWords.{at, name, path, field, class_with, param}
 use Rattle.ae_worked.proofs.ProgramWords.{top_method}

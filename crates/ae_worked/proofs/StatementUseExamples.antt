@@ -1,7 +1,7 @@
 -- What statements of some programs use.
 use Rattle.std.specs.Prelude.{◌≡◌, refl, [], ◌∷◌, None, Some}
-use Rattle.ae_code.specs.declared.uses.Resource.TheVariants.{Local, Group}
-use Rattle.ae_code.specs.declared.uses.Mode.TheVariants.{Read, Write, GroupShared, GroupWhole}
+use Rattle.ae_rules.specs.declared.uses.Resource.TheVariants.{Local, Group}
+use Rattle.ae_rules.specs.declared.uses.Mode.TheVariants.{Read, Write, GroupShared, GroupWhole}
 use Rattle.ae_worked.proofs.UseWords.{used_of}
 use Rattle.ae_worked.proofs.UsePremiseExamples.{path_through_two_groups, argument_inside_a_member, index_is_read}
 use Rattle.ae_worked.proofs.UsePremiseExamples.{array_of_a_group_reached, length_is_read, conditions_are_read}

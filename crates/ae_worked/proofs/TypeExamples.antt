@@ -1,13 +1,13 @@
 -- Types, parameters and needs of some programs. Made by `tests/worked`.
 use Rattle.std.specs.Prelude.{refl, [], ◌∷◌, codes, None}
 use Rattle.ae_text.specs.declared.refusal.Rule.TheVariants as rule
-use Rattle.ae_code.specs.declared.tree.PermAt.TheVariants as perm_at
-use Rattle.ae_code.specs.declared.tree.KindAt.TheVariants as kind_at
-use Rattle.ae_code.specs.declared.tree.Ty.TheVariants as ty
-use Rattle.ae_code.specs.declared.tree.Need.TheVariants as need_of
-use Rattle.ae_code.specs.declared.tree.Decl.TheVariants as decl
-use Rattle.ae_code.specs.Plain.{Code}
-use Rattle.ae_code.specs.Plain.{End}
+use Rattle.ae_tree.specs.declared.tree.PermAt.TheVariants as perm_at
+use Rattle.ae_tree.specs.declared.tree.KindAt.TheVariants as kind_at
+use Rattle.ae_tree.specs.declared.tree.Ty.TheVariants as ty
+use Rattle.ae_tree.specs.declared.tree.Need.TheVariants as need_of
+use Rattle.ae_tree.specs.declared.tree.Decl.TheVariants as decl
+use Rattle.ae_tree.specs.Plain.{Code}
+use Rattle.ae_tree.specs.Plain.{End}
 use Rattle.ae_rules.specs.Judges.{FirstBroken}
 use Rattle.ae_worked.proofs.ProgramWords.{at, name, field, class_with, param, given_away}
 use Rattle.ae_worked.proofs.ProgramWords.{need, top_method}

@@ -1,15 +1,15 @@
 -- Trees of a small program that stand for its meaning past what stopped.
-use Rattle.ae_code.specs.Edges.{Direct}
+use Rattle.ae_rules.specs.Edges.{Direct}
 use Rattle.std.proofs.Common.{◌≡◌, inl, inr, refl, sym, subst, arith, ℕ, zero, suc, pos, true, List, [], ◌∷◌, Option}
 use Rattle.std.proofs.Common.{None, Some, Contains}
 use Rattle.std.specs.Prelude.{Bool, false, nat_eq, if◌then◌else◌, map}
-use Rattle.ae_code.specs.declared.form.Form.TheVariants as f
-use Rattle.ae_code.specs.declared.uses.Resource.TheVariants.{Local}
+use Rattle.ae_tree.specs.declared.form.Form.TheVariants as f
+use Rattle.ae_rules.specs.declared.uses.Resource.TheVariants.{Local}
 use Rattle.ae_semantics.specs.Values.{Val, OfInt}
 use Rattle.ae_semantics.specs.Places.{Bound}
 use Rattle.ae_rules.specs.Uses.{stronger}
 use Rattle.ae_semantics.specs.Contexts.{shuts_out}
-use Rattle.ae_code.specs.declared.uses.Mode.TheVariants as mode
+use Rattle.ae_rules.specs.declared.uses.Mode.TheVariants as mode
 use Rattle.ae_semantics.specs.Observations.{Trap}
 use Rattle.ae_worked.proofs.ProgramWords.{at}
 use Rattle.ae_rules.specs.Verdict.{given}

@@ -1,14 +1,14 @@
 -- A program for each use that no other worked program needs. Made by `tests/worked`.
 use Rattle.std.specs.Prelude.{refl, pos, true, false, [], ◌∷◌, codes, None}
-use Rattle.ae_code.specs.declared.tree.PermAt.TheVariants as perm_at
-use Rattle.ae_code.specs.declared.tree.KindAt.TheVariants as kind_at
-use Rattle.ae_code.specs.declared.tree.Ty.TheVariants as ty
-use Rattle.ae_code.specs.declared.tree.Need.TheVariants as need_of
-use Rattle.ae_code.specs.declared.tree.Decl.TheVariants as decl
-use Rattle.ae_code.specs.Plain.{Code, Number, Truth, Read, Item, Length, Grouped, Negated, Minus}
-use Rattle.ae_code.specs.Plain.{Value, Zeros, Made, End, Next}
-use Rattle.ae_code.specs.Plain.{Declares, Stores, StoresAt, Calls, Chooses, ChoosesElse, Repeats, Groups, Splits, Locks}
-use Rattle.ae_code.specs.Plain.{Shares, Prints, PrintsText, Asserts}
+use Rattle.ae_tree.specs.declared.tree.PermAt.TheVariants as perm_at
+use Rattle.ae_tree.specs.declared.tree.KindAt.TheVariants as kind_at
+use Rattle.ae_tree.specs.declared.tree.Ty.TheVariants as ty
+use Rattle.ae_tree.specs.declared.tree.Need.TheVariants as need_of
+use Rattle.ae_tree.specs.declared.tree.Decl.TheVariants as decl
+use Rattle.ae_tree.specs.Plain.{Code, Number, Truth, Read, Item, Length, Grouped, Negated, Minus}
+use Rattle.ae_tree.specs.Plain.{Value, Zeros, Made, End, Next}
+use Rattle.ae_tree.specs.Plain.{Declares, Stores, StoresAt, Calls, Chooses, ChoosesElse, Repeats, Groups, Splits, Locks}
+use Rattle.ae_tree.specs.Plain.{Shares, Prints, PrintsText, Asserts}
 use Rattle.ae_rules.specs.Judges.{Accepts}
 use Rattle.ae_worked.proofs.ProgramWords.{at, name, path, call, field, class_with, param}
 use Rattle.ae_worked.proofs.ProgramWords.{need, top_method}

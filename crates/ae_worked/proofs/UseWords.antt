@@ -1,8 +1,8 @@
 -- Words to say with what statements use.
 use Rattle.std.specs.Prelude.{ℕ, List, map, Option, None}
-use Rattle.ae_code.specs.declared.uses.Resource.{Resource}
-use Rattle.ae_code.specs.declared.uses.Mode.{Mode}
-use Rattle.ae_code.specs.Plain.{Definition, Code}
+use Rattle.ae_rules.specs.declared.uses.Resource.{Resource}
+use Rattle.ae_rules.specs.declared.uses.Mode.{Mode}
+use Rattle.ae_tree.specs.Plain.{Definition, Code}
 use Rattle.ae_rules.specs.Verdict.{given}
 use Rattle.ae_rules.specs.Lookups.{method_at}
 use Rattle.ae_rules.specs.Blocks.{Scene, scene, scene_uses}

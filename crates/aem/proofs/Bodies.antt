@@ -1,10 +1,10 @@
 -- The one block of a program of forms that run today, and its statements.
 use Rattle.std.proofs.Common.{◌≡◌, ◌<◌, ℕ, zero, suc, nat_eq, if◌then◌else◌, List, [], ◌∷◌, length, None, Some, IsSome, refl, sym, ap, ◌∙◌, subst, arith}
-use Rattle.ae_code.specs.declared.tree.Stmt.{Stmt}
-use Rattle.ae_code.specs.Plain.{Code, Definition, Lines}
-use Rattle.ae_code.specs.Shown.{lines_from}
-use Rattle.ae_code.specs.Built.{Built}
-use Rattle.ae_code.specs.Uses.{block_of, block_in, statement_at}
+use Rattle.ae_tree.specs.declared.tree.Stmt.{Stmt}
+use Rattle.ae_tree.specs.Plain.{Code, Definition, Lines}
+use Rattle.ae_tree.specs.Shown.{lines_from}
+use Rattle.ae_tree.specs.Built.{Built}
+use Rattle.ae_rules.specs.BuiltUses.{block_of, block_in, statement_at}
 use Rattle.ae_graph.specs.Footprint.{statement_in}
 use Rattle.aem.specs.Top.{HasBody}
 

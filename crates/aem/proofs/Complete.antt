@@ -6,7 +6,7 @@ use Rattle.ae_text.specs.declared.refusal.Rule.{Rule}
 use Rattle.ae_text.specs.declared.refusal.Rule.TheVariants.{TooLong}
 use Rattle.ae_text.specs.declared.refusal.Refusal.{Refusal}
 use Rattle.ae_text.specs.Whole.{most}
-use Rattle.ae_code.specs.Plain.{Code}
+use Rattle.ae_tree.specs.Plain.{Code}
 use Rattle.aem.specs.declared.answer.What.{What}
 use Rattle.aem.specs.declared.answer.What.TheVariants as w
 use Rattle.aem.specs.declared.answer.Command.{Command}

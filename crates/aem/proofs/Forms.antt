@@ -2,13 +2,13 @@
 use Rattle.std.proofs.Common.{◌≡◌, ℕ, Bool, true, false, nat_eq, MatchBool, refl, ap, sym, ◌∙◌, subst}
 use borrow.Author.Tests.{eqb-true}
 use Rattle.ae_text.specs.declared.refusal.Spot.{Spot}
-use Rattle.ae_code.specs.declared.tree.Need.{Need}
-use Rattle.ae_code.specs.declared.tree.Need.TheVariants.{Exclusive}
-use Rattle.ae_code.specs.declared.tree.GroupNeed.{GroupNeed}
-use Rattle.ae_code.specs.declared.tree.Block.{Block, out-Block, roll-out-Block}
-use Rattle.ae_code.specs.Plain.{Lines, Definition}
-use Rattle.ae_code.specs.Shown.{braced, no-roll}
-use Rattle.ae_code.specs.Built.{IsMain, AreBuilt}
+use Rattle.ae_tree.specs.declared.tree.Need.{Need}
+use Rattle.ae_tree.specs.declared.tree.Need.TheVariants.{Exclusive}
+use Rattle.ae_tree.specs.declared.tree.GroupNeed.{GroupNeed}
+use Rattle.ae_tree.specs.declared.tree.Block.{Block, out-Block, roll-out-Block}
+use Rattle.ae_tree.specs.Plain.{Lines, Definition}
+use Rattle.ae_tree.specs.Shown.{braced, no-roll}
+use Rattle.ae_tree.specs.Built.{IsMain, AreBuilt}
 use Rattle.aem.specs.Forms.{IsExclusiveIo, IsBuiltMethod}
 
 pub no_out : (b : Block) → (braced b).no ≡ (out-Block b).no

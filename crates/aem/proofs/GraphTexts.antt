@@ -6,19 +6,19 @@ use Rattle.std.specs.List.{Contains, flat_map}
 use Rattle.std.proofs.lemmas.List.{ext_get_or, get_or_append_left, get_or_push, length-append, length-map, get_or-map}
 use Rattle.std.proofs.lemmas.Bool.Decides.{nat_tests}
 use Rattle.std.proofs.lemmas.Bool.{cases_order}
-use Rattle.ae_code.specs.Plain.{Action, Declares, Assigns, Stores, StoresAt, Calls, Chooses, ChoosesElse, Repeats, Groups, Splits, Locks, Freezes, Shares, Prints, PrintsText, Asserts, Returns, Lines, End, Next, Definition, Code}
-use Rattle.ae_code.specs.Limits.{count}
-use Rattle.ae_code.specs.Edges.{BlockUses, IsRising, Preds}
-use Rattle.ae_code.specs.Uses.{use_at}
-use Rattle.ae_code.specs.Built.{IsBuiltAction, AreBuilt, Built}
-use Rattle.ae_code.specs.Judgement.{Accepted}
-use Rattle.ae_code.specs.declared.tree.Class.{Class}
+use Rattle.ae_tree.specs.Plain.{Action, Declares, Assigns, Stores, StoresAt, Calls, Chooses, ChoosesElse, Repeats, Groups, Splits, Locks, Freezes, Shares, Prints, PrintsText, Asserts, Returns, Lines, End, Next, Definition, Code}
+use Rattle.ae_tree.specs.Limits.{count}
+use Rattle.ae_rules.specs.Edges.{BlockUses, IsRising, Preds}
+use Rattle.ae_rules.specs.BuiltUses.{use_at}
+use Rattle.ae_tree.specs.Built.{IsBuiltAction, AreBuilt, Built}
+use Rattle.ae_tree.specs.Judgement.{Accepted}
+use Rattle.ae_tree.specs.declared.tree.Class.{Class}
 use Rattle.ae_rules.specs.Verdict.{Verdict, Holds, Broken, given, judged}
 use Rattle.ae_rules.specs.Lookups.{class_at}
 use Rattle.ae_rules.specs.Context.{Context}
 use Rattle.ae_rules.specs.Statements.{judge_statement}
 use Rattle.ae_rules.specs.Judges.{start}
-use Rattle.ae_rules.specs.Edges.{preds, graph, those_below}
+use Rattle.ae_rules.specs.EdgeLists.{preds, graph, those_below}
 use Rattle.ae_rules.specs.EdgeLaws.{NamesBelow, PredsAreEdges}
 use Rattle.ae_rules.specs.Blocks.{Scene, Opened, body as body_scene, scene, scene_numbered, scenes_in, scenes_among, scene_uses, scene_graph}
 use Rattle.ae_rules.specs.Cases.{DeclaresOne, TodaysUsesAreACase}

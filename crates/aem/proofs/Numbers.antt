@@ -3,18 +3,18 @@ use Rattle.std.proofs.Common.{◌≡◌, ◌<◌, ◌⊎◌, inl, inr, refl, sub
 use Rattle.std.specs.Prelude.{All, if◌then◌else◌}
 use Rattle.std.proofs.lemmas.List.Elements.{All-head}
 use Rattle.std.proofs.lemmas.Bool.Decides.{nat_tests}
-use Rattle.ae_code.specs.declared.uses.Resource.{Resource}
-use Rattle.ae_code.specs.declared.uses.Resource.TheVariants as resource
-use Rattle.ae_code.specs.declared.uses.Mode.{Mode}
-use Rattle.ae_code.specs.declared.uses.Mode.TheVariants as mode
+use Rattle.ae_rules.specs.declared.uses.Resource.{Resource}
+use Rattle.ae_rules.specs.declared.uses.Resource.TheVariants as resource
+use Rattle.ae_rules.specs.declared.uses.Mode.{Mode}
+use Rattle.ae_rules.specs.declared.uses.Mode.TheVariants as mode
 use Rattle.ae_text.specs.declared.token.Token.{Token}
-use Rattle.ae_code.specs.Names.{io, first_names}
-use Rattle.ae_code.specs.Grammar.{Derives}
-use Rattle.ae_code.specs.Built.{Built}
-use Rattle.ae_code.specs.Plain.{Expression, Number, Truth, Nothing, Read, Item, Length, Grouped, Negated, Minus, Binary, RightSide, Value, Taken, Zeros, Made, Returned, Lines, End, Next, Definition, Code}
-use Rattle.ae_code.specs.Plain.{Action, Declares, Assigns, Prints}
-use Rattle.ae_code.specs.Uses.{reads, reads_right, read_if, use_of, use_at}
-use Rattle.ae_code.specs.WellShaped.{ExpressionNamed, RightNamed, ActionNamed, EachStatement, WellShaped, DerivedAreWellShaped}
+use Rattle.ae_tree.specs.Names.{io, first_names}
+use Rattle.ae_tree.specs.Grammar.{Derives}
+use Rattle.ae_tree.specs.Built.{Built}
+use Rattle.ae_tree.specs.Plain.{Expression, Number, Truth, Nothing, Read, Item, Length, Grouped, Negated, Minus, Binary, RightSide, Value, Taken, Zeros, Made, Returned, Lines, End, Next, Definition, Code}
+use Rattle.ae_tree.specs.Plain.{Action, Declares, Assigns, Prints}
+use Rattle.ae_rules.specs.BuiltUses.{reads, reads_right, read_if, use_of, use_at}
+use Rattle.ae_tree.specs.WellShaped.{ExpressionNamed, RightNamed, ActionNamed, EachStatement, WellShaped, DerivedAreWellShaped}
 use Rattle.ae_rules.specs.EdgeLaws.{name_of, NamesBelow}
 
 from_eq : (x y : ℕ) → nat_eq x y ≡ true → x ≡ y

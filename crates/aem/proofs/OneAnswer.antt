@@ -9,12 +9,12 @@ use Rattle.ae_text.specs.declared.refusal.Refusal.{Refusal}
 use Rattle.ae_text.specs.declared.token.Token.{Token}
 use Rattle.ae_text.specs.Tokens.{Lexes, LexFault, place}
 use Rattle.ae_text.specs.Whole.{most}
-use Rattle.ae_code.specs.Plain.{Code}
-use Rattle.ae_code.specs.Grammar.{Derives}
-use Rattle.ae_code.specs.Built.{Built}
-use Rattle.ae_code.specs.Refused.{IsRefused}
+use Rattle.ae_tree.specs.Plain.{Code}
+use Rattle.ae_tree.specs.Grammar.{Derives}
+use Rattle.ae_tree.specs.Built.{Built}
+use Rattle.ae_tree.specs.Refused.{IsRefused}
 use Rattle.ae_parser.specs.Laws.{IsOneRefusal, NoProgramIsRefused}
-use Rattle.ae_grammar.specs.Laws.{IsOneProgram}
+use Rattle.ae_parser.specs.Laws.{IsOneProgram}
 use Rattle.ae_rules.specs.Judges.{Accepts, FirstBroken}
 use Rattle.ae_rules.specs.Laws.{NeverAcceptedAndBroken, FirstIsOne}
 use Rattle.ae_meaning.specs.declared.report.RunReport.{RunReport}

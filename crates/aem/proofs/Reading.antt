@@ -2,15 +2,15 @@
 use Rattle.std.proofs.Common.{◌≡◌, ℕ, List, [], ◌∷◌, refl, sym, ap, subst, ◌∙◌, arith, map, length, get_or}
 use Rattle.ae_text.specs.declared.refusal.Deny.{Deny}
 use Rattle.ae_text.specs.declared.refusal.Deny.TheVariants as d
-use Rattle.ae_code.specs.declared.tree.Method.{Method}
-use Rattle.ae_code.specs.declared.tree.Stmt.{Stmt}
-use Rattle.ae_code.specs.declared.tree.Block.{out-Block}
-use Rattle.ae_code.specs.Plain.{Definition}
-use Rattle.ae_code.specs.Shown.{definition, lines_from, lines-out}
+use Rattle.ae_tree.specs.declared.tree.Method.{Method}
+use Rattle.ae_tree.specs.declared.tree.Stmt.{Stmt}
+use Rattle.ae_tree.specs.declared.tree.Block.{out-Block}
+use Rattle.ae_tree.specs.Plain.{Definition}
+use Rattle.ae_tree.specs.Shown.{definition, lines_from, lines-out}
 use Rattle.ae_text.specs.declared.token.Token.{Token}
 use Rattle.ae_text.specs.Tokens.{Lexes, LexFault, place}
 use Rattle.ae_text.specs.Tokens.{IsDenied}
-use Rattle.ae_code.specs.Refused.{IsRefused, IsDenied as ParserDenies}
+use Rattle.ae_tree.specs.Refused.{IsRefused, IsDenied as ParserDenies}
 use Rattle.std.proofs.Common.{Option}
 use Rattle.ae_text.specs.declared.refusal.Spot.{Spot}
 use Rattle.ae_text.specs.declared.refusal.Rule.{Rule}

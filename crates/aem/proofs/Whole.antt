@@ -4,9 +4,9 @@ use Rattle.std.specs.Prelude.{option_map}
 use Rattle.ae_text.specs.declared.refusal.Spot.{Spot}
 use Rattle.ae_text.specs.declared.refusal.Rule.{Rule}
 use Rattle.ae_text.specs.declared.refusal.Rule.TheVariants.{UnknownName, DuplicateLocal}
-use Rattle.ae_code.specs.Plain.{Code, Lines}
-use Rattle.ae_code.specs.Built.{Built}
-use Rattle.ae_code.specs.Judgement.{Accepted, Verdict, Holds, Broken, nobody, then_judge, judge, judge_methods, IsHeld}
+use Rattle.ae_tree.specs.Plain.{Code, Lines}
+use Rattle.ae_tree.specs.Built.{Built}
+use Rattle.ae_tree.specs.Judgement.{Accepted, Verdict, Holds, Broken, nobody, then_judge, judge, judge_methods, IsHeld}
 use Rattle.ae_rules.specs.Cases.{BuiltDeclaresOne, DeclaresOne, TodayIsACase}
 use Rattle.ae_rules.specs.Judges.{Accepts}
 use Rattle.ae_meaning.specs.declared.report.RunReport.{RunReport}

@@ -1,12 +1,12 @@
 -- What the parts of a program that runs today are.
 use Rattle.std.specs.Prelude.{◌≡◌, ◌≢◌, List, [], ◌∷◌, None}
 use Rattle.ae_text.specs.declared.refusal.Spot.{Spot}
-use Rattle.ae_code.specs.declared.tree.Path.{Path}
-use Rattle.ae_code.specs.declared.tree.GroupNeed.{GroupNeed}
-use Rattle.ae_code.specs.declared.tree.Need.TheVariants.{Exclusive}
-use Rattle.ae_code.specs.Plain.{Definition}
-use Rattle.ae_code.specs.Names.{io, main, this}
-use Rattle.ae_code.specs.Built.{IsMain, AreBuilt}
+use Rattle.ae_tree.specs.declared.tree.Path.{Path}
+use Rattle.ae_tree.specs.declared.tree.GroupNeed.{GroupNeed}
+use Rattle.ae_tree.specs.declared.tree.Need.TheVariants.{Exclusive}
+use Rattle.ae_tree.specs.Plain.{Definition}
+use Rattle.ae_tree.specs.Names.{io, main, this}
+use Rattle.ae_tree.specs.Built.{IsMain, AreBuilt}
 
 -- a name without steps that is not `this`
 abbrev pub IsPlain : Path → Type 0

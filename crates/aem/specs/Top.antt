@@ -7,9 +7,9 @@ use Rattle.ae_text.specs.declared.refusal.Rule.TheVariants.{NotText, BadChar, In
 use Rattle.ae_text.specs.Whole.{most}
 use Rattle.ae_text.specs.declared.refusal.Deny.{Deny}
 use Rattle.ae_text.specs.declared.refusal.Deny.TheVariants as d
-use Rattle.ae_code.specs.Plain.{Code, Definition, Lines}
-use Rattle.ae_code.specs.Refused.{IsRefused}
-use Rattle.ae_code.specs.Built.{Built}
+use Rattle.ae_tree.specs.Plain.{Code, Definition, Lines}
+use Rattle.ae_tree.specs.Refused.{IsRefused}
+use Rattle.ae_tree.specs.Built.{Built}
 use Rattle.ae_rules.specs.Judges.{Accepts, FirstBroken}
 use Rattle.ae_meaning.specs.declared.report.RunReport.{RunReport}
 use Rattle.ae_semantics.specs.Means.{seq, bytes}

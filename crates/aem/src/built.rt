@@ -1,13 +1,13 @@
 // Whether a program has only forms that run today.
 ghost use Rattle.std.specs.Prelude.{◌≡◌, ◌≢◌, ◌≤◌, ◌∷◌, [], MatchBool};
 ghost use Rattle.ae_text.specs.declared.refusal.Spot.{Spot};
-ghost use Rattle.ae_code.specs.Shown.{expression, right_side, action, lines_from, definition, code};
-ghost use Rattle.ae_code.specs.Grammar.{level};
-ghost use Rattle.ae_code.specs.Names.{this};
-ghost use Rattle.ae_code.specs.Built.{IsBuiltExpression, IsBuiltRight, IsBuiltType, IsBuiltAction, AreBuilt, IsMain, Built};
+ghost use Rattle.ae_tree.specs.Shown.{expression, right_side, action, lines_from, definition, code};
+ghost use Rattle.ae_tree.specs.Grammar.{level};
+ghost use Rattle.ae_tree.specs.Names.{this};
+ghost use Rattle.ae_tree.specs.Built.{IsBuiltExpression, IsBuiltRight, IsBuiltType, IsBuiltAction, AreBuilt, IsMain, Built};
 ghost use Rattle.aem.specs.Forms.{IsExclusiveIo, NeedsIo, IsPlain, IsBare, IsBuiltMethod};
 
-use ae_code::{Expr, GroupNeed, Method, Name, Need, Op, Path, Program, Rhs, Stmt, StmtKind, Ty};
+use ae_tree::{Expr, GroupNeed, Method, Name, Need, Op, Path, Program, Rhs, Stmt, StmtKind, Ty};
 
 const IO: Name = 0;
 
@@ -30,7 +30,7 @@ fn is_built_path(path: &Path) -> bool
     path.steps.is_empty() && path.root.name != THIS
 }
 
-#[tactic(auto, using(ae_code::specs::Shown::shows))]
+#[tactic(auto, using(ae_tree::specs::Shown::shows))]
 fn is_built_expression(expr: &Expr) -> bool
     ensures { MatchBool result (IsBuiltExpression (expression expr.now)) (IsBuiltExpression (expression expr.now) → ⊥) }
 {
@@ -67,7 +67,7 @@ fn is_built_type(ty: &Ty) -> bool
     }
 }
 
-#[tactic(auto, using(ae_code::specs::Shown::shows))]
+#[tactic(auto, using(ae_tree::specs::Shown::shows))]
 fn is_built_statement(kind: &StmtKind) -> bool
     ensures { MatchBool result (IsBuiltAction (action kind.now)) (IsBuiltAction (action kind.now) → ⊥) }
 {

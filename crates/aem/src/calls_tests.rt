@@ -1,14 +1,15 @@
 // Calls that no mode makes, the graph of a block, and the order in which it is run, on programs that were read.
 ghost use Rattle.std.specs.Prelude.{◌≡◌, true, IfOk};
-ghost use Rattle.ae_code.specs.Shown.{code};
-ghost use Rattle.ae_code.specs.Built.{Built};
-ghost use Rattle.ae_code.specs.Limits.{Within};
-ghost use Rattle.ae_code.specs.Judgement.{Accepted};
+ghost use Rattle.ae_tree.specs.Shown.{code};
+ghost use Rattle.ae_tree.specs.Built.{Built};
+ghost use Rattle.ae_tree.specs.Limits.{Within};
+ghost use Rattle.ae_tree.specs.Judgement.{Accepted};
 
 use crate::built::is_built;
 use crate::names::first_broken;
 use crate::top::{aeminium, body_of, read_program};
-use ae_code::{Footprint, Form, Kind, Mode, Name, Perm, Program, Resource, StmtAt, Use, form_of};
+use ae_rules::{Footprint, Mode, Resource, Use};
+use ae_tree::{Form, Kind, Name, Perm, Program, StmtAt, form_of};
 use ae_graph::{BlockGraph, footprint};
 use ae_meaning::{Ending, Meant, evaluate};
 use ae_text::{Deny, Edge, Gate, Items, MemSink, MemSource, Memory, Spot};

@@ -1,5 +1,5 @@
 // Programs are read, printed, and read again.
-use ae_code::print_program;
+use ae_layout::print_program;
 use ae_parser::parse;
 use ae_text::{Deny, Items, lex};
 use std::alloc::Global;

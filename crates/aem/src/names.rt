@@ -1,11 +1,11 @@
 // The names of a program: which are declared, and which are visible where they are used.
 ghost use Rattle.std.specs.Prelude.{◌≡◌, ◌↔◌, IsTrue, IfOk};
-ghost use Rattle.ae_code.specs.Shown.{expression, right_side, action, lines_from};
-ghost use Rattle.ae_code.specs.Judgement.{nobody, visible, free, and_also, judge, judge_action, judge_expression, judge_right};
-ghost use Rattle.ae_code.specs.Names.{io};
+ghost use Rattle.ae_tree.specs.Shown.{expression, right_side, action, lines_from};
+ghost use Rattle.ae_tree.specs.Judgement.{nobody, visible, free, and_also, judge, judge_action, judge_expression, judge_right};
+ghost use Rattle.ae_tree.specs.Names.{io};
 ghost use Rattle.aem.specs.Names.{scope, Found, FoundIn};
 
-use ae_code::{Expr, NameAt, Rhs, Stmt, StmtKind};
+use ae_tree::{Expr, NameAt, Rhs, Stmt, StmtKind};
 use ae_text::{Refusal, Rule};
 use std::alloc::{AllocError, Global};
 use std::collections::HashSet;
@@ -39,7 +39,7 @@ fn unless_free(seen: &HashSet<u32>, name: NameAt) -> Option<Refusal>
 }
 
 /// The first name in the expression that is not visible, if there is one.
-#[tactic(auto, using(ae_code::specs::Shown::shows))]
+#[tactic(auto, using(ae_tree::specs::Shown::shows))]
 fn broken_in(seen: &HashSet<u32>, expr: &Expr) -> Option<Refusal>
     ensures { Found (judge_expression (expression expr.now) (scope seen.now)) (scope seen.now) result }
 {
@@ -73,7 +73,7 @@ fn broken_right(seen: &HashSet<u32>, rhs: &Rhs) -> Option<Refusal>
 }
 
 /// Judges a statement where the names of the set are visible, and makes visible the name that it declares.
-#[tactic(auto, using(ae_code::specs::Shown::shows))]
+#[tactic(auto, using(ae_tree::specs::Shown::shows))]
 fn judge_statement(seen: &mut HashSet<u32>, stmt: &Stmt) -> Result<Option<Refusal>, AllocError>
     ensures { IfOk result (Found (judge_action (action stmt.now.kind) (scope seen.old)) (scope seen.new)) }
 {

@@ -1,9 +1,9 @@
 // Everything that the program does. A law is called where a proof takes it from the crates below; the call does nothing.
 ghost use Rattle.std.specs.Prelude.{◌≡◌, ◌≤◌, ◌↔◌, map, string_bytes, None, Some, IfSome, IfOk, IfErr, length};
 ghost use Rattle.ae_text.specs.Causes.{Rose};
-ghost use Rattle.ae_code.specs.Plain.{Code};
-ghost use Rattle.ae_code.specs.Shown.{code, lines_from};
-ghost use Rattle.ae_code.specs.Built.{Built};
+ghost use Rattle.ae_tree.specs.Plain.{Code};
+ghost use Rattle.ae_tree.specs.Shown.{code, lines_from};
+ghost use Rattle.ae_tree.specs.Built.{Built};
 ghost use Rattle.ae_rules.specs.Judges.{Accepts};
 ghost use Rattle.aem.specs.Small.{IsSource, HasSource};
 ghost use Rattle.aem.specs.Texts.{output, whole_status, status_of};
@@ -16,10 +16,9 @@ use crate::names::first_broken;
 use crate::texts::{status, text_of};
 use crate::words::command;
 use ae_cases::today_is_a_case;
-use ae_code::{Program, Stmt, derived_programs_are_well_shaped};
-use ae_grammar::tokens_stand_for_one_program;
+use ae_tree::{Program, Stmt, derived_programs_are_well_shaped};
+use ae_parser::{parse, programs_are_not_refused, refusals_are_unique, tokens_stand_for_one_program};
 use ae_graph::graph_text;
-use ae_parser::{parse, programs_are_not_refused, refusals_are_unique};
 use ae_rules::{
     a_built_program_declares_one_method, first_broken_rule_is_one, preds_are_edges,
     programs_are_never_both, todays_judgement_is_a_case, todays_uses_are_a_case,

@@ -1,9 +1,9 @@
 use Rattle.std.proofs.Common.{◌≡◌, ◌≤◌, ◌-◌, ◌+◌, length, sym, subst, ap, arith, ◌∙◌, refl}
-use Rattle.ae_code.specs.declared.limits.Limit.TheVariants.{Depth}
-use Rattle.ae_code.specs.declared.tree.Expr.{Expr}
-use Rattle.ae_code.specs.Plain.{Expression, Item, Grouped, Negated, Minus}
-use Rattle.ae_code.specs.Limits.{marks}
-use Rattle.ae_code.specs.Shown.{expression, expression-Path, expression-Index, expression-Paren, expression-Not, expression-Neg}
+use Rattle.ae_tree.specs.declared.limits.Limit.TheVariants.{Depth}
+use Rattle.ae_tree.specs.declared.tree.Expr.{Expr}
+use Rattle.ae_tree.specs.Plain.{Expression, Item, Grouped, Negated, Minus}
+use Rattle.ae_tree.specs.Limits.{marks}
+use Rattle.ae_tree.specs.Shown.{expression, expression-Path, expression-Index, expression-Paren, expression-Not, expression-Neg}
 use Rattle.ae_reading.specs.Reads.{Took, Always, Free}
 use Rattle.ae_reading.proofs.ReadsLemmas.{exits, passes, failed_by, refuses}
 use Rattle.ae_expressions.specs.Ends.{Ends}

@@ -1,7 +1,7 @@
 use Rattle.std.proofs.Common.{ap₂, ◌∙◌}
-use Rattle.ae_code.specs.declared.tree.Expr.{Expr}
-use Rattle.ae_code.specs.Plain.{Binary}
-use Rattle.ae_code.specs.Shown.{expression, expression-Bin}
+use Rattle.ae_tree.specs.declared.tree.Expr.{Expr}
+use Rattle.ae_tree.specs.Plain.{Binary}
+use Rattle.ae_tree.specs.Shown.{expression, expression-Bin}
 use Rattle.ae_expressions.proofs.expressions.binary.Goals as goal
 
 pub returns-clause-tree : goal.returns-clause-tree

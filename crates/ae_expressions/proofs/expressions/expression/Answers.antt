@@ -1,6 +1,6 @@
-use Rattle.ae_code.specs.Grammar.{whole}
-use Rattle.ae_code.specs.Limits.{Keeps}
-use Rattle.ae_code.specs.Shown as shown
+use Rattle.ae_tree.specs.Grammar.{whole}
+use Rattle.ae_tree.specs.Limits.{Keeps}
+use Rattle.ae_tree.specs.Shown as shown
 use Rattle.ae_reading.proofs.ReadsLemmas.{exits}
 use Rattle.ae_expressions.specs.Ends.{Ends}
 use Rattle.ae_expressions.proofs.WholeLemmas.{whole_took, whole_failed}

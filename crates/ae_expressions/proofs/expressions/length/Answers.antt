@@ -1,7 +1,7 @@
 use Rattle.std.proofs.Common.{◌≡◌, ◌-◌, ◌+◌, sym, subst, ap, arith, ◌∙◌}
-use Rattle.ae_code.specs.Plain.{Expression}
-use Rattle.ae_code.specs.Limits.{marks}
-use Rattle.ae_code.specs.Shown.{expression-Len}
+use Rattle.ae_tree.specs.Plain.{Expression}
+use Rattle.ae_tree.specs.Limits.{marks}
+use Rattle.ae_tree.specs.Shown.{expression-Len}
 use Rattle.ae_reading.specs.Reads.{Took}
 use Rattle.ae_reading.proofs.ReadsLemmas.{exits}
 use Rattle.ae_expressions.specs.Ends.{Ends}

@@ -1,6 +1,6 @@
 use Rattle.std.proofs.Common.{sym, subst, ap, ◌∷◌, []}
-use Rattle.ae_code.specs.Plain.{Expression}
-use Rattle.ae_code.specs.Shown.{expression}
+use Rattle.ae_tree.specs.Plain.{Expression}
+use Rattle.ae_tree.specs.Shown.{expression}
 use Rattle.ae_reading.specs.Reads.{Always, Free, Took}
 use Rattle.ae_expressions.specs.Productions.{literal, counted}
 use Rattle.ae_reading.proofs.ReadsLemmas.{refuses}

@@ -1,9 +1,9 @@
 use Rattle.std.proofs.Common.{◌≡◌, sym, subst, ap, ◌∙◌, refl, true, false, ◌∷◌, [], rules, w64, to_z, of_z}
-use Rattle.ae_code.specs.Plain.{Expression, Number}
-use Rattle.ae_code.specs.Shown.{expression-Int, expression-Bool, expression-Null}
+use Rattle.ae_tree.specs.Plain.{Expression, Number}
+use Rattle.ae_tree.specs.Shown.{expression-Int, expression-Bool, expression-Null}
 use Rattle.ae_expressions.specs.Productions.{literal}
-use Rattle.ae_code.specs.declared.lexeme.Lexical.{Lexical}
-use Rattle.ae_code.specs.declared.lexeme.Lexical.TheVariants as tok
+use Rattle.ae_tree.specs.declared.lexeme.Lexical.{Lexical}
+use Rattle.ae_tree.specs.declared.lexeme.Lexical.TheVariants as tok
 use Rattle.ae_expressions.proofs.expressions.literal_of.Goals as goal
 
 pub returns-in-Int : goal.returns-in-Int

@@ -1,5 +1,5 @@
 use Rattle.std.proofs.Common.{arith, length, subst, sym, ap, ◌∙◌}
-use Rattle.ae_code.specs.Shown.{lines_from}
+use Rattle.ae_tree.specs.Shown.{lines_from}
 use Rattle.ae_graph.specs.Graph.{Graph, edges_from, AreAllSuccs}
 use Rattle.ae_graph.specs.Succs.{AreEarlier}
 use Rattle.ae_graph.proofs.Rows.{count_lines, earlier}

@@ -1,6 +1,6 @@
 use Rattle.std.proofs.Common.{arith, sym, ◌∙◌, ◌≡◌, Some, length}
-use Rattle.ae_code.specs.Shown.{lines_from, action}
-use Rattle.ae_code.specs.Uses.{statement_at}
+use Rattle.ae_tree.specs.Shown.{lines_from, action}
+use Rattle.ae_rules.specs.BuiltUses.{statement_at}
 use Rattle.ae_graph.specs.Footprint.{IsFootprint}
 use Rattle.ae_graph.specs.Opened.{kept_of}
 use Rattle.ae_graph.proofs.Waiting.{preds_found, opened_found}

@@ -1,7 +1,7 @@
 use Rattle.std.proofs.Common.{◌≡◌, ◌<◌, ℕ, length}
-use Rattle.ae_code.specs.declared.uses.Resource.{Resource}
-use Rattle.ae_code.specs.Shown.{lines_from}
-use Rattle.ae_code.specs.Uses.{ArePreds}
+use Rattle.ae_rules.specs.declared.uses.Resource.{Resource}
+use Rattle.ae_tree.specs.Shown.{lines_from}
+use Rattle.ae_rules.specs.BuiltUses.{ArePreds}
 use Rattle.ae_graph.specs.Graph.{preds_in}
 use Rattle.ae_graph.specs.Opened.{kept_of, opened}
 use Rattle.ae_graph.proofs.preds.preds_of.Given as goal

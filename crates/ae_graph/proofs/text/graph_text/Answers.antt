@@ -1,9 +1,9 @@
 use Rattle.std.proofs.Common.{subst, sym, map, List, ℕ}
 use Rattle.std.specs.List.{All}
-use Rattle.ae_code.specs.declared.limits.Limit.TheVariants as limit
-use Rattle.ae_code.specs.declared.tree.Method.{Method}
-use Rattle.ae_code.specs.Limits.{KeepsMethod}
-use Rattle.ae_code.specs.Shown.{definition}
+use Rattle.ae_tree.specs.declared.limits.Limit.TheVariants as limit
+use Rattle.ae_tree.specs.declared.tree.Method.{Method}
+use Rattle.ae_tree.specs.Limits.{KeepsMethod}
+use Rattle.ae_tree.specs.Shown.{definition}
 use Rattle.ae_graph.specs.GraphText.{PutsMethod}
 use Rattle.ae_graph.proofs.Few.{each_body_is_few}
 use Rattle.ae_graph.proofs.Texts.{texts_more}

@@ -1,5 +1,5 @@
 use Rattle.std.proofs.Common.{map, take}
-use Rattle.ae_code.specs.Shown.{definition}
+use Rattle.ae_tree.specs.Shown.{definition}
 use Rattle.ae_graph.specs.GraphText.{AreMethodTexts}
 use Rattle.ae_graph.proofs.text.graph_text.Given as goal
 

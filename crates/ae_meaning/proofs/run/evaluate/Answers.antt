@@ -1,4 +1,4 @@
-use Rattle.ae_code.specs.Shown.{code}
+use Rattle.ae_tree.specs.Shown.{code}
 use Rattle.ae_meaning.specs.Meaning.{seq}
 use Rattle.ae_meaning.proofs.Fits.{program_ends, ending_some}
 use Rattle.ae_meaning.proofs.run.evaluate.Goals as goal

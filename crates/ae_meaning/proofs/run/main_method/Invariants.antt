@@ -1,5 +1,5 @@
 use Rattle.std.proofs.Common.{◌≡◌, drop, map}
-use Rattle.ae_code.specs.Shown.{definition}
+use Rattle.ae_tree.specs.Shown.{definition}
 use Rattle.ae_meaning.specs.Meaning.{main_body}
 use Rattle.ae_meaning.proofs.run.main_method.Given as goal
 

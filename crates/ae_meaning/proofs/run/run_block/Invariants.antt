@@ -1,5 +1,5 @@
 use Rattle.std.proofs.Common.{◌≡◌, drop}
-use Rattle.ae_code.specs.Shown.{braced, lines_from}
+use Rattle.ae_tree.specs.Shown.{braced, lines_from}
 use Rattle.ae_meaning.specs.Meaning.{many}
 use Rattle.ae_meaning.specs.Running.{held}
 use Rattle.ae_meaning.proofs.run.run_block.Given as goal

@@ -1,10 +1,10 @@
 use Rattle.ae_reading.proofs.ReadsLemmas.{exits, first, second, both, free, took_mark, failed_mark, took_shorter}
 use Rattle.std.proofs.Common.{ℕ, List, map, ap, ◌∙◌, sym, subst, arith}
 use Rattle.std.proofs.lemmas.List.{length-map}
-use Rattle.ae_code.specs.declared.lexeme.Lexical.TheVariants as tok
+use Rattle.ae_tree.specs.declared.lexeme.Lexical.TheVariants as tok
 use Rattle.ae_text.specs.declared.token.Sign.TheVariants as sign
-use Rattle.ae_code.specs.Shown as shown
-use Rattle.ae_code.specs.Grammar.{numbers_from}
+use Rattle.ae_tree.specs.Shown as shown
+use Rattle.ae_tree.specs.Grammar.{numbers_from}
 use Rattle.ae_reading.specs.Reads.{Always, Took}
 use Rattle.ae_parser.specs.Productions.{KeepsOne, shown_class, class_at}
 use Rattle.ae_parser.proofs.ParamLemmas.{mark_ends}

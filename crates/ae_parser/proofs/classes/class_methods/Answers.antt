@@ -1,6 +1,6 @@
 use Rattle.std.proofs.Common.{map, Some, arith}
-use Rattle.ae_code.specs.Shown as shown
-use Rattle.ae_code.specs.Grammar.{method, each}
+use Rattle.ae_tree.specs.Shown as shown
+use Rattle.ae_tree.specs.Grammar.{method, each}
 use Rattle.ae_reading.proofs.ReadsLemmas.{exits}
 use Rattle.ae_parser.specs.Productions.{AllKeep}
 use Rattle.ae_parser.proofs.ClassLemmas.{NoMethod, methods_start, methods_more, methods_failed, methods_end, method_smaller, run_shorter}

@@ -1,5 +1,5 @@
 use Rattle.std.proofs.Common.{length, map}
-use Rattle.ae_code.specs.Shown as shown
+use Rattle.ae_tree.specs.Shown as shown
 use Rattle.ae_parser.proofs.ClassLemmas.{ReadMethods}
 use Rattle.ae_parser.proofs.classes.class_methods.Given as goal
 

@@ -1,8 +1,8 @@
 use Rattle.ae_reading.proofs.ReadsLemmas.{exits, first, second, both, free, took_mark, failed_mark, has_mark}
-use Rattle.ae_code.specs.Grammar.{field}
+use Rattle.ae_tree.specs.Grammar.{field}
 use Rattle.ae_reading.specs.Reads.{itself, Free, Always}
 use Rattle.ae_text.specs.declared.token.Sign.TheVariants as sign
-use Rattle.ae_code.specs.declared.lexeme.Lexical.TheVariants as tok
+use Rattle.ae_tree.specs.declared.lexeme.Lexical.TheVariants as tok
 use Rattle.ae_reading.proofs.ReadsLemmas.{has_mark}
 use Rattle.ae_parser.proofs.ParamLemmas.{named_ends}
 use Rattle.ae_parser.proofs.ClassLemmas.{has_ended, field_took, field_failed}

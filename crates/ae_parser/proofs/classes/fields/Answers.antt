@@ -1,7 +1,7 @@
-use Rattle.ae_code.specs.Grammar.{field, each}
+use Rattle.ae_tree.specs.Grammar.{field, each}
 use Rattle.ae_reading.specs.Reads.{itself, Free}
 use Rattle.ae_reading.proofs.ReadsLemmas.{exits}
-use Rattle.ae_types.proofs.PartLemmas.{loop_start, loop_more, loop_failed}
+use Rattle.ae_reading.proofs.PartLemmas.{loop_start, loop_more, loop_failed}
 use Rattle.ae_parser.specs.Productions.{NoType}
 use Rattle.ae_parser.proofs.ClassLemmas.{type_goes_on, fields_end, field_smaller}
 use Rattle.ae_parser.proofs.classes.fields.Goals as goal

@@ -1,5 +1,5 @@
 use Rattle.std.proofs.Common.{length}
-use Rattle.ae_code.specs.Grammar.{field}
+use Rattle.ae_tree.specs.Grammar.{field}
 use Rattle.ae_reading.specs.Reads.{Free}
 use Rattle.ae_reading.proofs.Runs.{Run}
 use Rattle.ae_parser.specs.Productions.{NoType}

@@ -1,5 +1,5 @@
 use Rattle.std.proofs.Common.{◌∷◌, ◌++◌, [], ℕ, ap, ◌∙◌}
-use Rattle.ae_code.specs.declared.tree.Decl.TheVariants as decl
+use Rattle.ae_tree.specs.declared.tree.Decl.TheVariants as decl
 use Rattle.ae_parser.specs.Productions.{class_at}
 use Rattle.ae_parser.proofs.DeclarationLemmas.{added_class, leaves_one, failed_counts, took_counts}
 use Rattle.ae_parser.proofs.declarations.add_class.Goals as goal

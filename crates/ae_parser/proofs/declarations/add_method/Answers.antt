@@ -1,5 +1,5 @@
 use Rattle.std.proofs.Common.{◌∷◌, ◌++◌, [], length, ℕ, refl, ap, ◌∙◌, arith}
-use Rattle.ae_code.specs.declared.tree.Decl.TheVariants as decl
+use Rattle.ae_tree.specs.declared.tree.Decl.TheVariants as decl
 use Rattle.ae_parser.specs.Productions.{method_at}
 use Rattle.ae_parser.proofs.DeclarationLemmas.{method_fails, added_method, leaves_one}
 use Rattle.ae_parser.proofs.declarations.add_method.Goals as goal

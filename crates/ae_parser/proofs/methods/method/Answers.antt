@@ -1,10 +1,10 @@
 use Rattle.ae_reading.proofs.ReadsLemmas.{exits, first, second, both, free, took_mark, failed_mark, took_shorter}
 use Rattle.std.proofs.Common.{ℕ, sym, subst, arith}
-use Rattle.ae_code.specs.declared.lexeme.Lexical.TheVariants as tok
+use Rattle.ae_tree.specs.declared.lexeme.Lexical.TheVariants as tok
 use Rattle.ae_text.specs.declared.token.Sign.TheVariants as sign
-use Rattle.ae_code.specs.Grammar.{method}
-use Rattle.ae_code.specs.Limits.{KeepsMethod}
-use Rattle.ae_code.specs.Shown as shown
+use Rattle.ae_tree.specs.Grammar.{method}
+use Rattle.ae_tree.specs.Limits.{KeepsMethod}
+use Rattle.ae_tree.specs.Shown as shown
 use Rattle.ae_reading.specs.Reads.{Always, Took}
 use Rattle.ae_parser.proofs.ParamLemmas.{named_ends, mark_ends, mark_is}
 use Rattle.ae_parser.proofs.MethodLemmas.{method_with, method_took, method_failed, has_returned, has_named, has_grouped, has_opened, has_filled, has_closed, has_needed, has_body, body_opens}

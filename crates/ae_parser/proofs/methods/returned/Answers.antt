@@ -1,10 +1,10 @@
 use Rattle.std.proofs.Common.{None, Some}
-use Rattle.ae_code.specs.Grammar.{result, type_}
+use Rattle.ae_tree.specs.Grammar.{result, type_}
 use Rattle.ae_reading.specs.Reads.{itself, Free, Mark}
 use Rattle.ae_text.specs.declared.token.Keyword.TheVariants as word
-use Rattle.ae_code.specs.declared.lexeme.Lexical.TheVariants as tok
+use Rattle.ae_tree.specs.declared.lexeme.Lexical.TheVariants as tok
 use Rattle.ae_reading.proofs.ReadsLemmas.{exits, took_as, failed_as, took_mark, failed_mark, took_when, failed_when}
-use Rattle.ae_types.proofs.TypeLemmas.{NoLess}
+use Rattle.ae_reading.proofs.TypeLemmas.{NoLess}
 use Rattle.ae_parser.proofs.MethodLemmas.{void_when, some_along}
 use Rattle.ae_parser.proofs.methods.returned.Goals as goal
 

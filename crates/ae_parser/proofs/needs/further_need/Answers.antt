@@ -1,4 +1,4 @@
-use Rattle.ae_code.specs.Grammar.{need, further}
+use Rattle.ae_tree.specs.Grammar.{need, further}
 use Rattle.ae_reading.specs.Reads.{itself, Free, Always}
 use Rattle.ae_reading.proofs.ReadsLemmas.{exits, passes, took_mark, failed_mark}
 use Rattle.ae_reading.proofs.Parts.{took_further, further_first, further_second}

@@ -1,4 +1,4 @@
-use Rattle.ae_code.specs.Grammar.{need}
+use Rattle.ae_tree.specs.Grammar.{need}
 use Rattle.ae_reading.specs.Reads.{itself, Free, Always}
 use Rattle.ae_reading.proofs.ReadsLemmas.{passes, took_as, failed_as}
 use Rattle.ae_parser.specs.Productions.{need_by}

@@ -1,4 +1,4 @@
-use Rattle.ae_code.specs.Grammar.{needs}
+use Rattle.ae_tree.specs.Grammar.{needs}
 use Rattle.ae_reading.specs.Reads.{itself, Free}
 use Rattle.ae_reading.proofs.ReadsLemmas.{passes, took_when, failed_when}
 use Rattle.ae_parser.specs.Productions.{some_needs}

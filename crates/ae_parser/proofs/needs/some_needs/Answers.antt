@@ -1,6 +1,6 @@
 use Rattle.std.proofs.Common.{List, sym, subst}
-use Rattle.ae_code.specs.declared.tree.GroupNeed.{GroupNeed}
-use Rattle.ae_code.specs.Grammar.{need}
+use Rattle.ae_tree.specs.declared.tree.GroupNeed.{GroupNeed}
+use Rattle.ae_tree.specs.Grammar.{need}
 use Rattle.ae_reading.specs.Reads.{itself, Free, Took}
 use Rattle.ae_reading.proofs.ReadsLemmas.{exits, first, second, both, free, took_mark, failed_mark}
 use Rattle.ae_reading.proofs.Parts.{free_commas, free_parted, has_separated, took_separated, separated_first, separated_more}

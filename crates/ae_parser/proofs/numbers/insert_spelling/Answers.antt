@@ -1,7 +1,7 @@
 use Rattle.std.proofs.Common.{◌∙◌, sym, ap, refl, []}
 use Rattle.std.specs.Prelude.{bytes_eq}
 use Rattle.indexmap.specs.IndexSet.{insert_all, insert_key}
-use Rattle.ae_code.specs.Names.{spelled}
+use Rattle.ae_tree.specs.Names.{spelled}
 use Rattle.ae_parser.specs.Slices.{bytes_of}
 use Rattle.ae_parser.proofs.NumberLemmas.{inserted}
 use Rattle.ae_parser.proofs.numbers.insert_spelling.Goals as goal

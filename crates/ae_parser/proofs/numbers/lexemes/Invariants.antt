@@ -1,5 +1,5 @@
 use Rattle.std.proofs.Common.{◌≡◌, take}
-use Rattle.ae_code.specs.Names.{numbered}
+use Rattle.ae_tree.specs.Names.{numbered}
 use Rattle.ae_parser.specs.Slices.{bytes_of}
 use Rattle.ae_parser.proofs.numbers.lexemes.Given as goal
 

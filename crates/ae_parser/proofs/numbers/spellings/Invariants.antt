@@ -1,7 +1,7 @@
 use Rattle.std.proofs.Common.{◌≡◌, ◌≤◌, ◌+◌, length, drop}
 use Rattle.std.specs.Prelude.{bytes_eq}
 use Rattle.indexmap.specs.IndexSet.{insert_all}
-use Rattle.ae_code.specs.Names.{names_of, spellings}
+use Rattle.ae_tree.specs.Names.{names_of, spellings}
 use Rattle.ae_parser.specs.Slices.{bytes_of}
 use Rattle.ae_parser.proofs.numbers.spellings.Given as goal
 

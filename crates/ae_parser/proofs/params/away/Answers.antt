@@ -1,4 +1,4 @@
-use Rattle.ae_code.specs.Grammar.{away}
+use Rattle.ae_tree.specs.Grammar.{away}
 use Rattle.ae_reading.specs.Reads.{itself, Free, Always}
 use Rattle.ae_reading.proofs.ReadsLemmas.{passes, took_when, failed_when}
 use Rattle.ae_parser.specs.Productions.{given_away}

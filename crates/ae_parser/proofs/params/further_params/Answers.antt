@@ -1,5 +1,5 @@
 use Rattle.std.proofs.Common.{◌<◌, ◌≤◌, length, arith}
-use Rattle.ae_code.specs.Grammar.{param, each, further}
+use Rattle.ae_tree.specs.Grammar.{param, each, further}
 use Rattle.ae_reading.specs.Reads.{itself}
 use Rattle.ae_reading.proofs.ReadsLemmas.{exits, took_mark}
 use Rattle.ae_reading.proofs.Parts.{further_second}

@@ -1,7 +1,7 @@
 use Rattle.ae_reading.proofs.ReadsLemmas.{exits, first, second, both, free, took_mark, failed_mark, has_mark}
 use Rattle.ae_reading.specs.Reads.{itself, Free, Always}
 use Rattle.ae_text.specs.declared.token.Keyword.TheVariants as word
-use Rattle.ae_code.specs.declared.lexeme.Lexical.TheVariants as tok
+use Rattle.ae_tree.specs.declared.lexeme.Lexical.TheVariants as tok
 use Rattle.ae_reading.proofs.ReadsLemmas.{has_mark}
 use Rattle.ae_parser.specs.Productions.{given_away}
 use Rattle.ae_parser.proofs.ParamLemmas.{given_took, given_failed}

@@ -1,6 +1,6 @@
 use Rattle.std.proofs.Common.{List, sym, subst}
-use Rattle.ae_code.specs.declared.tree.Param.{Param}
-use Rattle.ae_code.specs.Grammar.{param, separated, listed}
+use Rattle.ae_tree.specs.declared.tree.Param.{Param}
+use Rattle.ae_tree.specs.Grammar.{param, separated, listed}
 use Rattle.ae_reading.specs.Reads.{itself, Took}
 use Rattle.ae_reading.proofs.ReadsLemmas.{passes}
 use Rattle.ae_reading.proofs.Parts.{took_none, took_some, failed_some}

@@ -1,7 +1,7 @@
 use Rattle.ae_reading.specs.Reads.{itself}
 use Rattle.ae_reading.proofs.ReadsLemmas.{exits, first, second, both}
 use Rattle.ae_reading.proofs.Parts.{commas_link}
-use Rattle.ae_code.specs.Grammar.{param}
+use Rattle.ae_tree.specs.Grammar.{param}
 use Rattle.ae_parser.specs.Productions.{given, FewGiven}
 use Rattle.ae_parser.proofs.ParamLemmas.{Closing, params_commas, has_furthers, led_took, led_failed, unled_took, unled_failed}
 use Rattle.ae_parser.proofs.params.read_given.Goals as goal

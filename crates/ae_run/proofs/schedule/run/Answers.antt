@@ -1,6 +1,6 @@
 use Rattle.std.proofs.Common.{◌≡◌, ◌∙◌, Option, Some, IsSome, ap, sym, subst}
-use Rattle.ae_code.specs.Plain.{Lines}
-use Rattle.ae_code.specs.Shown.{code, lines_from}
+use Rattle.ae_tree.specs.Plain.{Lines}
+use Rattle.ae_tree.specs.Shown.{code, lines_from}
 use Rattle.ae_graph.specs.Graph.{IsGraph}
 use Rattle.ae_meaning.specs.Meaning.{Meaning, many, begin, ended, seq}
 use Rattle.ae_meaning.specs.declared.report.RunReport.{RunReport}

@@ -1,7 +1,7 @@
 use Rattle.std.proofs.Common.{◌≡◌, ◌<◌, ◌≤◌, ◌+◌, ℕ, Bool, true, false, List, length, get_or, Option, ap, sym, subst, ◌∙◌, arith}
 use Rattle.std.specs.BinaryHeap.{heap_items}
-use Rattle.ae_code.specs.Limits.{count}
-use Rattle.ae_code.specs.Shown.{lines_from}
+use Rattle.ae_tree.specs.Limits.{count}
+use Rattle.ae_tree.specs.Shown.{lines_from}
 use Rattle.ae_meaning.specs.Running.{held}
 use Rattle.ae_run.specs.declared.course.First.{First}
 use Rattle.ae_run.specs.Queue.{times, zero_as_one, waits_of, AreWaits, AreReady}

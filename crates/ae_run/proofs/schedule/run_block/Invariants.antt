@@ -1,5 +1,5 @@
 use Rattle.std.specs.BinaryHeap.{heap_items}
-use Rattle.ae_code.specs.Shown.{lines_from}
+use Rattle.ae_tree.specs.Shown.{lines_from}
 use Rattle.ae_run.specs.Queue.{AreWaits, AreReady}
 use Rattle.ae_run.specs.Course.{IsOnCourse, went, taken}
 use Rattle.ae_run.proofs.Queues.{open_count}

@@ -1,5 +1,5 @@
 use Rattle.std.proofs.Common.{◌≡◌, Some, length, take, ap, ◌∙◌}
-use Rattle.ae_code.specs.Shown.{lines_from}
+use Rattle.ae_tree.specs.Shown.{lines_from}
 use Rattle.ae_meaning.specs.Meaning.{many, begin, ended}
 use Rattle.ae_meaning.specs.Running.{held}
 use Rattle.ae_meaning.specs.declared.report.RunReport.{RunReport}

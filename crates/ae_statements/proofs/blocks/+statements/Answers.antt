@@ -1,11 +1,11 @@
 use Rattle.std.proofs.Common.{◌+◌, ◌*◌, ◌≤◌, ◌<◌, ℕ, List, length, map, sym, subst, ap, arith, ◌∙◌, [], ◌∷◌}
 use Rattle.std.proofs.lemmas.List.{map-append, length-map}
 use Rattle.ae_text.specs.declared.refusal.Spot.{Spot}
-use Rattle.ae_code.specs.declared.tree.Stmt.{Stmt}
-use Rattle.ae_code.specs.Plain.{Action, Lines, Repeats, Splits, Locks, Chooses, ChoosesElse}
-use Rattle.ae_code.specs.Shown as shown
-use Rattle.ae_code.specs.Shown.{action-While, action-Split, action-Atomic, action-If, action-If_else, lines-roll, no-roll}
-use Rattle.ae_code.specs.Grammar.{statements, opened, opened_in}
+use Rattle.ae_tree.specs.declared.tree.Stmt.{Stmt}
+use Rattle.ae_tree.specs.Plain.{Action, Lines, Repeats, Splits, Locks, Chooses, ChoosesElse}
+use Rattle.ae_tree.specs.Shown as shown
+use Rattle.ae_tree.specs.Shown.{action-While, action-Split, action-Atomic, action-If, action-If_else, lines-roll, no-roll}
+use Rattle.ae_tree.specs.Grammar.{statements, opened, opened_in}
 use Rattle.ae_reading.specs.Reads.{Took, Failed, Always}
 use Rattle.ae_reading.proofs.ReadsLemmas.{exits, passes, token_smaller, took_shorter}
 use Rattle.ae_statements.specs.Productions.{stmt, KeepsStmt, NoElse, Closes, braced, otherwise, KeepsBraced, shown_block, shown_stmt, shown_numbered, shown_stmts}

@@ -1,8 +1,8 @@
 use Rattle.std.proofs.Common.{sym, subst}
-use Rattle.ae_code.specs.Plain.{Lines}
-use Rattle.ae_code.specs.Shown as shown
-use Rattle.ae_code.specs.Shown.{lines-roll, no-roll}
-use Rattle.ae_code.specs.Grammar as grammar
+use Rattle.ae_tree.specs.Plain.{Lines}
+use Rattle.ae_tree.specs.Shown as shown
+use Rattle.ae_tree.specs.Shown.{lines-roll, no-roll}
+use Rattle.ae_tree.specs.Grammar as grammar
 use Rattle.ae_reading.specs.Reads.{Always, Took}
 use Rattle.ae_reading.proofs.ReadsLemmas.{exits}
 use Rattle.ae_statements.proofs.BlockLemmas.{KeepsLines}

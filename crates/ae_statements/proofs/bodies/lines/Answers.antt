@@ -1,11 +1,11 @@
 use Rattle.std.proofs.Common.{◌<◌, ◌≤◌, sym, subst, ap, arith, ◌∙◌, List}
 use Rattle.ae_text.specs.declared.token.Sign.TheVariants as sign
-use Rattle.ae_code.specs.declared.lexeme.Lexical.TheVariants as tok
-use Rattle.ae_code.specs.declared.tree.Stmt.{Stmt}
-use Rattle.ae_code.specs.Plain.{Lines}
-use Rattle.ae_code.specs.Shown as shown
-use Rattle.ae_code.specs.Shown.{action-Return}
-use Rattle.ae_code.specs.Limits.{count}
+use Rattle.ae_tree.specs.declared.lexeme.Lexical.TheVariants as tok
+use Rattle.ae_tree.specs.declared.tree.Stmt.{Stmt}
+use Rattle.ae_tree.specs.Plain.{Lines}
+use Rattle.ae_tree.specs.Shown as shown
+use Rattle.ae_tree.specs.Shown.{action-Return}
+use Rattle.ae_tree.specs.Limits.{count}
 use Rattle.ae_reading.specs.Reads.{Is, Took}
 use Rattle.ae_reading.proofs.ReadsLemmas.{exits}
 use Rattle.ae_statements.specs.Productions.{returning}

@@ -1,10 +1,10 @@
 use Rattle.std.proofs.Common.{refl, sym, subst, List, map}
 use Rattle.ae_text.specs.declared.token.Sign.TheVariants as sign
-use Rattle.ae_code.specs.declared.lexeme.Lexical.TheVariants as tok
-use Rattle.ae_code.specs.declared.tree.Expr.{Expr}
-use Rattle.ae_code.specs.Shown as shown
-use Rattle.ae_code.specs.Grammar.{whole, separated, listed}
-use Rattle.ae_code.specs.Limits.{AllKeep}
+use Rattle.ae_tree.specs.declared.lexeme.Lexical.TheVariants as tok
+use Rattle.ae_tree.specs.declared.tree.Expr.{Expr}
+use Rattle.ae_tree.specs.Shown as shown
+use Rattle.ae_tree.specs.Grammar.{whole, separated, listed}
+use Rattle.ae_tree.specs.Limits.{AllKeep}
 use Rattle.ae_reading.specs.Reads.{Took}
 use Rattle.ae_reading.proofs.ReadsLemmas.{passes}
 use Rattle.ae_reading.proofs.Parts.{took_none, took_some, failed_some}

@@ -1,7 +1,7 @@
 use Rattle.std.proofs.Common.{map}
-use Rattle.ae_code.specs.Shown as shown
-use Rattle.ae_code.specs.Grammar.{whole, listed, arguments}
-use Rattle.ae_code.specs.Limits.{AllKeep}
+use Rattle.ae_tree.specs.Shown as shown
+use Rattle.ae_tree.specs.Grammar.{whole, listed, arguments}
+use Rattle.ae_tree.specs.Limits.{AllKeep}
 use Rattle.ae_reading.specs.Reads.{Always}
 use Rattle.ae_reading.proofs.ReadsLemmas.{exits}
 use Rattle.ae_statements.proofs.ShapeLemmas.{pre_first, pre_second, took_pre, suf_first, suf_second, took_suf}

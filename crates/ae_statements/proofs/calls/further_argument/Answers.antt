@@ -1,6 +1,6 @@
-use Rattle.ae_code.specs.Shown as shown
-use Rattle.ae_code.specs.Grammar.{whole, further}
-use Rattle.ae_code.specs.Limits.{Keeps}
+use Rattle.ae_tree.specs.Shown as shown
+use Rattle.ae_tree.specs.Grammar.{whole, further}
+use Rattle.ae_tree.specs.Limits.{Keeps}
 use Rattle.ae_reading.proofs.ReadsLemmas.{exits, passes}
 use Rattle.ae_expressions.specs.Ends.{Ends}
 use Rattle.ae_statements.proofs.ShapeLemmas.{pre_first, pre_second, took_pre, has_whole}

@@ -1,7 +1,7 @@
 use Rattle.std.proofs.Common.{map}
-use Rattle.ae_code.specs.Shown as shown
-use Rattle.ae_code.specs.Grammar.{whole, further, each}
-use Rattle.ae_code.specs.Limits.{AllKeep, Keeps}
+use Rattle.ae_tree.specs.Shown as shown
+use Rattle.ae_tree.specs.Grammar.{whole, further, each}
+use Rattle.ae_tree.specs.Limits.{AllKeep, Keeps}
 use Rattle.ae_reading.proofs.ReadsLemmas.{exits, mark_smaller}
 use Rattle.ae_reading.proofs.Parts.{Comma}
 use Rattle.ae_expressions.specs.Ends.{Ends}

@@ -1,5 +1,5 @@
 use Rattle.std.proofs.Common.{length, map}
-use Rattle.ae_code.specs.Shown as shown
+use Rattle.ae_tree.specs.Shown as shown
 use Rattle.ae_statements.proofs.CallLemmas.{Arguments}
 use Rattle.ae_statements.proofs.calls.further_arguments.Given as goal
 

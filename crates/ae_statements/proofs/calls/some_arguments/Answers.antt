@@ -1,8 +1,8 @@
 use Rattle.std.proofs.Common.{sym, subst, List, map}
-use Rattle.ae_code.specs.declared.tree.Expr.{Expr}
-use Rattle.ae_code.specs.Shown as shown
-use Rattle.ae_code.specs.Grammar.{whole, separated}
-use Rattle.ae_code.specs.Limits.{AllKeep}
+use Rattle.ae_tree.specs.declared.tree.Expr.{Expr}
+use Rattle.ae_tree.specs.Shown as shown
+use Rattle.ae_tree.specs.Grammar.{whole, separated}
+use Rattle.ae_tree.specs.Limits.{AllKeep}
 use Rattle.ae_reading.specs.Reads.{Took}
 use Rattle.ae_reading.proofs.ReadsLemmas.{exits}
 use Rattle.ae_reading.proofs.Parts.{took_separated, separated_first, separated_more}

@@ -1,4 +1,4 @@
-use Rattle.ae_code.specs.Grammar.{whole}
+use Rattle.ae_tree.specs.Grammar.{whole}
 use Rattle.ae_reading.specs.Reads.{Always}
 use Rattle.ae_reading.proofs.ReadsLemmas.{exits, first, second, both}
 use Rattle.ae_statements.specs.Productions.{ended}

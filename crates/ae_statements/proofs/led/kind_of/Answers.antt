@@ -1,7 +1,7 @@
 use Rattle.std.proofs.Common.{sym, ap, ◌∙◌}
-use Rattle.ae_code.specs.Plain.{Action}
-use Rattle.ae_code.specs.Shown.{action-Assign, action-Field, action-Index, action-Call}
-use Rattle.ae_code.specs.Plain.{Calls}
+use Rattle.ae_tree.specs.Plain.{Action}
+use Rattle.ae_tree.specs.Shown.{action-Assign, action-Field, action-Index, action-Call}
+use Rattle.ae_tree.specs.Plain.{Calls}
 use Rattle.ae_statements.specs.declared.led.Tail.{Tail}
 use Rattle.ae_statements.specs.Productions.{shown_tail, action_of}
 use Rattle.ae_statements.proofs.led.kind_of.Goals as goal

@@ -1,11 +1,11 @@
-use Rattle.ae_code.specs.Shown as shown
-use Rattle.ae_code.specs.Grammar.{whole}
-use Rattle.ae_code.specs.Limits.{Keeps}
+use Rattle.ae_tree.specs.Shown as shown
+use Rattle.ae_tree.specs.Grammar.{whole}
+use Rattle.ae_tree.specs.Limits.{Keeps}
 use Rattle.ae_reading.specs.Reads.{Always}
 use Rattle.ae_reading.proofs.ReadsLemmas.{exits, passes}
 use Rattle.ae_statements.specs.Productions.{ended}
 use Rattle.ae_statements.proofs.ShapeLemmas.{pre_first, pre_second, took_pre, has_whole}
-use Rattle.ae_code.specs.Shown.{action-Assign, action-Field, action-Index, action-Call}
+use Rattle.ae_tree.specs.Shown.{action-Assign, action-Field, action-Index, action-Call}
 use Rattle.ae_statements.specs.Productions.{stored}
 use Rattle.ae_statements.proofs.SimpleLemmas.{has_ended}
 use Rattle.ae_statements.proofs.led.stored.Goals as goal

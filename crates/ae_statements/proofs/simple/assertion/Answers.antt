@@ -1,11 +1,11 @@
 use Rattle.std.proofs.Common.{sym, subst}
-use Rattle.ae_code.specs.Plain.{Action}
-use Rattle.ae_code.specs.Grammar.{whole}
+use Rattle.ae_tree.specs.Plain.{Action}
+use Rattle.ae_tree.specs.Grammar.{whole}
 use Rattle.ae_reading.specs.Reads.{Always, Took}
 use Rattle.ae_reading.proofs.ReadsLemmas.{exits, first, second, both, free}
 use Rattle.ae_statements.specs.Productions.{stmt, KeepsStmt, NoElse, shown_stmt}
 use Rattle.ae_statements.proofs.ShapeLemmas.{has_whole}
-use Rattle.ae_code.specs.Shown.{action-Assert}
+use Rattle.ae_tree.specs.Shown.{action-Assert}
 use Rattle.ae_statements.proofs.SimpleLemmas.{simple_took, simple_failed, has_ended, asserted, assertion_along}
 use Rattle.ae_statements.proofs.simple.assertion.Goals as goal
 

@@ -1,9 +1,9 @@
 use Rattle.std.proofs.Common.{sym, subst}
-use Rattle.ae_code.specs.Plain.{Action}
+use Rattle.ae_tree.specs.Plain.{Action}
 use Rattle.ae_reading.specs.Reads.{Always, Took}
 use Rattle.ae_reading.proofs.ReadsLemmas.{exits, first, second, both, free}
 use Rattle.ae_statements.specs.Productions.{stmt, KeepsStmt, NoElse, shown_stmt}
-use Rattle.ae_code.specs.Shown.{action-Let}
+use Rattle.ae_tree.specs.Shown.{action-Let}
 use Rattle.ae_statements.proofs.SimpleLemmas.{simple_took, simple_failed, has_value, has_bound, has_typed, name_follows, declared, declaration_along}
 use Rattle.ae_statements.proofs.simple.declaration.Goals as goal
 

@@ -1,4 +1,4 @@
-use Rattle.ae_code.specs.Grammar.{name}
+use Rattle.ae_tree.specs.Grammar.{name}
 use Rattle.ae_reading.specs.Reads.{itself, Always, Free}
 use Rattle.ae_reading.proofs.ReadsLemmas.{exits}
 use Rattle.ae_statements.specs.Productions.{ended}

@@ -1,10 +1,10 @@
 use Rattle.std.proofs.Common.{sym, subst}
-use Rattle.ae_code.specs.Plain.{Action}
-use Rattle.ae_code.specs.Grammar.{name}
+use Rattle.ae_tree.specs.Plain.{Action}
+use Rattle.ae_tree.specs.Grammar.{name}
 use Rattle.ae_reading.specs.Reads.{Always, Took}
 use Rattle.ae_reading.proofs.ReadsLemmas.{exits, first, second, both, free, has_name}
 use Rattle.ae_statements.specs.Productions.{stmt, KeepsStmt, NoElse, shown_stmt}
-use Rattle.ae_code.specs.Shown.{action-Group}
+use Rattle.ae_tree.specs.Shown.{action-Group}
 use Rattle.ae_statements.proofs.SimpleLemmas.{simple_took, simple_failed, has_ended, grouped, group_along}
 use Rattle.ae_statements.proofs.simple.group.Goals as goal
 

@@ -1,12 +1,12 @@
 use Rattle.std.proofs.Common.{sym, subst}
-use Rattle.ae_code.specs.Plain.{Action}
-use Rattle.ae_code.specs.Shown as shown
-use Rattle.ae_code.specs.Grammar.{whole}
+use Rattle.ae_tree.specs.Plain.{Action}
+use Rattle.ae_tree.specs.Shown as shown
+use Rattle.ae_tree.specs.Grammar.{whole}
 use Rattle.ae_reading.specs.Reads.{Always, Took}
 use Rattle.ae_reading.proofs.ReadsLemmas.{exits, took_as, failed_as}
 use Rattle.ae_statements.specs.Productions.{ended, printed, KeepsPrinted}
-use Rattle.ae_code.specs.Shown.{action-Let, action-Group, action-Freeze, action-Share, action-Assert, action-PrintExpr, action-PrintText}
-use Rattle.ae_code.specs.Plain.{Prints}
+use Rattle.ae_tree.specs.Shown.{action-Let, action-Group, action-Freeze, action-Share, action-Assert, action-PrintExpr, action-PrintText}
+use Rattle.ae_tree.specs.Plain.{Prints}
 use Rattle.ae_statements.proofs.SimpleLemmas.{shown_along}
 use Rattle.ae_statements.proofs.simple.printed.Goals as goal
 

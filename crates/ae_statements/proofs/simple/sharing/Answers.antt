@@ -1,11 +1,11 @@
 use Rattle.std.proofs.Common.{sym, subst}
-use Rattle.ae_code.specs.Plain.{Action}
-use Rattle.ae_code.specs.Grammar.{name}
+use Rattle.ae_tree.specs.Plain.{Action}
+use Rattle.ae_tree.specs.Grammar.{name}
 use Rattle.ae_reading.specs.Reads.{Always, Took}
 use Rattle.ae_reading.proofs.ReadsLemmas.{exits, first, second, both, free, has_name}
 use Rattle.ae_statements.specs.Productions.{ended, stmt, KeepsStmt, NoElse, shown_stmt}
 use Rattle.ae_statements.proofs.ShapeLemmas.{pre_first, pre_second, took_pre}
-use Rattle.ae_code.specs.Shown.{action-Share}
+use Rattle.ae_tree.specs.Shown.{action-Share}
 use Rattle.ae_statements.proofs.SimpleLemmas.{simple_took, simple_failed, has_ended, has_into, has_shared, shared, sharing_along}
 use Rattle.ae_statements.proofs.simple.sharing.Goals as goal
 

@@ -1,11 +1,11 @@
-use Rattle.ae_code.specs.Shown as shown
-use Rattle.ae_code.specs.Grammar.{right_side}
-use Rattle.ae_code.specs.Limits.{KeepsRight}
+use Rattle.ae_tree.specs.Shown as shown
+use Rattle.ae_tree.specs.Grammar.{right_side}
+use Rattle.ae_tree.specs.Limits.{KeepsRight}
 use Rattle.ae_reading.specs.Reads.{Always}
 use Rattle.ae_reading.proofs.ReadsLemmas.{exits, passes}
 use Rattle.ae_statements.specs.Productions.{ended, value}
 use Rattle.ae_statements.proofs.ShapeLemmas.{pre_first, pre_second, took_pre}
-use Rattle.ae_code.specs.Shown.{action-Let, action-Group, action-Freeze, action-Share, action-Assert, action-PrintExpr, action-PrintText}
+use Rattle.ae_tree.specs.Shown.{action-Let, action-Group, action-Freeze, action-Share, action-Assert, action-PrintExpr, action-PrintText}
 use Rattle.ae_statements.proofs.SimpleLemmas.{has_ended, has_right_side}
 use Rattle.ae_statements.proofs.simple.value.Goals as goal
 

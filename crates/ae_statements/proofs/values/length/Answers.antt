@@ -1,9 +1,9 @@
 use Rattle.std.proofs.Common.{refl}
 use Rattle.ae_text.specs.declared.token.Sign.TheVariants as sign
-use Rattle.ae_code.specs.declared.lexeme.Lexical.TheVariants as tok
-use Rattle.ae_code.specs.Shown as shown
-use Rattle.ae_code.specs.Grammar.{whole}
-use Rattle.ae_code.specs.Limits.{Keeps}
+use Rattle.ae_tree.specs.declared.lexeme.Lexical.TheVariants as tok
+use Rattle.ae_tree.specs.Shown as shown
+use Rattle.ae_tree.specs.Grammar.{whole}
+use Rattle.ae_tree.specs.Limits.{Keeps}
 use Rattle.ae_reading.specs.Reads.{Always}
 use Rattle.ae_reading.proofs.ReadsLemmas.{exits}
 use Rattle.ae_statements.specs.Productions.{ended, sized}

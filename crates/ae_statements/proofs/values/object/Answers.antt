@@ -1,6 +1,6 @@
-use Rattle.ae_code.specs.Shown as shown
-use Rattle.ae_code.specs.Grammar.{name}
-use Rattle.ae_code.specs.Limits.{KeepsRight}
+use Rattle.ae_tree.specs.Shown as shown
+use Rattle.ae_tree.specs.Grammar.{name}
+use Rattle.ae_tree.specs.Limits.{KeepsRight}
 use Rattle.ae_reading.specs.Reads.{Always}
 use Rattle.ae_reading.proofs.ReadsLemmas.{Both, exits, first, second, both, free, took_as, failed_as}
 use Rattle.ae_statements.specs.Productions.{called, made}

@@ -1,7 +1,7 @@
 use Rattle.std.proofs.Common.{sym, subst}
 use Rattle.ae_reading.specs.declared.fail.Fail.{Fail}
-use Rattle.ae_code.specs.Grammar.{right_side}
-use Rattle.ae_code.specs.Limits.{KeepsRight}
+use Rattle.ae_tree.specs.Grammar.{right_side}
+use Rattle.ae_tree.specs.Limits.{KeepsRight}
 use Rattle.ae_reading.specs.Reads.{Always, Failed}
 use Rattle.ae_statements.specs.Productions.{ended}
 use Rattle.ae_statements.proofs.ValueLemmas.{value_took, value_failed}

@@ -1,6 +1,6 @@
 use Rattle.std.proofs.Common.{◌↔◌, drop}
-use Rattle.ae_code.specs.Shown.{lines_from}
-use Rattle.ae_code.specs.Built.{AreBuilt}
+use Rattle.ae_tree.specs.Shown.{lines_from}
+use Rattle.ae_tree.specs.Built.{AreBuilt}
 use Rattle.aem.proofs.built.are_built.Given as goal
 
 -- all are built exactly where the rest is

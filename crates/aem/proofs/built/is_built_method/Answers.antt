@@ -1,5 +1,5 @@
 use Rattle.std.proofs.Common.{ap, sym, ◌∙◌}
-use Rattle.ae_code.specs.Shown.{definition, lines_from, lines-out}
+use Rattle.ae_tree.specs.Shown.{definition, lines_from, lines-out}
 use Rattle.aem.proofs.Forms.{method_of}
 use Rattle.aem.proofs.built.is_built_method.Goals as goal
 

@@ -1,5 +1,5 @@
 use Rattle.std.proofs.Common.{arith}
-use Rattle.ae_code.specs.Shown.{code}
+use Rattle.ae_tree.specs.Shown.{code}
 use Rattle.aem.proofs.Bodies.{has_statement}
 use Rattle.aem.proofs.calls_tests.uses_of.Goals as goal
 

@@ -1,6 +1,6 @@
 use Rattle.std.proofs.Common.{subst}
-use Rattle.ae_code.specs.Shown.{code, lines_from}
-use Rattle.ae_code.specs.Judgement.{nobody, judge}
+use Rattle.ae_tree.specs.Shown.{code, lines_from}
+use Rattle.ae_tree.specs.Judgement.{nobody, judge}
 use Rattle.aem.specs.Names.{FoundIn}
 use Rattle.aem.proofs.Whole.{accepts, broken, answered}
 use Rattle.aem.proofs.top.answer_to.Goals as goal

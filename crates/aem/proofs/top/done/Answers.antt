@@ -1,5 +1,5 @@
-use Rattle.ae_code.specs.Shown.{code}
-use Rattle.ae_code.specs.Plain.{Code}
+use Rattle.ae_tree.specs.Shown.{code}
+use Rattle.ae_tree.specs.Plain.{Code}
 use Rattle.ae_rules.specs.Cases.{DeclaresOne}
 use Rattle.aem.proofs.Whole.{declares, accepted, meant}
 use Rattle.aem.proofs.Numbers.{names_below}

@@ -1,6 +1,6 @@
 use Rattle.std.proofs.Common.{List, subst}
 use Rattle.ae_text.specs.declared.token.Token.{Token}
-use Rattle.ae_code.specs.Refused.{IsDenied}
+use Rattle.ae_tree.specs.Refused.{IsDenied}
 use Rattle.aem.proofs.Reading.{denied, unparsed}
 use Rattle.aem.proofs.top.read_program.Goals as goal
 

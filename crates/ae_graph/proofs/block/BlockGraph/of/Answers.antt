@@ -1,4 +1,4 @@
-use Rattle.ae_code.specs.Shown.{code, braced}
+use Rattle.ae_tree.specs.Shown.{code, braced}
 use Rattle.ae_graph.proofs.Few.{block_is_few}
 use Rattle.ae_graph.proofs.block.BlockGraph.of.Goals as goal
 

@@ -1,5 +1,5 @@
 use Rattle.std.proofs.Common.{◌≡◌, take}
-use Rattle.ae_code.specs.declared.uses.Resource.{Resource}
+use Rattle.ae_rules.specs.declared.uses.Resource.{Resource}
 use Rattle.ae_graph.specs.Opened.{kept_of, after_uses}
 use Rattle.ae_graph.proofs.waits.OpenUses.put_all.Given as goal
 

@@ -1,5 +1,5 @@
 use Rattle.std.proofs.Common.{◌≡◌, true, false, ◌∙◌, refl}
-use Rattle.ae_code.specs.Shown.{lines_from}
+use Rattle.ae_tree.specs.Shown.{lines_from}
 use Rattle.ae_meaning.specs.Running.{held}
 use Rattle.ae_run.specs.declared.course.Fate.TheVariants as fate
 use Rattle.ae_run.specs.Course.{IsBehind}

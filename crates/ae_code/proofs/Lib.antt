@@ -1,8 +1,0 @@
-mod Texts
-mod Steps
-mod BelowLemmas
-mod NamedLemmas
-mod BlockLemmas
-mod ProgramLemmas
-mod DeclLemmas
-mod ThisLemmas

@@ -1,5 +1,0 @@
-use Rattle.ae_code.proofs.DeclLemmas.{derived_are_well_shaped}
-use Rattle.ae_code.proofs.laws.derived_programs_are_well_shaped.Goals as goal
-
-pub returns : goal.returns
-returns c = derived_are_well_shaped

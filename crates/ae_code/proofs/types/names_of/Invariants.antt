@@ -1,6 +1,0 @@
-use Rattle.std.proofs.Common.{◌≡◌, take}
-use Rattle.ae_code.specs.Form.{bare_names}
-use Rattle.ae_code.proofs.types.names_of.Given as goal
-
-abbrev pub invariant-loop-item : goal.invariant-loop-item
-invariant-loop-item l = l.names ≡ bare_names (take l.item-index l.list)

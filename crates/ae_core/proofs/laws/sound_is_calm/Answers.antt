@@ -1,5 +1,0 @@
-use Rattle.ae_core.proofs.LawLemmas.{sound_is_calm}
-use Rattle.ae_core.proofs.laws.sound_is_calm.Goals as goal
-
-pub returns : goal.returns
-returns g c = sound_is_calm g.T.Tasks.conflict g.T.Tasks.ordered

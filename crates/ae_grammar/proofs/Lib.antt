@@ -1,2 +1,0 @@
-pub mod UniqueMethods
-pub mod UniquePrograms

@@ -1,0 +1,6 @@
+mod BelowLemmas
+mod NamedLemmas
+mod BlockLemmas
+mod ProgramLemmas
+mod DeclLemmas
+mod ThisLemmas

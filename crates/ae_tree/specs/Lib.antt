@@ -1,0 +1,11 @@
+pub mod Plain
+pub mod Shown
+pub mod Names
+pub mod Grammar
+pub mod Limits
+pub mod Refused
+pub mod Built
+pub mod Judgement
+pub mod Form
+pub mod WellShaped
+pub mod FreeThis

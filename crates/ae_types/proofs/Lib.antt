@@ -1,3 +1,0 @@
-pub mod PartLemmas
-pub mod TypeLemmas
-pub mod UniqueTypes
