@@ -13,7 +13,7 @@ use Rattle.ae_tree.specs.Plain.{Code, Expression, Value}
 use Rattle.ae_rules.specs.declared.held.Held.{Held}
 use Rattle.ae_rules.specs.Verdict.{Verdict, Holds, Broken, ◌>>=◌, ◌>>◌, require, found}
 use Rattle.ae_rules.specs.Groups.{group_access}
-use Rattle.ae_rules.specs.Context.{Local, Context, held_of, is_visible, with_held, with_local, moved}
+use Rattle.ae_rules.specs.Context.{Local, Context, held_of, is_visible, with_held, with_local, with_name_moved}
 use Rattle.ae_rules.specs.Expressions.{judge_value, is_value}
 use Rattle.ae_rules.specs.Into.{into}
 use Rattle.ae_rules.specs.Statements.{judge_right, judge_let, judge_assign, prints}
@@ -55,9 +55,9 @@ found_it (Some y) rule at x e = cc e
 -- what is given to an integer moves no name
 right_is : (p : Code) (c d : Context) (e : Expression) → judge_right p c form_of.Int (Value e) ≡ Holds d → d ≡ c
 right_is p c d e h =
-    let n = holds_then (into p c form_of.Int e) (λ name. Holds (moved name c)) d h in
+    let n = holds_then (into p c form_of.Int e) (λ name. Holds (with_name_moved name c)) d h in
     let v = holds_then (is_value p c form_of.Int e) (λ _. Holds None) n.0 n.1 in
-    cc (n.2, ap (λ (name : Option ℕ). moved name c) (held_same None n.0 v.2))
+    cc (n.2, ap (λ (name : Option ℕ). with_name_moved name c) (held_same None n.0 v.2))
   where
     held_same : {A : Type 0} (x y : A) → Holds x ≡ Holds y → x ≡ y
     held_same x y e = cc e

@@ -16,15 +16,15 @@ use Rattle.ae_rules.specs.Cases as judged
 use Rattle.ae_meaning.specs.Meaning as today
 use Rattle.ae_semantics.specs.Calls.{takers}
 use Rattle.ae_semantics.specs.Observations.{Seen}
-use Rattle.ae_semantics.specs.Runs.{Run, Went, Ends, Stops, whole, Below}
+use Rattle.ae_semantics.specs.Runs.{Run, Went, Ends, Stops, whole_block, Below}
 use Rattle.ae_semantics.specs.Meaning.{block, below, many}
-use Rattle.ae_semantics.specs.Means.{main_here, main_state, start, no_notes, meant, source_machine, mean, seq}
+use Rattle.ae_semantics.specs.Means.{main_here, main_state, run_start, no_notes, meant, source_machine, mean, seq}
 use Rattle.ae_cases.specs.Laws.{IsAsToday, TodayIsACase}
 use Rattle.ae_cases.proofs.Lines.{AlikeRuns, alike_left, lines_alike}
 use Rattle.ae_cases.proofs.Judged.{Integers, holds_then}
 
 -- runs that are alike come to the same
-alike_meant : (r : today.Run) (q : Run (List Seen)) → AlikeRuns r q → IsAsToday (today.ended r) (meant q)
+alike_meant : (r : today.Run) (q : Run (List Seen)) → AlikeRuns r q → IsAsToday (today.meaning_of_run r) (meant q)
 alike_meant (today.Went t) (Went s n) a = record { ending = refl; out = a.log; unsplit = a.unsplit }
 alike_meant (today.Went t) (Ends e n) a = absurd a
 alike_meant (today.Went t) (Stops n) a = absurd a
@@ -41,7 +41,7 @@ main_is : (m : Definition) → m.class ≡ None → m.name.name ≡ main → tod
 main_is m c n = rw (c, n) refl
 
 start_is : (p : Code) (m : Definition) (ints : List ℤ) → p.decls ≡ decl.Method 0 ∷ [] → p.methods ≡ m ∷ [] → m.name.name ≡ main
-    → start p ints ≡ Some (record { here = main_here p 0 m; method = m; state = main_state p m ints })
+    → run_start p ints ≡ Some (record { here = main_here p 0 m; method = m; state = main_state p m ints })
 start_is p m ints d e n = rw (d, e, n) refl
 
 no_takers : (p : Code) (m : Definition) → m.me ≡ None → m.params ≡ [] → takers p m ≡ []
@@ -66,16 +66,16 @@ body_judged p m e a =
 
 body_alike : (p : Code) (m : Definition) (ints : List ℤ) (fuel : ℕ) → takers p m ≡ [] → AreBuilt m.body → Integers (rules.start p m)
     → (c : Context) → judge_lines p m m.body (rules.start p m) ≡ Holds c
-    → AlikeRuns (today.many m.body today.begin) (block (source_machine p) (below (source_machine p) fuel) (main_here p 0 m) m.body (main_state p m ints) (no_notes []))
+    → AlikeRuns (today.today_many m.body today.begin) (block (source_machine p) (below (source_machine p) fuel) (main_here p 0 m) m.body (main_state p m ints) (no_notes []))
 body_alike p m ints fuel e b i c h =
     let under : Option (Below (List Seen)) = below (source_machine p) fuel in
-    alike_left (rules.start p m) (today.many m.body today.begin) (many (source_machine p) under (main_here p 0 m) (whole m.body (main_here p 0 m)) 0 m.body [] (main_state p m ints) (no_notes []))
-    (lines_alike p under (main_here p 0 m) (whole m.body (main_here p 0 m)) 0 m.body b i c h
+    alike_left (rules.start p m) (today.today_many m.body today.begin) (many (source_machine p) under (main_here p 0 m) (whole_block m.body (main_here p 0 m)) 0 m.body [] (main_state p m ints) (no_notes []))
+    (lines_alike p under (main_here p 0 m) (whole_block m.body (main_here p 0 m)) 0 m.body b i c h
     today.begin (main_state p m ints) (no_notes []) (λ x. rw e refl) (record { log = refl; unsplit = refl }))
 
 -- where the rules of the whole language accept what today's accept
-pub today_is_case : judged.TodayIsACase → TodayIsACase
-unfolding today.seq mean seq
+pub today_is_case : judged.TodaysJudgementIsACase → TodayIsACase
+unfolding today.today_seq mean seq
 today_is_case rules_alike p a d ints fuel =
     let m : Definition = a.0.method in
     let j : (c : Context) × (judge_lines p m m.body (rules.start p m) ≡ Holds c) = body_judged p m a.0.methods ((rules_alike p a.0 d).0 a) in

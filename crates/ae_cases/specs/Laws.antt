@@ -8,7 +8,7 @@ use Rattle.ae_meaning.specs.declared.report.Ending.TheVariants as ends_today
 use Rattle.ae_meaning.specs.Meaning as today
 use Rattle.ae_semantics.specs.Observations as whole_ending
 use Rattle.ae_semantics.specs.Means as whole
-use Rattle.ae_semantics.specs.Means.{bytes_of}
+use Rattle.ae_semantics.specs.Means.{pieces_bytes}
 
 -- an ending of today, as an ending of the whole language
 abbrev pub as_whole : today_ending.Ending → whole_ending.Ending
@@ -19,10 +19,10 @@ as_whole (ends_today.Fuel at) = whole_ending.Fuel at
 -- the ending and the bytes are those of today, and `io` is not split at the end, so that there are no other bytes
 pub record IsAsToday (m : today.Meaning) (w : whole.Meant) : Type 0 where
   pub ending : w.ending ≡ option_map as_whole m.ending
-  pub out : bytes_of w.log ≡ m.out
+  pub out : pieces_bytes w.log ≡ m.out
   pub unsplit : w.cell ≡ None
 
 -- an accepted program whose one declaration is its method comes to the same by both meanings
 abbrev pub TodayIsACase : Type 0
 TodayIsACase = (p : Code) → Accepted p → p.decls ≡ decl.Method 0 ∷ [] → (ints : List ℤ) (fuel : ℕ)
-    → IsAsToday (today.seq p ints fuel) (whole.seq p ints fuel)
+    → IsAsToday (today.today_seq p ints fuel) (whole.seq p ints fuel)

@@ -7,24 +7,24 @@ use Rattle.ae_tree.specs.declared.limits.Limit.{Limit}
 use Rattle.ae_tree.specs.declared.limits.Limit.TheVariants.{Depth}
 use Rattle.ae_tree.specs.declared.tree.Op.{Op}
 use Rattle.ae_tree.specs.Plain.{Expression, Number, Truth, Nothing, Read, Item, Length, Grouped, Negated, Minus, Binary}
-use Rattle.ae_tree.specs.Grammar.{Tokens, ◌⨾◌, each, level, left_level, sign_of, a_sign}
+use Rattle.ae_tree.specs.Grammar.{Tokens, ◌⨾◌, one_by_one, level, left_level, sign_of, a_sign}
 use Rattle.ae_tree.specs.Limits.{marks, rank}
 use Rattle.ae_reading.specs.declared.fail.Why.{Why}
 use Rattle.ae_reading.specs.declared.fail.Why.TheVariants.{Over}
-use Rattle.ae_reading.specs.Reads.{head, Is, Always, Free, Took, Stopped, Larger, Mark}
+use Rattle.ae_reading.specs.Reads.{head, Is, Always, Free, Took, Stopped, Larger, TokenMark}
 use Rattle.ae_reading.proofs.ReadsLemmas.{Lang, Bound, Both, Limits, Pair, Has, Links, Along, NoneAt, took_as, stopped_as, took_then, stopped_second, stopped_first_with, took_mark, nowhere, at_once, took_kind, free}
 use Rattle.ae_reading.proofs.Begins.{Begins, opens_mark, opens_so}
 use Rattle.ae_reading.proofs.Parts.{optional, left_out, took_optional, stopped_optional}
 use Rattle.ae_reading.proofs.Runs.{each_turns, Run, each-append, each-one, run_start, run_more, run_stopped, run_full, run_end}
 use Rattle.ae_expressions.specs.Ends.{Ends}
-use Rattle.ae_expressions.specs.Productions.{NoOperator, IsOperator, at_level, AtMost}
+use Rattle.ae_expressions.specs.Productions.{NoOperator, IsOperator, at_level, AtMostMarks}
 use Rattle.ae_expressions.proofs.OperatorLemmas.{operator_ends, same_operator, same_level, over_two, first_sign, ends_later, ends_at, goes_on}
 use Rattle.ae_expressions.proofs.OptionLemmas.{full, none_before}
 
 abbrev pub zero_expression : Expression
 zero_expression = Number (pos 0) nowhere
 
-pub has_at_level : (l n : ℕ) → Has (at_level l) (AtMost n)
+pub has_at_level : (l n : ℕ) → Has (at_level l) (AtMostMarks n)
 has_at_level l n = record { tree = zero_expression; tokens = at_once (tok.Int (pos 0)); is = refl; known = (tt, tt); within = λ l e. omega arith }
 
 -- ---- chains
@@ -56,7 +56,7 @@ abbrev pub Under : ℕ → Limit → Expression → List (Op × Expression) → 
 Under n l a qs = l ≡ Depth → marks (adds a qs) ≤ n
 
 abbrev pub chained_of : (ℕ → Lang Expression) → ℕ → Lang (Expression × List (Op × Expression))
-chained_of D l = Both (D (l + 1)) (each (item_of D l))
+chained_of D l = Both (D (l + 1)) (one_by_one (item_of D l))
 
 abbrev pub chained : ℕ → Lang (Expression × List (Op × Expression))
 chained = chained_of at_level
@@ -73,7 +73,7 @@ weaker l (Negated e at) us d = d
 weaker l (Minus e at) us d = d
 weaker l (Binary o a b) us d = (omega (arith, d.0), d.1)
 
-adds_from : (l : ℕ) → (l ≡ 2 → ⊥) → (a : Expression) (qs : List (Op × Expression)) (us vs : Tokens) → at_level l a us → each (item l) qs vs → at_level l (adds a qs) (us ++ vs)
+adds_from : (l : ℕ) → (l ≡ 2 → ⊥) → (a : Expression) (qs : List (Op × Expression)) (us vs : Tokens) → at_level l a us → one_by_one (item l) qs vs → at_level l (adds a qs) (us ++ vs)
 adds_from l apart a [] us vs d m = let P : Tokens → Type 0 = at_level l a in subst P (sym (append-nil us) ∙ ap (λ l. us ++ l) (sym m)) d
 adds_from l apart a (q ∷ qs) us vs d m =
     let P : Tokens → Type 0 = at_level l (adds (Binary q.0 a q.1) qs) in
@@ -127,7 +127,7 @@ is_chain l apart (Binary o a b) us d = elim (cases_lt l (level o)) [
       subst P (sym d.1.parts) (longer_chain at_level l o a b d.1.front d.1.back (is_chain l apart a d.1.front (subst A left d.1.first)) (e, subst B e d.1.second))
 ]
 
-chain_along : (l n : ℕ) → (l ≡ 2 → ⊥) → (ts : Tokens) → Along (at_level l) (chained l) (AtMost n) (Limits (AtMost n) (Under n)) ts (λ q. adds q.0 q.1)
+chain_along : (l n : ℕ) → (l ≡ 2 → ⊥) → (ts : Tokens) → Along (at_level l) (chained l) (AtMostMarks n) (Limits (AtMostMarks n) (Under n)) ts (λ q. adds q.0 q.1)
 chain_along l n apart ts = record {
   intro = chain_is l apart;
   cases = λ y us r d h. is_chain l apart y us d;
@@ -143,7 +143,7 @@ begins_item D l q us r d = opens_so us r (opens_mark us r d.1)
 pub item_goes : (D : ℕ → Lang Expression) (l : ℕ) → Begins (item_of D l) (Ends (l + 1))
 item_goes D l q us r d = operator_ends (l + 1) q.0 (omega (arith, d.0)) (head (us ++ r)) (begins_item D l q us r d)
 
-pub chain_turns : (l : ℕ) → Links (each (item l)) (Ends l) (Ends (l + 1))
+pub chain_turns : (l : ℕ) → Links (one_by_one (item l)) (Ends l) (Ends (l + 1))
 chain_turns l = each_turns (item l) (Ends l) (Ends (l + 1)) (item_goes at_level l) (ends_later l)
 
 pub no_item : (l : ℕ) (rest : Tokens) → NoOperator l rest → NoneAt (item l) rest
@@ -157,10 +157,10 @@ no_item l (t ∷ ts) none y us r d h =
 -- ---- an operator and its operand
 
 abbrev signed : ℕ → Op → Lang (Unit {0} × Expression)
-signed l o = Both (Mark (tok.Sign (sign_of o))) (at_level (l + 1))
+signed l o = Both (TokenMark (tok.Sign (sign_of o))) (at_level (l + 1))
 
 abbrev OperandAtMost : ℕ → Limit → Op × Expression → Type 0
-OperandAtMost m k q = AtMost m k q.1
+OperandAtMost m k q = AtMostMarks m k q.1
 
 item_cases : (l : ℕ) (rest more : Tokens) (o : Op) → IsOperator l rest o more → (y : Op × Expression) (us r : Tokens) → item l y us → head (us ++ r) ≡ head rest → (q : Unit {0} × Expression) × (y ≡ (o, q.1)) × signed l o q us
 item_cases l rest more o i y us r d h =
@@ -172,7 +172,7 @@ item_cases l rest more o i y us r d h =
     let P : Op → Type 0 = λ p. (a_sign (sign_of p) ⨾ at_level (l + 1) y.1) us in
     ((tt, y.1), ap (λ p. (p, y.1)) e, subst P e d.1)
 
-item_along : (l m : ℕ) (rest more : Tokens) (o : Op) → IsOperator l rest o more → Along (item l) (signed l o) (OperandAtMost m) (Pair Free (AtMost m)) rest (λ q. (o, q.1))
+item_along : (l m : ℕ) (rest more : Tokens) (o : Op) → IsOperator l rest o more → Along (item l) (signed l o) (OperandAtMost m) (Pair Free (AtMostMarks m)) rest (λ q. (o, q.1))
 item_along l m rest more o i = record {
   intro = λ q us d. (i.at_level, d);
   cases = item_cases l rest more o i;
@@ -180,16 +180,16 @@ item_along l m rest more o i = record {
   from = λ q us d k v. (tt, v);
 }
 
-operator_took : (l : ℕ) (rest more : Tokens) (o : Op) → IsOperator l rest o more → Took (Mark (tok.Sign (sign_of o))) Free Always rest tt more
+operator_took : (l : ℕ) (rest more : Tokens) (o : Op) → IsOperator l rest o more → Took (TokenMark (tok.Sign (sign_of o))) Free Always rest tt more
 operator_took l rest more o i = took_mark (took_kind (tok.Sign (sign_of o)) rest more i.token (λ q. cc) i.whole i.kind)
 
-item_took : (l m : ℕ) (rest more after : Tokens) (o : Op) (b : Expression) → IsOperator l rest o more → Took (at_level (l + 1)) (AtMost m) (Ends (l + 1)) more b after → Took (item l) (OperandAtMost m) (Ends (l + 1)) rest (o, b) after
+item_took : (l m : ℕ) (rest more after : Tokens) (o : Op) (b : Expression) → IsOperator l rest o more → Took (at_level (l + 1)) (AtMostMarks m) (Ends (l + 1)) more b after → Took (item l) (OperandAtMost m) (Ends (l + 1)) rest (o, b) after
 item_took l m rest more after o b i t =
-    took_as (item l) (signed l o) (λ q. (o, q.1)) (item_along l m rest more o i) (took_then (λ k x. AtMost m k) (free (at_level (l + 1)) (Ends (l + 1))) (operator_took l rest more o i) t)
+    took_as (item l) (signed l o) (λ q. (o, q.1)) (item_along l m rest more o i) (took_then (λ k x. AtMostMarks m k) (free (at_level (l + 1)) (Ends (l + 1))) (operator_took l rest more o i) t)
 
-item_stopped : (l m : ℕ) (rest more : Tokens) (o : Op) (why : Why) (left : ℕ) → IsOperator l rest o more → Stopped (at_level (l + 1)) (AtMost m) (Ends (l + 1)) more why left → Stopped (item l) (OperandAtMost m) (Ends (l + 1)) rest why left
+item_stopped : (l m : ℕ) (rest more : Tokens) (o : Op) (why : Why) (left : ℕ) → IsOperator l rest o more → Stopped (at_level (l + 1)) (AtMostMarks m) (Ends (l + 1)) more why left → Stopped (item l) (OperandAtMost m) (Ends (l + 1)) rest why left
 item_stopped l m rest more o why left i t =
-    stopped_as (item l) (signed l o) (λ q. (o, q.1)) (item_along l m rest more o i) (stopped_second (λ k x. AtMost m k) (free (at_level (l + 1)) (Ends (l + 1))) (operator_took l rest more o i) t)
+    stopped_as (item l) (signed l o) (λ q. (o, q.1)) (item_along l m rest more o i) (stopped_second (λ k x. AtMostMarks m k) (free (at_level (l + 1)) (Ends (l + 1))) (operator_took l rest more o i) t)
 
 -- ---- what the loop has read
 
@@ -197,13 +197,13 @@ pub record Chain (l n : ℕ) (ts : Tokens) (left : Expression) (used : ℕ) (res
   pub start : Expression
   pub more : List (Op × Expression)
   pub middle : Tokens
-  pub first : Took (at_level (l + 1)) (AtMost n) (Ends (l + 1)) ts start middle
+  pub first : Took (at_level (l + 1)) (AtMostMarks n) (Ends (l + 1)) ts start middle
   pub others : Run (item l) (λ k. Under n k start) (Ends l) middle more rest
   pub is : left ≡ adds start more
   pub count : used ≡ marks left
   pub few : used ≤ n
 
-pub chain_start : (l n : ℕ) (ts rest : Tokens) (x : Expression) (used : ℕ) → Took (at_level (l + 1)) (AtMost n) (Ends (l + 1)) ts x rest → used ≡ marks x → Chain l n ts x used rest
+pub chain_start : (l n : ℕ) (ts rest : Tokens) (x : Expression) (used : ℕ) → Took (at_level (l + 1)) (AtMostMarks n) (Ends (l + 1)) ts x rest → used ≡ marks x → Chain l n ts x used rest
 chain_start l n ts rest x used t e = record {
   start = x;
   more = [];
@@ -229,7 +229,7 @@ operand_back : (n used m : ℕ) (start : Expression) (xs : List (Op × Expressio
 operand_back n used m start xs count all z zs under = omega (arith, operand_over used start xs z zs count, all, under)
 
 pub chain_more : (l n m : ℕ) (ts rest more after : Tokens) (left right next : Expression) (o : Op) (used used' : ℕ) → Chain l n ts left used rest → IsOperator l rest o more →
-    m + used + 1 ≡ n → Took (at_level (l + 1)) (AtMost m) (Ends (l + 1)) more right after → next ≡ Binary o left right → used' ≡ used + 1 + marks right → Chain l n ts next used' after
+    m + used + 1 ≡ n → Took (at_level (l + 1)) (AtMostMarks m) (Ends (l + 1)) more right after → next ≡ Binary o left right → used' ≡ used + 1 + marks right → Chain l n ts next used' after
 chain_more l n m ts rest more after left right next o used used' c i all t e u = record {
   start = c.start;
   more = c.more ++ (o, right) ∷ [];
@@ -244,7 +244,7 @@ chain_more l n m ts rest more after left right next o used used' c i all t e u =
 }
 
 pub chain_stopped : (l n m : ℕ) → (l ≡ 2 → ⊥) → (ts rest more : Tokens) (tree : Expression) (o : Op) (used : ℕ) (why : Why) (left : ℕ) → Chain l n ts tree used rest → IsOperator l rest o more →
-    m + used + 1 ≡ n → Stopped (at_level (l + 1)) (AtMost m) (Ends (l + 1)) more why left → Stopped (at_level l) (AtMost n) (Ends l) ts why left
+    m + used + 1 ≡ n → Stopped (at_level (l + 1)) (AtMostMarks m) (Ends (l + 1)) more why left → Stopped (at_level l) (AtMostMarks n) (Ends l) ts why left
 chain_stopped l n m apart ts rest more tree o used why left c i all t =
     let count : used ≡ marks (adds c.start c.more) = c.count ∙ ap marks c.is in
     stopped_as (at_level l) (chained l) (λ q. adds q.0 q.1) (chain_along l n apart ts)
@@ -253,7 +253,7 @@ chain_stopped l n m apart ts rest more tree o used why left c i all t =
     (λ k z w q. operand_fits n used m c.start c.more z count (omega (arith, all)) (w q))
     (λ k z zs w q. operand_back n used m c.start c.more count all z zs (w q)) c.others (item_stopped l m rest more o why left i t)))
 
-pub chain_first_stopped : (l n : ℕ) → (l ≡ 2 → ⊥) → (ts : Tokens) (why : Why) (left : ℕ) → Stopped (at_level (l + 1)) (AtMost n) (Ends (l + 1)) ts why left → Stopped (at_level l) (AtMost n) (Ends l) ts why left
+pub chain_first_stopped : (l n : ℕ) → (l ≡ 2 → ⊥) → (ts : Tokens) (why : Why) (left : ℕ) → Stopped (at_level (l + 1)) (AtMostMarks n) (Ends (l + 1)) ts why left → Stopped (at_level l) (AtMostMarks n) (Ends l) ts why left
 chain_first_stopped l n apart ts why left t =
     stopped_as (at_level l) (chained l) (λ q. adds q.0 q.1) (chain_along l n apart ts)
     (stopped_first_with (Under n) (chain_turns l) [] [] refl tt (λ k x w. w) t)
@@ -268,7 +268,7 @@ item_goes_on l W others rest more o i =
     record { next = i.token; later = more; rest_is = i.whole; tree = (o, zero_expression); after = at_once (tok.Int (pos 0)); known = (tt, tt); goes_on = subst P (sym token_is) one_more; passes = tt; others = λ m k. others m (o, zero_expression) k }
 
 -- one operator too many
-pub chain_over : (l n : ℕ) → (l ≡ 2 → ⊥) → (ts rest more : Tokens) (tree : Expression) (o : Op) (used : ℕ) → Chain l n ts tree used rest → IsOperator l rest o more → n ≤ used → Stopped (at_level l) (AtMost n) (Ends l) ts (Over Depth) (length rest)
+pub chain_over : (l n : ℕ) → (l ≡ 2 → ⊥) → (ts rest more : Tokens) (tree : Expression) (o : Op) (used : ℕ) → Chain l n ts tree used rest → IsOperator l rest o more → n ≤ used → Stopped (at_level l) (AtMostMarks n) (Ends l) ts (Over Depth) (length rest)
 chain_over l n apart ts rest more tree o used c i full =
     let count : used ≡ marks (adds c.start c.more) = c.count ∙ ap marks c.is in
     stopped_as (at_level l) (chained l) (λ q. adds q.0 q.1) (chain_along l n apart ts)
@@ -277,9 +277,9 @@ chain_over l n apart ts rest more tree o used c i full =
     (λ z zs us r d h under. omega (arith, operand_over used c.start c.more z zs count, full, under refl))
     (item_goes_on l (λ k z. Under n k c.start (c.more ++ z ∷ [])) (λ m x k e. none_before m k e) rest more o i) c.others))
 
-pub chain_ends : (l n : ℕ) → (l ≡ 2 → ⊥) → (ts rest : Tokens) (left : Expression) (used : ℕ) → Chain l n ts left used rest → NoOperator l rest → Took (at_level l) (AtMost n) (Ends l) ts left rest
+pub chain_ends : (l n : ℕ) → (l ≡ 2 → ⊥) → (ts rest : Tokens) (left : Expression) (used : ℕ) → Chain l n ts left used rest → NoOperator l rest → Took (at_level l) (AtMostMarks n) (Ends l) ts left rest
 chain_ends l n apart ts rest left used c none =
-    let P : Expression → Type 0 = λ x. Took (at_level l) (AtMost n) (Ends l) ts x rest in
+    let P : Expression → Type 0 = λ x. Took (at_level l) (AtMostMarks n) (Ends l) ts x rest in
     subst P (sym c.is) (took_as (at_level l) (chained l) (λ q. adds q.0 q.1) (chain_along l n apart ts)
     (took_then (Under n) (chain_turns l) c.first (run_end (no_item l rest none) c.others)))
 
@@ -290,7 +290,7 @@ joined a None = a
 joined a (Some q) = Binary q.0 a q.1
 
 abbrev JoinedUnder : ℕ → Limit → Expression → Option (Op × Expression) → Type 0
-JoinedUnder n k a q = AtMost n k (joined a q)
+JoinedUnder n k a q = AtMostMarks n k (joined a q)
 
 abbrev compared : Lang (Expression × Option (Op × Expression))
 compared = Both (at_level 3) (optional (item 2))
@@ -332,7 +332,7 @@ joined_more : (a : Expression) (q : Option (Op × Expression)) → marks a ≤ m
 joined_more a None = omega arith
 joined_more a (Some q) = omega arith
 
-compared_along : (n : ℕ) (ts : Tokens) → Along (at_level 2) compared (AtMost n) (Limits (AtMost n) (JoinedUnder n)) ts (λ q. joined q.0 q.1)
+compared_along : (n : ℕ) (ts : Tokens) → Along (at_level 2) compared (AtMostMarks n) (Limits (AtMostMarks n) (JoinedUnder n)) ts (λ q. joined q.0 q.1)
 compared_along n ts = record {
   intro = λ q us d. compared_is q.0 q.1 us d;
   cases = λ y us r d h. is_compared y us d;
@@ -348,30 +348,30 @@ compared_links (Some z) us r d f =
     subst P (sym s.1) (ends_at 3 z.0 s.0 (omega (arith, d.0)))
 
 abbrev Sum : ℕ → Tokens → Expression → Tokens → Type 0
-Sum n ts x rest = Took (at_level 3) (AtMost n) (Ends 3) ts x rest
+Sum n ts x rest = Took (at_level 3) (AtMostMarks n) (Ends 3) ts x rest
 
-pub sum_stopped : (n : ℕ) (ts : Tokens) (why : Why) (left : ℕ) → Stopped (at_level 3) (AtMost n) (Ends 3) ts why left → Stopped (at_level 2) (AtMost n) (Ends 2) ts why left
+pub sum_stopped : (n : ℕ) (ts : Tokens) (why : Why) (left : ℕ) → Stopped (at_level 3) (AtMostMarks n) (Ends 3) ts why left → Stopped (at_level 2) (AtMostMarks n) (Ends 2) ts why left
 sum_stopped n ts why left t = stopped_as (at_level 2) compared (λ q. joined q.0 q.1) (compared_along n ts) (stopped_first_with (JoinedUnder n) compared_links None [] refl tt (λ k x w. w) t)
 
-pub sum_alone : (n : ℕ) (ts rest : Tokens) (x : Expression) → Sum n ts x rest → NoOperator 2 rest → Took (at_level 2) (AtMost n) (Ends 2) ts x rest
+pub sum_alone : (n : ℕ) (ts rest : Tokens) (x : Expression) → Sum n ts x rest → NoOperator 2 rest → Took (at_level 2) (AtMostMarks n) (Ends 2) ts x rest
 sum_alone n ts rest x t none = took_as (at_level 2) compared (λ q. joined q.0 q.1) (compared_along n ts) (took_then (JoinedUnder n) compared_links t (left_out (no_item 2 rest none) t.within))
 
-pub compared_over : (n : ℕ) (ts rest more : Tokens) (x : Expression) (o : Op) → Sum n ts x rest → IsOperator 2 rest o more → n ≤ marks x → Stopped (at_level 2) (AtMost n) (Ends 2) ts (Over Depth) (length rest)
+pub compared_over : (n : ℕ) (ts rest more : Tokens) (x : Expression) (o : Op) → Sum n ts x rest → IsOperator 2 rest o more → n ≤ marks x → Stopped (at_level 2) (AtMostMarks n) (Ends 2) ts (Over Depth) (length rest)
 compared_over n ts rest more x o t i many = stopped_as (at_level 2) compared (λ q. joined q.0 q.1) (compared_along n ts)
     (stopped_second (JoinedUnder n) compared_links t
     (full {V = λ k. JoinedUnder n k x} (Over Depth) (goes_on 2 rest more o i) (λ z us r d h under. omega (arith, many, under refl)) (item_goes_on 2 (λ k z. JoinedUnder n k x (Some z)) (λ m y k e. none_before m k e) rest more o i) t.within))
 
 pub compared_stopped : (n m : ℕ) (ts rest more : Tokens) (x : Expression) (o : Op) (why : Why) (left : ℕ) → Sum n ts x rest → IsOperator 2 rest o more → m + marks x + 1 ≡ n →
-    Stopped (at_level 3) (AtMost m) (Ends 3) more why left → Stopped (at_level 2) (AtMost n) (Ends 2) ts why left
+    Stopped (at_level 3) (AtMostMarks m) (Ends 3) more why left → Stopped (at_level 2) (AtMostMarks n) (Ends 2) ts why left
 compared_stopped n m ts rest more x o why left t i all u = stopped_as (at_level 2) compared (λ q. joined q.0 q.1) (compared_along n ts)
     (stopped_second (JoinedUnder n) compared_links t
     (stopped_optional {V = λ k. JoinedUnder n k x} {W = OperandAtMost m} (goes_on 2 rest more o i) (λ p f. ends_later 2 p f)
     (λ k z w q. omega (arith, w q, all)) (λ k z w q. omega (arith, w q, all)) (item_stopped 2 m rest more o why left i u)))
 
 pub compared_took : (n m : ℕ) (ts rest more after : Tokens) (x y next : Expression) (o : Op) → Sum n ts x rest → IsOperator 2 rest o more → m + marks x + 1 ≡ n →
-    Took (at_level 3) (AtMost m) (Ends 3) more y after → next ≡ Binary o x y → Took (at_level 2) (AtMost n) (Ends 2) ts next after
+    Took (at_level 3) (AtMostMarks m) (Ends 3) more y after → next ≡ Binary o x y → Took (at_level 2) (AtMostMarks n) (Ends 2) ts next after
 compared_took n m ts rest more after x y next o t i all u e =
-    let P : Expression → Type 0 = λ a. Took (at_level 2) (AtMost n) (Ends 2) ts a after in
+    let P : Expression → Type 0 = λ a. Took (at_level 2) (AtMostMarks n) (Ends 2) ts a after in
     subst P (sym e) (took_as (at_level 2) compared (λ q. joined q.0 q.1) (compared_along n ts)
     (took_then (JoinedUnder n) compared_links t
     (took_optional {V = λ k. JoinedUnder n k x} {W = OperandAtMost m} (goes_on 2 rest more o i) (λ p f. ends_later 2 p f)

@@ -14,10 +14,10 @@ use Rattle.ae_tree.specs.declared.tree.Path.{Path}
 use Rattle.ae_tree.specs.Plain.{Expression, Number, Truth, Nothing, Read, Item, Length, Grouped, Negated, Minus, Binary}
 use Rattle.ae_tree.specs.Grammar.{Tokens, ◌⨾◌, a_sign, path}
 use Rattle.ae_tree.specs.Limits.{marks, rank}
-use Rattle.ae_tree.specs.Refused.{AreKnown}
+use Rattle.ae_tree.specs.Refused.{AreSpellable}
 use Rattle.ae_reading.specs.declared.fail.Fail.{Fail}
 use Rattle.ae_reading.specs.declared.fail.Why.TheVariants.{Unexpected, Over}
-use Rattle.ae_reading.specs.Reads.{head, Always, Is, Isnt, Free, Took, Stopped, Failed, Larger, Token, Mark}
+use Rattle.ae_reading.specs.Reads.{head, Always, Is, Isnt, Free, Took, Stopped, Failed, Larger, Token, TokenMark}
 use Rattle.ae_reading.proofs.ReadsLemmas.{took_before, failed_before, over_here, Lang, Bound, Follow, Both, Limits, Pair, Has, Links, Along, has_both, has_mark, took_as, failed_as, failed_by, stopped_as, stopped_here, stopped_second, stopped_first_with, first, second, both, took_then, nowhere, at_once, free, took_mark, failed_mark, io_name}
 use Rattle.ae_reading.proofs.Begins.{Opens, is_isnt, of_kind, of_other, begins_mark, begins_both, opens_one, opens_at, opens_mark, opens_so}
 use Rattle.ae_reading.proofs.Parts.{optional, left_out, took_optional, stopped_optional}
@@ -27,7 +27,7 @@ use Rattle.ae_expressions.specs.declared.starts.Mark.{Mark as Marked}
 use Rattle.ae_expressions.specs.declared.starts.Mark.TheVariants as mark
 use Rattle.ae_expressions.specs.declared.starts.Start.{Start}
 use Rattle.ae_expressions.specs.declared.starts.Start.TheVariants as start
-use Rattle.ae_expressions.specs.Productions.{AtMost, AtMostInside, IsShortPath, IsClosing, Next, at_level, form, kind_of, literal, operand, enclosed, start_of}
+use Rattle.ae_expressions.specs.Productions.{AtMostMarks, AtMostInside, IsShortPath, IsClosing, Next, at_level, operand_start, mark_kind, literal, operand, enclosed, start_of}
 use Rattle.ae_expressions.proofs.OperatorLemmas.{low_level, ends_closing}
 use Rattle.ae_expressions.proofs.OptionLemmas.{begun, full, none_before}
 use Rattle.ae_expressions.proofs.ChainLemmas.{has_at_level, zero_expression}
@@ -52,7 +52,7 @@ root_starts (Some t) (inr i) = ap start_of i
 path_first : (p : Path) (us r : Tokens) → path p us → Starts start.Place (head (us ++ r))
 path_first p us r d = root_starts (head (us ++ r)) (begins_path p us r d)
 
-starts : (y : Expression) (us r : Tokens) → at_level 5 y us → Starts (form y) (head (us ++ r))
+starts : (y : Expression) (us r : Tokens) → at_level 5 y us → Starts (operand_start y) (head (us ++ r))
 starts (Number n at) us r d = starts_as start.Literal us r refl (opens_one us r d)
 starts (Truth true at) us r d = starts_as start.Literal us r refl (opens_one us r d)
 starts (Truth false at) us r d = starts_as start.Literal us r refl (opens_one us r d)
@@ -66,20 +66,20 @@ starts (Minus a at) us r d = starts_as (start.Counted mark.Minus) us r refl (ope
 starts (Binary o a b) us r d = absurd (omega (arith, low_level o, d.0))
 
 -- the form of an operand that begins with this token
-form_is : (s : Start) (y : Expression) (us r ts rest : Tokens) (t : Lexeme) → start_of t.kind ≡ s → ts ≡ t ∷ rest → at_level 5 y us → head (us ++ r) ≡ head ts → form y ≡ s
-form_is s y us r ts rest t is e d h = let P : Option Lexeme → Type 0 = Starts (form y) in sym (subst P (h ∙ ap head e) (starts y us r d)) ∙ is
+form_is : (s : Start) (y : Expression) (us r ts rest : Tokens) (t : Lexeme) → start_of t.kind ≡ s → ts ≡ t ∷ rest → at_level 5 y us → head (us ++ r) ≡ head ts → operand_start y ≡ s
+form_is s y us r ts rest t is e d h = let P : Option Lexeme → Type 0 = Starts (operand_start y) in sym (subst P (h ∙ ap head e) (starts y us r d)) ∙ is
 
 operand_along : (s : Start) (W : Bound Expression) (ts rest : Tokens) (t : Lexeme) → start_of t.kind ≡ s → ts ≡ t ∷ rest → Along (at_level 5) (operand s) W W ts (λ y. y)
 operand_along s W ts rest t is e = record { intro = λ y us d. d.1; cases = λ y us r d h. (y, refl, (form_is s y us r ts rest t is e d h, d)); to = λ y us d l v. v; from = λ y us d l v. v }
 
-pub operand_took : (s : Start) (n : ℕ) (ts rest after : Tokens) (t : Lexeme) (x : Expression) → start_of t.kind ≡ s → ts ≡ t ∷ rest → Took (operand s) (AtMost n) (Ends 5) ts x after → Took (at_level 5) (AtMost n) (Ends 5) ts x after
-operand_took s n ts rest after t x is e u = took_as (at_level 5) (operand s) (λ y. y) (operand_along s (AtMost n) ts rest t is e) u
+pub operand_took : (s : Start) (n : ℕ) (ts rest after : Tokens) (t : Lexeme) (x : Expression) → start_of t.kind ≡ s → ts ≡ t ∷ rest → Took (operand s) (AtMostMarks n) (Ends 5) ts x after → Took (at_level 5) (AtMostMarks n) (Ends 5) ts x after
+operand_took s n ts rest after t x is e u = took_as (at_level 5) (operand s) (λ y. y) (operand_along s (AtMostMarks n) ts rest t is e) u
 
-pub operand_failed : (s : Start) (n : ℕ) (ts rest : Tokens) (t : Lexeme) (e : Fail) → start_of t.kind ≡ s → ts ≡ t ∷ rest → Failed (operand s) (AtMost n) (Ends 5) ts e → Failed (at_level 5) (AtMost n) (Ends 5) ts e
-operand_failed s n ts rest t e is whole f = failed_as (at_level 5) (operand s) (λ y. y) (operand_along s (AtMost n) ts rest t is whole) f
+pub operand_failed : (s : Start) (n : ℕ) (ts rest : Tokens) (t : Lexeme) (e : Fail) → start_of t.kind ≡ s → ts ≡ t ∷ rest → Failed (operand s) (AtMostMarks n) (Ends 5) ts e → Failed (at_level 5) (AtMostMarks n) (Ends 5) ts e
+operand_failed s n ts rest t e is whole f = failed_as (at_level 5) (operand s) (λ y. y) (operand_along s (AtMostMarks n) ts rest t is whole) f
 
 -- no operand begins here
-not_other : (y : Expression) (us : Tokens) → at_level 5 y us → form y ≡ start.Other → ⊥
+not_other : (y : Expression) (us : Tokens) → at_level 5 y us → operand_start y ≡ start.Other → ⊥
 not_other (Number n at) us d e = let z : start.Literal ≡ start.Other = e in cc
 not_other (Truth b at) us d e = let z : start.Literal ≡ start.Other = e in cc
 not_other (Nothing at) us d e = let z : start.Literal ≡ start.Other = e in cc
@@ -91,11 +91,11 @@ not_other (Negated a at) us d e = let z : (start.Counted mark.Not) ≡ start.Oth
 not_other (Minus a at) us d e = let z : (start.Counted mark.Minus) ≡ start.Other = e in cc
 not_other (Binary o a b) us d e = omega (arith, low_level o, d.0)
 
-pub operand_other : (n : ℕ) (ts rest : Tokens) (t : Lexeme) → start_of t.kind ≡ start.Other → ts ≡ t ∷ rest → Stopped (at_level 5) (AtMost n) (Ends 5) ts Unexpected (length ts)
+pub operand_other : (n : ℕ) (ts rest : Tokens) (t : Lexeme) → start_of t.kind ≡ start.Other → ts ≡ t ∷ rest → Stopped (at_level 5) (AtMostMarks n) (Ends 5) ts Unexpected (length ts)
 operand_other n ts rest t is e = stopped_here (has_at_level 5 n) (λ y us r d h. not_other y us d (form_is start.Other y us r ts rest t is e d h))
 
-pub operand_end : (n : ℕ) (ts : Tokens) → ts ≡ [] → Stopped (at_level 5) (AtMost n) (Ends 5) ts Unexpected (length ts)
-operand_end n ts e = stopped_here (has_at_level 5 n) (λ y us r d h. let P : Option Lexeme → Type 0 = Starts (form y) in subst P (h ∙ ap head e) (starts y us r d))
+pub operand_end : (n : ℕ) (ts : Tokens) → ts ≡ [] → Stopped (at_level 5) (AtMostMarks n) (Ends 5) ts Unexpected (length ts)
+operand_end n ts e = stopped_here (has_at_level 5 n) (λ y us r d h. let P : Option Lexeme → Type 0 = Starts (operand_start y) in subst P (h ∙ ap head e) (starts y us r d))
 
 -- ---- literals
 
@@ -167,7 +167,7 @@ literal_other ts rest t e none = stopped_here has_literal (λ y us r d h.
     let P : Tokens → Type 0 = literal y in
     none y (subst P (o.1 ∙ ap (λ a. a ∷ []) same) d))
 
-no_marks : (y : Expression) → form y ≡ start.Literal → marks y ≡ 0
+no_marks : (y : Expression) → operand_start y ≡ start.Literal → marks y ≡ 0
 no_marks (Number n at) e = refl
 no_marks (Truth b at) e = refl
 no_marks (Nothing at) e = refl
@@ -179,13 +179,13 @@ no_marks (Negated a at) e = let z : (start.Counted mark.Not) ≡ start.Literal =
 no_marks (Minus a at) e = let z : (start.Counted mark.Minus) ≡ start.Literal = e in cc
 no_marks (Binary o a b) e = let z : start.Other ≡ start.Literal = e in cc
 
-literal_along : (n : ℕ) (ts : Tokens) → Along literal literal (AtMost n) Free ts (λ y. y)
+literal_along : (n : ℕ) (ts : Tokens) → Along literal literal (AtMostMarks n) Free ts (λ y. y)
 literal_along n ts = record { intro = λ y us d. d; cases = λ y us r d h. (y, refl, d); to = λ y us d l v e. omega (arith, no_marks y d.0); from = λ y us d l v. tt }
 
-pub literal_fits : (n : ℕ) (ts rest : Tokens) (x : Expression) → Took literal Free Always ts x rest → Took literal (AtMost n) (Ends 5) ts x rest
+pub literal_fits : (n : ℕ) (ts rest : Tokens) (x : Expression) → Took literal Free Always ts x rest → Took literal (AtMostMarks n) (Ends 5) ts x rest
 literal_fits n ts rest x t = took_before (λ o f. tt) (took_as literal literal (λ y. y) (literal_along n ts) t)
 
-pub literal_failed : (n : ℕ) (ts : Tokens) (e : Fail) → Failed literal Free Always ts e → Failed literal (AtMost n) (Ends 5) ts e
+pub literal_failed : (n : ℕ) (ts : Tokens) (e : Fail) → Failed literal Free Always ts e → Failed literal (AtMostMarks n) (Ends 5) ts e
 literal_failed n ts e f = failed_before (λ o f. tt) (failed_as literal literal (λ y. y) (literal_along n ts) f)
 
 pub literal_marks : (x : Expression) (ts rest : Tokens) → Took literal Free Always ts x rest → marks x ≡ 0
@@ -225,7 +225,7 @@ length_cases (Negated a at) us d = let z : (start.Counted mark.Not) ≡ (start.C
 length_cases (Minus a at) us d = let z : (start.Counted mark.Minus) ≡ (start.Counted mark.Len) = d.0 in cc
 length_cases (Binary o a b) us d = let z : start.Other ≡ (start.Counted mark.Len) = d.0 in cc
 
-length_along : (m : ℕ) (ts : Tokens) → Along len_operand array (AtMost (m + 1)) (Pair Free (IsShortPath m)) ts length_of
+length_along : (m : ℕ) (ts : Tokens) → Along len_operand array (AtMostMarks (m + 1)) (Pair Free (IsShortPath m)) ts length_of
 length_along m ts = record {
   intro = λ q us d. (refl, d);
   cases = λ y us r d h. length_cases y us d;
@@ -242,31 +242,31 @@ has_path m = record {
   within = λ l e. omega arith;
 }
 
-pub length_took : (n m : ℕ) (ts middle rest : Tokens) (at : Spot) (p : Path) → m + 1 ≡ n → Took (Token (tok.Word word.Len)) Free Always ts at middle → Took path (IsShortPath m) (Isnt (tok.Sign sign.Dot)) middle p rest → Took len_operand (AtMost n) (Ends 5) ts (Length p at) rest
+pub length_took : (n m : ℕ) (ts middle rest : Tokens) (at : Spot) (p : Path) → m + 1 ≡ n → Took (Token (tok.Word word.Len)) Free Always ts at middle → Took path (IsShortPath m) (Isnt (tok.Sign sign.Dot)) middle p rest → Took len_operand (AtMostMarks n) (Ends 5) ts (Length p at) rest
 length_took n m ts middle rest at p e t u =
-    let P : ℕ → Type 0 = λ k. Took len_operand (AtMost k) (Ends 5) ts (Length p at) rest in
+    let P : ℕ → Type 0 = λ k. Took len_operand (AtMostMarks k) (Ends 5) ts (Length p at) rest in
     subst P e (took_as len_operand array length_of (length_along m ts) (both (free path (Ends 5)) t (took_before no_dot u)))
 
-pub length_failed_word : (n m : ℕ) (ts : Tokens) (e : Fail) → m + 1 ≡ n → Failed (Token (tok.Word word.Len)) Free Always ts e → Failed len_operand (AtMost n) (Ends 5) ts e
+pub length_failed_word : (n m : ℕ) (ts : Tokens) (e : Fail) → m + 1 ≡ n → Failed (Token (tok.Word word.Len)) Free Always ts e → Failed len_operand (AtMostMarks n) (Ends 5) ts e
 length_failed_word n m ts e same f =
-    let P : ℕ → Type 0 = λ k. Failed len_operand (AtMost k) (Ends 5) ts e in
+    let P : ℕ → Type 0 = λ k. Failed len_operand (AtMostMarks k) (Ends 5) ts e in
     subst P same (failed_as len_operand array length_of (length_along m ts) (first (free path (Ends 5)) (has_path m) f))
 
-pub length_failed_path : (n m : ℕ) (ts middle : Tokens) (at : Spot) (e : Fail) → m + 1 ≡ n → Took (Token (tok.Word word.Len)) Free Always ts at middle → Failed path (IsShortPath m) (Isnt (tok.Sign sign.Dot)) middle e → Failed len_operand (AtMost n) (Ends 5) ts e
+pub length_failed_path : (n m : ℕ) (ts middle : Tokens) (at : Spot) (e : Fail) → m + 1 ≡ n → Took (Token (tok.Word word.Len)) Free Always ts at middle → Failed path (IsShortPath m) (Isnt (tok.Sign sign.Dot)) middle e → Failed len_operand (AtMostMarks n) (Ends 5) ts e
 length_failed_path n m ts middle at e same t f =
-    let P : ℕ → Type 0 = λ k. Failed len_operand (AtMost k) (Ends 5) ts e in
+    let P : ℕ → Type 0 = λ k. Failed len_operand (AtMostMarks k) (Ends 5) ts e in
     subst P same (failed_as len_operand array length_of (length_along m ts) (second (free path (Ends 5)) t (failed_before no_dot f)))
 
 -- ---- brackets
 
 abbrev closing_parts : Sign → Lang (Expression × Unit {0})
-closing_parts h = Both (at_level 0) (Mark (tok.Sign h))
+closing_parts h = Both (at_level 0) (TokenMark (tok.Sign h))
 
 abbrev bracketed : Sign → Sign → Lang (Spot × (Expression × Unit {0}))
 bracketed g h = Both (Token (tok.Sign g)) (closing_parts h)
 
 abbrev Bracketed : ℕ → Bound (Spot × (Expression × Unit {0}))
-Bracketed n = Pair Free (Pair (AtMost n) Free)
+Bracketed n = Pair Free (Pair (AtMostMarks n) Free)
 
 abbrev inside : Spot × (Expression × Unit {0}) → Spot × Expression
 inside q = (q.0, q.1.0)
@@ -279,13 +279,13 @@ enclosed_along g h n ts = record {
   from = λ q us d l v. (tt, (v, tt));
 }
 
-closing_links : (h : Sign) → IsClosing h → Links (Mark (tok.Sign h)) Always (Ends 0)
+closing_links : (h : Sign) → IsClosing h → Links (TokenMark (tok.Sign h)) Always (Ends 0)
 closing_links h c y us r d f = of_kind (tok.Sign h) (Ends 0) (λ at. ends_closing 0 h at c) (head (us ++ r)) (begins_mark (tok.Sign h) y us r d)
 
-has_closing : (h : Sign) (n : ℕ) → Has (closing_parts h) (Pair (AtMost n) Free)
+has_closing : (h : Sign) (n : ℕ) → Has (closing_parts h) (Pair (AtMostMarks n) Free)
 has_closing h n = has_both (has_at_level 0 n) (has_mark (tok.Sign h) tt)
 
-pub enclosed_took : (g h : Sign) (n : ℕ) (ts middle later rest : Tokens) (at end : Spot) (x : Expression) → IsClosing h → Took (Token (tok.Sign g)) Free Always ts at middle → Took (at_level 0) (AtMost n) (Ends 0) middle x later →
+pub enclosed_took : (g h : Sign) (n : ℕ) (ts middle later rest : Tokens) (at end : Spot) (x : Expression) → IsClosing h → Took (Token (tok.Sign g)) Free Always ts at middle → Took (at_level 0) (AtMostMarks n) (Ends 0) middle x later →
     Took (Token (tok.Sign h)) Free Always later end rest → Took (enclosed g h) (AtMostInside n) Always ts (at, x) rest
 enclosed_took g h n ts middle later rest at end x c t u v =
     took_as (enclosed g h) (bracketed g h) inside (enclosed_along g h n ts) (both (free (closing_parts h) Always) t (both (closing_links h c) u (took_mark v)))
@@ -293,12 +293,12 @@ enclosed_took g h n ts middle later rest at end x c t u v =
 pub enclosed_failed_open : (g h : Sign) (n : ℕ) (ts : Tokens) (e : Fail) → Failed (Token (tok.Sign g)) Free Always ts e → Failed (enclosed g h) (AtMostInside n) Always ts e
 enclosed_failed_open g h n ts e f = failed_as (enclosed g h) (bracketed g h) inside (enclosed_along g h n ts) (first (free (closing_parts h) Always) (has_closing h n) f)
 
-pub enclosed_failed_inner : (g h : Sign) (n : ℕ) (ts middle : Tokens) (at : Spot) (e : Fail) → IsClosing h → Took (Token (tok.Sign g)) Free Always ts at middle → Failed (at_level 0) (AtMost n) (Ends 0) middle e →
+pub enclosed_failed_inner : (g h : Sign) (n : ℕ) (ts middle : Tokens) (at : Spot) (e : Fail) → IsClosing h → Took (Token (tok.Sign g)) Free Always ts at middle → Failed (at_level 0) (AtMostMarks n) (Ends 0) middle e →
     Failed (enclosed g h) (AtMostInside n) Always ts e
 enclosed_failed_inner g h n ts middle at e c t f =
     failed_as (enclosed g h) (bracketed g h) inside (enclosed_along g h n ts) (second (free (closing_parts h) Always) t (first (closing_links h c) (has_mark (tok.Sign h) tt) f))
 
-pub enclosed_failed_close : (g h : Sign) (n : ℕ) (ts middle later : Tokens) (at : Spot) (x : Expression) (e : Fail) → IsClosing h → Took (Token (tok.Sign g)) Free Always ts at middle → Took (at_level 0) (AtMost n) (Ends 0) middle x later →
+pub enclosed_failed_close : (g h : Sign) (n : ℕ) (ts middle later : Tokens) (at : Spot) (x : Expression) (e : Fail) → IsClosing h → Took (Token (tok.Sign g)) Free Always ts at middle → Took (at_level 0) (AtMostMarks n) (Ends 0) middle x later →
     Failed (Token (tok.Sign h)) Free Always later e → Failed (enclosed g h) (AtMostInside n) Always ts e
 enclosed_failed_close g h n ts middle later at x e c t u f =
     failed_as (enclosed g h) (bracketed g h) inside (enclosed_along g h n ts) (second (free (closing_parts h) Always) t (second (closing_links h c) u (failed_mark f)))
@@ -326,7 +326,7 @@ grouped_cases (Negated a at) us d = let z : (start.Counted mark.Not) ≡ (start.
 grouped_cases (Minus a at) us d = let z : (start.Counted mark.Minus) ≡ (start.Counted mark.Paren) = d.0 in cc
 grouped_cases (Binary o a b) us d = let z : start.Other ≡ (start.Counted mark.Paren) = d.0 in cc
 
-grouped_along : (m : ℕ) (ts : Tokens) → Along paren_operand in_parentheses (AtMost (m + 1)) (AtMostInside m) ts grouped_of
+grouped_along : (m : ℕ) (ts : Tokens) → Along paren_operand in_parentheses (AtMostMarks (m + 1)) (AtMostInside m) ts grouped_of
 grouped_along m ts = record {
   intro = λ q us d. (refl, d);
   cases = λ y us r d h. grouped_cases y us d;
@@ -334,14 +334,14 @@ grouped_along m ts = record {
   from = λ q us d l v e. omega (arith, v e);
 }
 
-pub grouped_took : (n m : ℕ) (ts rest : Tokens) (q : Spot × Expression) → m + 1 ≡ n → Took in_parentheses (AtMostInside m) Always ts q rest → Took paren_operand (AtMost n) (Ends 5) ts (Grouped q.1 q.0) rest
+pub grouped_took : (n m : ℕ) (ts rest : Tokens) (q : Spot × Expression) → m + 1 ≡ n → Took in_parentheses (AtMostInside m) Always ts q rest → Took paren_operand (AtMostMarks n) (Ends 5) ts (Grouped q.1 q.0) rest
 grouped_took n m ts rest q e t =
-    let P : ℕ → Type 0 = λ k. Took paren_operand (AtMost k) (Ends 5) ts (Grouped q.1 q.0) rest in
+    let P : ℕ → Type 0 = λ k. Took paren_operand (AtMostMarks k) (Ends 5) ts (Grouped q.1 q.0) rest in
     subst P e (took_before (λ o f. tt) (took_as paren_operand in_parentheses grouped_of (grouped_along m ts) t))
 
-pub grouped_failed : (n m : ℕ) (ts : Tokens) (e : Fail) → m + 1 ≡ n → Failed in_parentheses (AtMostInside m) Always ts e → Failed paren_operand (AtMost n) (Ends 5) ts e
+pub grouped_failed : (n m : ℕ) (ts : Tokens) (e : Fail) → m + 1 ≡ n → Failed in_parentheses (AtMostInside m) Always ts e → Failed paren_operand (AtMostMarks n) (Ends 5) ts e
 grouped_failed n m ts e same f =
-    let P : ℕ → Type 0 = λ k. Failed paren_operand (AtMost k) (Ends 5) ts e in
+    let P : ℕ → Type 0 = λ k. Failed paren_operand (AtMostMarks k) (Ends 5) ts e in
     subst P same (failed_before (λ o f. tt) (failed_as paren_operand in_parentheses grouped_of (grouped_along m ts) f))
 
 -- ---- prefixes
@@ -386,7 +386,7 @@ minus_cases (Negated a at) us d = let z : (start.Counted mark.Not) ≡ (start.Co
 minus_cases (Minus a at) us d = ((at, a), refl, d.1)
 minus_cases (Binary o a b) us d = let z : start.Other ≡ (start.Counted mark.Minus) = d.0 in cc
 
-negated_along : (m : ℕ) (ts : Tokens) → Along not_operand (prefixed sign.Not) (AtMost (m + 1)) (Pair Free (AtMost m)) ts negated_of
+negated_along : (m : ℕ) (ts : Tokens) → Along not_operand (prefixed sign.Not) (AtMostMarks (m + 1)) (Pair Free (AtMostMarks m)) ts negated_of
 negated_along m ts = record {
   intro = λ q us d. (refl, d);
   cases = λ y us r d h. negated_cases y us d;
@@ -394,7 +394,7 @@ negated_along m ts = record {
   from = λ q us d l v. (tt, λ e. omega (arith, v e));
 }
 
-minus_along : (m : ℕ) (ts : Tokens) → Along minus_operand (prefixed sign.Minus) (AtMost (m + 1)) (Pair Free (AtMost m)) ts minus_of
+minus_along : (m : ℕ) (ts : Tokens) → Along minus_operand (prefixed sign.Minus) (AtMostMarks (m + 1)) (Pair Free (AtMostMarks m)) ts minus_of
 minus_along m ts = record {
   intro = λ q us d. (refl, d);
   cases = λ y us r d h. minus_cases y us d;
@@ -404,39 +404,39 @@ minus_along m ts = record {
 
 -- along any form that is a sign before an operand
 prefixed_took : (D : Lang Expression) (g : Sign) (n m : ℕ) (build : Spot × Expression → Expression) (ts middle rest : Tokens) (at : Spot) (x : Expression) → m + 1 ≡ n →
-    Along D (prefixed g) (AtMost (m + 1)) (Pair Free (AtMost m)) ts build → Took (Token (tok.Sign g)) Free Always ts at middle → Took (at_level 5) (AtMost m) (Ends 5) middle x rest → Took D (AtMost n) (Ends 5) ts (build (at, x)) rest
+    Along D (prefixed g) (AtMostMarks (m + 1)) (Pair Free (AtMostMarks m)) ts build → Took (Token (tok.Sign g)) Free Always ts at middle → Took (at_level 5) (AtMostMarks m) (Ends 5) middle x rest → Took D (AtMostMarks n) (Ends 5) ts (build (at, x)) rest
 prefixed_took D g n m build ts middle rest at x e a t u =
-    let P : ℕ → Type 0 = λ k. Took D (AtMost k) (Ends 5) ts (build (at, x)) rest in
+    let P : ℕ → Type 0 = λ k. Took D (AtMostMarks k) (Ends 5) ts (build (at, x)) rest in
     subst P e (took_as D (prefixed g) build a (both (free (at_level 5) (Ends 5)) t u))
 
 prefixed_failed_sign : (D : Lang Expression) (g : Sign) (n m : ℕ) (build : Spot × Expression → Expression) (ts : Tokens) (e : Fail) → m + 1 ≡ n →
-    Along D (prefixed g) (AtMost (m + 1)) (Pair Free (AtMost m)) ts build → Failed (Token (tok.Sign g)) Free Always ts e → Failed D (AtMost n) (Ends 5) ts e
+    Along D (prefixed g) (AtMostMarks (m + 1)) (Pair Free (AtMostMarks m)) ts build → Failed (Token (tok.Sign g)) Free Always ts e → Failed D (AtMostMarks n) (Ends 5) ts e
 prefixed_failed_sign D g n m build ts e same a f =
-    let P : ℕ → Type 0 = λ k. Failed D (AtMost k) (Ends 5) ts e in
+    let P : ℕ → Type 0 = λ k. Failed D (AtMostMarks k) (Ends 5) ts e in
     subst P same (failed_as D (prefixed g) build a (first (free (at_level 5) (Ends 5)) (has_at_level 5 m) f))
 
 prefixed_failed_operand : (D : Lang Expression) (g : Sign) (n m : ℕ) (build : Spot × Expression → Expression) (ts middle : Tokens) (at : Spot) (e : Fail) → m + 1 ≡ n →
-    Along D (prefixed g) (AtMost (m + 1)) (Pair Free (AtMost m)) ts build → Took (Token (tok.Sign g)) Free Always ts at middle → Failed (at_level 5) (AtMost m) (Ends 5) middle e → Failed D (AtMost n) (Ends 5) ts e
+    Along D (prefixed g) (AtMostMarks (m + 1)) (Pair Free (AtMostMarks m)) ts build → Took (Token (tok.Sign g)) Free Always ts at middle → Failed (at_level 5) (AtMostMarks m) (Ends 5) middle e → Failed D (AtMostMarks n) (Ends 5) ts e
 prefixed_failed_operand D g n m build ts middle at e same a t f =
-    let P : ℕ → Type 0 = λ k. Failed D (AtMost k) (Ends 5) ts e in
+    let P : ℕ → Type 0 = λ k. Failed D (AtMostMarks k) (Ends 5) ts e in
     subst P same (failed_as D (prefixed g) build a (second (free (at_level 5) (Ends 5)) t f))
 
-pub negated_took : (n m : ℕ) (ts middle rest : Tokens) (at : Spot) (x : Expression) → m + 1 ≡ n → Took (Token (tok.Sign sign.Not)) Free Always ts at middle → Took (at_level 5) (AtMost m) (Ends 5) middle x rest → Took not_operand (AtMost n) (Ends 5) ts (Negated x at) rest
+pub negated_took : (n m : ℕ) (ts middle rest : Tokens) (at : Spot) (x : Expression) → m + 1 ≡ n → Took (Token (tok.Sign sign.Not)) Free Always ts at middle → Took (at_level 5) (AtMostMarks m) (Ends 5) middle x rest → Took not_operand (AtMostMarks n) (Ends 5) ts (Negated x at) rest
 negated_took n m ts middle rest at x e t u = prefixed_took not_operand sign.Not n m negated_of ts middle rest at x e (negated_along m ts) t u
 
-pub negated_failed_sign : (n m : ℕ) (ts : Tokens) (e : Fail) → m + 1 ≡ n → Failed (Token (tok.Sign sign.Not)) Free Always ts e → Failed not_operand (AtMost n) (Ends 5) ts e
+pub negated_failed_sign : (n m : ℕ) (ts : Tokens) (e : Fail) → m + 1 ≡ n → Failed (Token (tok.Sign sign.Not)) Free Always ts e → Failed not_operand (AtMostMarks n) (Ends 5) ts e
 negated_failed_sign n m ts e same f = prefixed_failed_sign not_operand sign.Not n m negated_of ts e same (negated_along m ts) f
 
-pub negated_failed_operand : (n m : ℕ) (ts middle : Tokens) (at : Spot) (e : Fail) → m + 1 ≡ n → Took (Token (tok.Sign sign.Not)) Free Always ts at middle → Failed (at_level 5) (AtMost m) (Ends 5) middle e → Failed not_operand (AtMost n) (Ends 5) ts e
+pub negated_failed_operand : (n m : ℕ) (ts middle : Tokens) (at : Spot) (e : Fail) → m + 1 ≡ n → Took (Token (tok.Sign sign.Not)) Free Always ts at middle → Failed (at_level 5) (AtMostMarks m) (Ends 5) middle e → Failed not_operand (AtMostMarks n) (Ends 5) ts e
 negated_failed_operand n m ts middle at e same t f = prefixed_failed_operand not_operand sign.Not n m negated_of ts middle at e same (negated_along m ts) t f
 
-pub minus_took : (n m : ℕ) (ts middle rest : Tokens) (at : Spot) (x : Expression) → m + 1 ≡ n → Took (Token (tok.Sign sign.Minus)) Free Always ts at middle → Took (at_level 5) (AtMost m) (Ends 5) middle x rest → Took minus_operand (AtMost n) (Ends 5) ts (Minus x at) rest
+pub minus_took : (n m : ℕ) (ts middle rest : Tokens) (at : Spot) (x : Expression) → m + 1 ≡ n → Took (Token (tok.Sign sign.Minus)) Free Always ts at middle → Took (at_level 5) (AtMostMarks m) (Ends 5) middle x rest → Took minus_operand (AtMostMarks n) (Ends 5) ts (Minus x at) rest
 minus_took n m ts middle rest at x e t u = prefixed_took minus_operand sign.Minus n m minus_of ts middle rest at x e (minus_along m ts) t u
 
-pub minus_failed_sign : (n m : ℕ) (ts : Tokens) (e : Fail) → m + 1 ≡ n → Failed (Token (tok.Sign sign.Minus)) Free Always ts e → Failed minus_operand (AtMost n) (Ends 5) ts e
+pub minus_failed_sign : (n m : ℕ) (ts : Tokens) (e : Fail) → m + 1 ≡ n → Failed (Token (tok.Sign sign.Minus)) Free Always ts e → Failed minus_operand (AtMostMarks n) (Ends 5) ts e
 minus_failed_sign n m ts e same f = prefixed_failed_sign minus_operand sign.Minus n m minus_of ts e same (minus_along m ts) f
 
-pub minus_failed_operand : (n m : ℕ) (ts middle : Tokens) (at : Spot) (e : Fail) → m + 1 ≡ n → Took (Token (tok.Sign sign.Minus)) Free Always ts at middle → Failed (at_level 5) (AtMost m) (Ends 5) middle e → Failed minus_operand (AtMost n) (Ends 5) ts e
+pub minus_failed_operand : (n m : ℕ) (ts middle : Tokens) (at : Spot) (e : Fail) → m + 1 ≡ n → Took (Token (tok.Sign sign.Minus)) Free Always ts at middle → Failed (at_level 5) (AtMostMarks m) (Ends 5) middle e → Failed minus_operand (AtMostMarks n) (Ends 5) ts e
 minus_failed_operand n m ts middle at e same t f = prefixed_failed_operand minus_operand sign.Minus n m minus_of ts middle at e same (minus_along m ts) t f
 
 -- ---- paths, and an index behind them
@@ -452,7 +452,7 @@ placed p None = Read p
 placed p (Some e) = Item p e
 
 abbrev PlacedAtMost : ℕ → Limit → Path → Option Expression → Type 0
-PlacedAtMost n l p o = AtMost n l (placed p o)
+PlacedAtMost n l p o = AtMostMarks n l (placed p o)
 
 abbrev place_parts : Lang (Path × Option Expression)
 place_parts = Both path (optional index)
@@ -483,7 +483,7 @@ place_more : (p : Path) (o : Option Expression) → length p.steps ≤ marks (pl
 place_more p None = omega arith
 place_more p (Some e) = omega arith
 
-place_along : (n : ℕ) (ts : Tokens) → Along place_operand place_parts (AtMost n) (Limits (IsShortPath n) (PlacedAtMost n)) ts place_of
+place_along : (n : ℕ) (ts : Tokens) → Along place_operand place_parts (AtMostMarks n) (Limits (IsShortPath n) (PlacedAtMost n)) ts place_of
 place_along n ts = record {
   intro = λ q us d. place_is q.0 q.1 us d;
   cases = λ y us r d h. place_cases y us d;
@@ -501,10 +501,10 @@ place_links (Some e) us r d f = of_other (tok.Sign sign.OpenBracket) (tok.Sign s
 abbrev PathTook : ℕ → Tokens → Path → Tokens → Type 0
 PathTook n ts p rest = Took path (IsShortPath n) (Isnt (tok.Sign sign.Dot)) ts p rest
 
-pub place_failed_path : (n : ℕ) (ts : Tokens) (e : Fail) → Failed path (IsShortPath n) (Isnt (tok.Sign sign.Dot)) ts e → Failed place_operand (AtMost n) (Ends 5) ts e
+pub place_failed_path : (n : ℕ) (ts : Tokens) (e : Fail) → Failed path (IsShortPath n) (Isnt (tok.Sign sign.Dot)) ts e → Failed place_operand (AtMostMarks n) (Ends 5) ts e
 place_failed_path n ts e f = failed_as place_operand place_parts place_of (place_along n ts) (failed_by (λ why left s. stopped_first_with (PlacedAtMost n) place_links None [] refl tt (λ l x w. w) s) f)
 
-pub place_alone : (n : ℕ) (ts rest : Tokens) (p : Path) → PathTook n ts p rest → (Is (tok.Sign sign.OpenBracket) (head rest) → ⊥) → Took place_operand (AtMost n) (Ends 5) ts (Read p) rest
+pub place_alone : (n : ℕ) (ts rest : Tokens) (p : Path) → PathTook n ts p rest → (Is (tok.Sign sign.OpenBracket) (head rest) → ⊥) → Took place_operand (AtMostMarks n) (Ends 5) ts (Read p) rest
 place_alone n ts rest p t none = took_as place_operand place_parts place_of (place_along n ts)
     (took_then (PlacedAtMost n) place_links t (left_out (λ y us r d h. none (let P : Option Lexeme → Type 0 = Is (tok.Sign sign.OpenBracket) in subst P h (bracket_first y us r d))) t.within))
 
@@ -520,12 +520,12 @@ bracket_goes_on W others rest i =
     record { next = b.0; later = b.1; rest_is = b.2; tree = zero_expression; after = zero ++ close; known = (tt, (tt, tt)); goes_on = subst P (sym token_is) one_more; passes = tt; others = others }
 
 -- an index is one token too many
-pub place_over : (n : ℕ) (ts rest : Tokens) (p : Path) → PathTook n ts p rest → Is (tok.Sign sign.OpenBracket) (head rest) → n ≤ length p.steps → Stopped place_operand (AtMost n) (Ends 5) ts (Over Depth) (length rest)
+pub place_over : (n : ℕ) (ts rest : Tokens) (p : Path) → PathTook n ts p rest → Is (tok.Sign sign.OpenBracket) (head rest) → n ≤ length p.steps → Stopped place_operand (AtMostMarks n) (Ends 5) ts (Over Depth) (length rest)
 place_over n ts rest p t i many = stopped_as place_operand place_parts place_of (place_along n ts)
     (stopped_second (PlacedAtMost n) place_links t
     (full {V = λ l. PlacedAtMost n l p} (Over Depth) (λ f. is_isnt (tok.Sign sign.OpenBracket) (head rest) i (no_bracket (head rest) f)) (λ z us r d h under. omega (arith, many, under refl)) (bracket_goes_on (λ l z. PlacedAtMost n l p (Some z)) (λ m k e. none_before m k e) rest i) t.within))
 
-index_along : (m : ℕ) (ts : Tokens) → Along index in_brackets (AtMost m) (AtMostInside m) ts (λ q. q.1)
+index_along : (m : ℕ) (ts : Tokens) → Along index in_brackets (AtMostMarks m) (AtMostInside m) ts (λ q. q.1)
 index_along m ts = record {
   intro = λ q us d. record { front = d.front; back = d.back; parts = d.parts; first = (q.0, d.first); second = d.second };
   cases = λ y us r d h. ((d.first.0, y), refl, record { front = d.front; back = d.back; parts = d.parts; first = d.first.1; second = d.second });
@@ -539,17 +539,17 @@ index_fits n m p z all w = omega (arith, w, all)
 index_back : (n m : ℕ) (p : Path) (z : Expression) → m + length p.steps + 1 ≡ n → marks (Item p z) ≤ n → marks z ≤ m
 index_back n m p z all w = omega (arith, w, all)
 
-pub place_failed_index : (n m : ℕ) (ts rest : Tokens) (p : Path) (e : Fail) → PathTook n ts p rest → Is (tok.Sign sign.OpenBracket) (head rest) → m + length p.steps + 1 ≡ n → Failed in_brackets (AtMostInside m) Always rest e → Failed place_operand (AtMost n) (Ends 5) ts e
+pub place_failed_index : (n m : ℕ) (ts rest : Tokens) (p : Path) (e : Fail) → PathTook n ts p rest → Is (tok.Sign sign.OpenBracket) (head rest) → m + length p.steps + 1 ≡ n → Failed in_brackets (AtMostInside m) Always rest e → Failed place_operand (AtMostMarks n) (Ends 5) ts e
 place_failed_index n m ts rest p e t i all f = failed_as place_operand place_parts place_of (place_along n ts)
     (failed_by (λ why left s. stopped_second (PlacedAtMost n) place_links t
-    (stopped_optional {V = λ l. PlacedAtMost n l p} {W = AtMost m} (λ g. is_isnt (tok.Sign sign.OpenBracket) (head rest) i (no_bracket (head rest) g)) (λ o g. tt)
+    (stopped_optional {V = λ l. PlacedAtMost n l p} {W = AtMostMarks m} (λ g. is_isnt (tok.Sign sign.OpenBracket) (head rest) i (no_bracket (head rest) g)) (λ o g. tt)
     (λ l z w q. index_fits n m p z all (w q)) (λ l z w q. index_back n m p z all (w q)) (stopped_as index in_brackets (λ q. q.1) (index_along m rest) s))) f)
 
 pub place_indexed : (n m : ℕ) (ts rest after : Tokens) (p : Path) (q : Spot × Expression) → PathTook n ts p rest → Is (tok.Sign sign.OpenBracket) (head rest) → m + length p.steps + 1 ≡ n → Took in_brackets (AtMostInside m) Always rest q after →
-    Took place_operand (AtMost n) (Ends 5) ts (Item p q.1) after
+    Took place_operand (AtMostMarks n) (Ends 5) ts (Item p q.1) after
 place_indexed n m ts rest after p q t i all u = took_as place_operand place_parts place_of (place_along n ts)
     (took_then (PlacedAtMost n) place_links t
-    (took_optional {V = λ l. PlacedAtMost n l p} {W = AtMost m} (λ g. is_isnt (tok.Sign sign.OpenBracket) (head rest) i (no_bracket (head rest) g)) (λ o g. tt)
+    (took_optional {V = λ l. PlacedAtMost n l p} {W = AtMostMarks m} (λ g. is_isnt (tok.Sign sign.OpenBracket) (head rest) i (no_bracket (head rest) g)) (λ o g. tt)
     (λ l z w q. index_fits n m p z all (w q)) (λ l z w q. index_back n m p z all (w q)) (took_as index in_brackets (λ q. q.1) (index_along m rest) u)))
 
 -- ---- a form whose first token counts, where none may
@@ -567,14 +567,14 @@ mark_after mark.Paren = at_once (tok.Int (pos 0)) ++ at_once (tok.Sign sign.Clos
 mark_after mark.Not = at_once (tok.Int (pos 0))
 mark_after mark.Minus = at_once (tok.Int (pos 0))
 
-mark_known : (m : Marked) → AreKnown (mark_after m)
+mark_known : (m : Marked) → AreSpellable (mark_after m)
 mark_known mark.Len = (refl, tt)
 mark_known mark.Paren = (tt, (tt, tt))
 mark_known mark.Not = (tt, tt)
 mark_known mark.Minus = (tt, tt)
 
 abbrev mark_token : Marked → Spot → Lexeme
-mark_token m at = record { kind = kind_of m; at = at }
+mark_token m at = record { kind = mark_kind m; at = at }
 
 mark_goes_on : (m : Marked) (at : Spot) → at_level 5 (mark_tree m at) (mark_token m at ∷ mark_after m)
 mark_goes_on mark.Len at = record { front = mark_token mark.Len at ∷ []; back = mark_after mark.Len; parts = refl; first = refl; second = record { front = at_once (tok.Name 0); back = []; parts = refl; first = inl refl; second = refl } }
@@ -582,13 +582,13 @@ mark_goes_on mark.Paren at = record { front = mark_token mark.Paren at ∷ []; b
 mark_goes_on mark.Not at = record { front = mark_token mark.Not at ∷ []; back = mark_after mark.Not; parts = refl; first = refl; second = refl }
 mark_goes_on mark.Minus at = record { front = mark_token mark.Minus at ∷ []; back = mark_after mark.Minus; parts = refl; first = refl; second = refl }
 
-start_of_mark : (m : Marked) → start_of (kind_of m) ≡ start.Counted m
+start_of_mark : (m : Marked) → start_of (mark_kind m) ≡ start.Counted m
 start_of_mark mark.Len = refl
 start_of_mark mark.Paren = refl
 start_of_mark mark.Not = refl
 start_of_mark mark.Minus = refl
 
-mark_counts : (y : Expression) (m : Marked) → form y ≡ start.Counted m → 0 < marks y
+mark_counts : (y : Expression) (m : Marked) → operand_start y ≡ start.Counted m → 0 < marks y
 mark_counts (Number n at) m e = let z : start.Literal ≡ start.Counted m = e in cc
 mark_counts (Truth b at) m e = let z : start.Literal ≡ start.Counted m = e in cc
 mark_counts (Nothing at) m e = let z : start.Literal ≡ start.Counted m = e in cc
@@ -605,13 +605,13 @@ next_is : (k : Lexical) (ts : Tokens) → Next k ts → (t : Lexeme) × (later :
 next_is k [] i = absurd i
 next_is k (t ∷ ts) i = (t, ts, refl, i)
 
-pub starts_mark : (m : Marked) (ts : Tokens) → Next (kind_of m) ts → (t : Lexeme) × (later : Tokens) × (ts ≡ t ∷ later) × (start_of t.kind ≡ start.Counted m)
-starts_mark m ts i = let b = next_is (kind_of m) ts i in (b.0, b.1, b.2, ap start_of b.3 ∙ start_of_mark m)
+pub starts_mark : (m : Marked) (ts : Tokens) → Next (mark_kind m) ts → (t : Lexeme) × (later : Tokens) × (ts ≡ t ∷ later) × (start_of t.kind ≡ start.Counted m)
+starts_mark m ts i = let b = next_is (mark_kind m) ts i in (b.0, b.1, b.2, ap start_of b.3 ∙ start_of_mark m)
 
 -- one token too many
-pub mark_over : (m : Marked) (n : ℕ) (ts : Tokens) → n ≡ 0 → Next (kind_of m) ts → Stopped (at_level 5) (AtMost n) (Ends 5) ts (Over Depth) (length ts)
+pub mark_over : (m : Marked) (n : ℕ) (ts : Tokens) → n ≡ 0 → Next (mark_kind m) ts → Stopped (at_level 5) (AtMostMarks n) (Ends 5) ts (Over Depth) (length ts)
 mark_over m n ts none i =
-    let b = next_is (kind_of m) ts i in
+    let b = next_is (mark_kind m) ts i in
     let is : start_of b.0.kind ≡ start.Counted m = ap start_of b.3 ∙ start_of_mark m in
     let token_is : b.0 ≡ mark_token m b.0.at = ap (λ k. record { kind = k; at = b.0.at }) b.3 in
     let P : Lexeme → Type 0 = λ t. at_level 5 (mark_tree m b.0.at) (t ∷ mark_after m) in
@@ -619,8 +619,8 @@ mark_over m n ts none i =
     (λ y us r d h w. omega (arith, mark_counts y m (form_is (start.Counted m) y us r ts b.1 b.0 is b.2 d h), none, w refl))
     (record { next = b.0; later = b.1; rest_is = b.2; tree = mark_tree m b.0.at; after = mark_after m; known = mark_known m; goes_on = subst P (sym token_is) (mark_goes_on m b.0.at); passes = tt; others = λ l k e. none_before l k e })
 
-pub marked_took : (m : Marked) (n : ℕ) (ts rest : Tokens) (x : Expression) → Next (kind_of m) ts → Took (operand (start.Counted m)) (AtMost n) (Ends 5) ts x rest → Took (at_level 5) (AtMost n) (Ends 5) ts x rest
+pub marked_took : (m : Marked) (n : ℕ) (ts rest : Tokens) (x : Expression) → Next (mark_kind m) ts → Took (operand (start.Counted m)) (AtMostMarks n) (Ends 5) ts x rest → Took (at_level 5) (AtMostMarks n) (Ends 5) ts x rest
 marked_took m n ts rest x i t = let b = starts_mark m ts i in operand_took (start.Counted m) n ts b.1 rest b.0 x b.3 b.2 t
 
-pub marked_failed : (m : Marked) (n : ℕ) (ts : Tokens) (e : Fail) → Next (kind_of m) ts → Failed (operand (start.Counted m)) (AtMost n) (Ends 5) ts e → Failed (at_level 5) (AtMost n) (Ends 5) ts e
+pub marked_failed : (m : Marked) (n : ℕ) (ts : Tokens) (e : Fail) → Next (mark_kind m) ts → Failed (operand (start.Counted m)) (AtMostMarks n) (Ends 5) ts e → Failed (at_level 5) (AtMostMarks n) (Ends 5) ts e
 marked_failed m n ts e i f = let b = starts_mark m ts i in operand_failed (start.Counted m) n ts b.1 b.0 e b.3 b.2 f

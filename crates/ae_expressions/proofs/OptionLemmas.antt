@@ -7,7 +7,7 @@ use Rattle.ae_tree.specs.declared.lexeme.Lexical.{Lexical}
 use Rattle.ae_tree.specs.Limits.{early, rank}
 use Rattle.ae_tree.specs.Grammar.{Tokens}
 use Rattle.ae_reading.specs.declared.fail.Why.{Why}
-use Rattle.ae_reading.specs.Reads.{head, Is, IsWithin, Stopped, Counts, Beyond}
+use Rattle.ae_reading.specs.Reads.{head, Is, IsWithinAll, Stopped, Counts, Beyond}
 use Rattle.ae_reading.proofs.ReadsLemmas.{Lang, Bound, Follow, lead_here, beyond_as}
 use Rattle.ae_reading.proofs.Parts.{optional}
 
@@ -23,7 +23,7 @@ full_only V F rest why goes_on none (Some z) us r other d e h f w = none z us r 
 
 -- the part is wanted, and each that begins here is over the limit
 pub full : {A : Type 0} {D : Lang A} {V : Bound (Option A)} {F : Follow} {rest : Tokens} (why : Why) → (F (head rest) → ⊥) →
-    ((z : A) (us r : Tokens) → D z us → head (us ++ r) ≡ head rest → Counts why (λ l. V l (Some z)) → ⊥) → Beyond D (λ l z. V l (Some z)) [] rest why → IsWithin V None → Stopped (optional D) V F rest why (length rest)
+    ((z : A) (us r : Tokens) → D z us → head (us ++ r) ≡ head rest → Counts why (λ l. V l (Some z)) → ⊥) → Beyond D (λ l z. V l (Some z)) [] rest why → IsWithinAll V None → Stopped (optional D) V F rest why (length rest)
 full {A} {D} {V} {F} {rest} why goes_on none beyond v = record {
   before = [];
   rest = rest;

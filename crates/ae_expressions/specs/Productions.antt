@@ -58,8 +58,8 @@ operator_of _ = None
 -- ---- limits
 
 -- at most n tokens that count
-abbrev pub AtMost : ℕ → Limit → Expression → Type 0
-AtMost n l e = l ≡ limit.Depth → marks e ≤ n
+abbrev pub AtMostMarks : ℕ → Limit → Expression → Type 0
+AtMostMarks n l e = l ≡ limit.Depth → marks e ≤ n
 
 -- at most n fields lead on from the root
 abbrev pub IsShortPath : ℕ → Limit → Path → Type 0
@@ -72,14 +72,14 @@ counted c = shown.expression c.tree
 
 -- an expression at this level
 abbrev pub at_level : ℕ → Expression → Tokens → Type 0
-at_level l e = grammar.expression e l
+at_level l e = grammar.expression_at e l
 
 -- the token that a form which counts begins with
-abbrev pub kind_of : Mark → Lexical
-kind_of mark.Len = tok.Word word.Len
-kind_of mark.Paren = tok.Sign sign.OpenParen
-kind_of mark.Not = tok.Sign sign.Not
-kind_of mark.Minus = tok.Sign sign.Minus
+abbrev pub mark_kind : Mark → Lexical
+mark_kind mark.Len = tok.Word word.Len
+mark_kind mark.Paren = tok.Sign sign.OpenParen
+mark_kind mark.Not = tok.Sign sign.Not
+mark_kind mark.Minus = tok.Sign sign.Minus
 
 abbrev pub start_of_word : Keyword → Start
 start_of_word word.True = start.Literal
@@ -105,25 +105,25 @@ start_of _ = start.Other
 
 -- a token that only the forms of this start begin with
 abbrev pub StartIs : Lexical → Start → Type 0
-StartIs k (start.Counted m) = k ≡ kind_of m
+StartIs k (start.Counted m) = k ≡ mark_kind m
 StartIs k _ = Unit {0}
 
 -- the start of an operand
-abbrev pub form : Expression → Start
-form (Number n at) = start.Literal
-form (Truth b at) = start.Literal
-form (Nothing at) = start.Literal
-form (Read p) = start.Place
-form (Item p e) = start.Place
-form (Length p at) = start.Counted mark.Len
-form (Grouped e at) = start.Counted mark.Paren
-form (Negated e at) = start.Counted mark.Not
-form (Minus e at) = start.Counted mark.Minus
-form (Binary o a b) = start.Other
+abbrev pub operand_start : Expression → Start
+operand_start (Number n at) = start.Literal
+operand_start (Truth b at) = start.Literal
+operand_start (Nothing at) = start.Literal
+operand_start (Read p) = start.Place
+operand_start (Item p e) = start.Place
+operand_start (Length p at) = start.Counted mark.Len
+operand_start (Grouped e at) = start.Counted mark.Paren
+operand_start (Negated e at) = start.Counted mark.Not
+operand_start (Minus e at) = start.Counted mark.Minus
+operand_start (Binary o a b) = start.Other
 
 -- an operand of this form
 abbrev pub operand : Start → Expression → Tokens → Type 0
-operand s e ts = (form e ≡ s) × at_level 5 e ts
+operand s e ts = (operand_start e ≡ s) × at_level 5 e ts
 
 -- a number, a truth value or `null`, of one token
 abbrev pub literal : Expression → Tokens → Type 0
@@ -137,7 +137,7 @@ abbrev pub enclosed_shown : Spot × Counted → Spot × Expression
 enclosed_shown q = (q.0, counted q.1)
 
 abbrev pub AtMostInside : ℕ → Limit → Spot × Expression → Type 0
-AtMostInside n l q = AtMost n l q.1
+AtMostInside n l q = AtMostMarks n l q.1
 
 -- a sign that goes on no expression
 abbrev pub IsClosing : Sign → Type 0

@@ -3,10 +3,10 @@ ghost use Rattle.std.specs.Prelude.{◌≡◌, ◌<◌, ◌≤◌, ◌+◌, [], 
 ghost use Rattle.ae_tree.specs.Plain.{Expression, Binary};
 ghost use Rattle.ae_tree.specs.Shown as shown;
 ghost use Rattle.ae_tree.specs.Grammar as grammar;
-ghost use Rattle.ae_tree.specs.Limits.{Keeps, marks};
+ghost use Rattle.ae_tree.specs.Limits.{KeepsDepth, marks};
 ghost use Rattle.ae_reading.specs.Reads.{Reads, Always, Free};
 ghost use Rattle.ae_expressions.specs.Ends.{Ends};
-ghost use Rattle.ae_expressions.specs.Productions.{AtMost, AtMostInside, Next, IsClosing, at_level, counted, enclosed, enclosed_shown, kind_of, literal, operand};
+ghost use Rattle.ae_expressions.specs.Productions.{AtMostMarks, AtMostInside, Next, IsClosing, at_level, counted, enclosed, enclosed_shown, mark_kind, literal, operand};
 
 use crate::operators::operator;
 use crate::paths::{over, path};
@@ -72,7 +72,7 @@ fn length<'a>(
 ) -> Result<(Counted, &'a [Lexeme]), Fail>
     requires few { budget ≤ 256 }
     requires one { 0 < budget }
-    ensures reads { Reads counted (operand (Start.Counted Mark.Len)) (AtMost budget) (Ends 5) ts.now result }
+    ensures reads { Reads counted (operand (Start.Counted Mark.Len)) (AtMostMarks budget) (Ends 5) ts.now result }
     ensures count { IfOk result (λ x. x.0.marks ≡ marks (counted x.0)) }
 {
     let (at, rest) = expect_word(ts, Keyword::Len)?;
@@ -116,7 +116,7 @@ fn grouped<'a>(
 ) -> Result<(Counted, &'a [Lexeme]), Fail>
     requires few { budget ≤ 256 }
     requires one { 0 < budget }
-    ensures reads { Reads counted (operand (Start.Counted Mark.Paren)) (AtMost budget) (Ends 5) ts.now result }
+    ensures reads { Reads counted (operand (Start.Counted Mark.Paren)) (AtMostMarks budget) (Ends 5) ts.now result }
     ensures count { IfOk result (λ x. x.0.marks ≡ marks (counted x.0)) }
 {
     let ((at, inner), rest) = enclosed(alloc, ts, Sign::OpenParen, Sign::CloseParen, budget - 1)?;
@@ -135,7 +135,7 @@ fn negated<'a>(
 ) -> Result<(Counted, &'a [Lexeme]), Fail>
     requires few { budget ≤ 256 }
     requires one { 0 < budget }
-    ensures reads { Reads counted (operand (Start.Counted Mark.Not)) (AtMost budget) (Ends 5) ts.now result }
+    ensures reads { Reads counted (operand (Start.Counted Mark.Not)) (AtMostMarks budget) (Ends 5) ts.now result }
     ensures count { IfOk result (λ x. x.0.marks ≡ marks (counted x.0)) }
 {
     let (at, rest) = expect_sign(ts, Sign::Not)?;
@@ -155,7 +155,7 @@ fn minus<'a>(
 ) -> Result<(Counted, &'a [Lexeme]), Fail>
     requires few { budget ≤ 256 }
     requires one { 0 < budget }
-    ensures reads { Reads counted (operand (Start.Counted Mark.Minus)) (AtMost budget) (Ends 5) ts.now result }
+    ensures reads { Reads counted (operand (Start.Counted Mark.Minus)) (AtMostMarks budget) (Ends 5) ts.now result }
     ensures count { IfOk result (λ x. x.0.marks ≡ marks (counted x.0)) }
 {
     let (at, rest) = expect_sign(ts, Sign::Minus)?;
@@ -174,7 +174,7 @@ fn place<'a>(
     budget: usize,
 ) -> Result<(Counted, &'a [Lexeme]), Fail>
     requires few { budget ≤ 256 }
-    ensures reads { Reads counted (operand Start.Place) (AtMost budget) (Ends 5) ts.now result }
+    ensures reads { Reads counted (operand Start.Place) (AtMostMarks budget) (Ends 5) ts.now result }
     ensures count { IfOk result (λ x. x.0.marks ≡ marks (counted x.0)) }
 {
     let (path, rest) = path(alloc, ts, budget)?;
@@ -208,8 +208,8 @@ fn marked<'a>(
     budget: usize,
 ) -> Result<(Counted, &'a [Lexeme]), Fail>
     requires few { budget ≤ 256 }
-    requires next { Next (kind_of mark) ts.now }
-    ensures reads { Reads counted (at_level 5) (AtMost budget) (Ends 5) ts.now result }
+    requires next { Next (mark_kind mark) ts.now }
+    ensures reads { Reads counted (at_level 5) (AtMostMarks budget) (Ends 5) ts.now result }
     ensures count { IfOk result (λ x. x.0.marks ≡ marks (counted x.0)) }
 {
     if budget == 0 {
@@ -231,7 +231,7 @@ fn operand<'a>(
     budget: usize,
 ) -> Result<(Counted, &'a [Lexeme]), Fail>
     requires few { budget ≤ 256 }
-    ensures reads { Reads counted (at_level 5) (AtMost budget) (Ends 5) ts.now result }
+    ensures reads { Reads counted (at_level 5) (AtMostMarks budget) (Ends 5) ts.now result }
     ensures count { IfOk result (λ x. x.0.marks ≡ marks (counted x.0)) }
 {
     let Some((first, _)) = next(ts) else {
@@ -267,7 +267,7 @@ fn comparison<'a>(
     budget: usize,
 ) -> Result<(Counted, &'a [Lexeme]), Fail>
     requires few { budget ≤ 256 }
-    ensures reads { Reads counted (at_level 2) (AtMost budget) (Ends 2) ts.now result }
+    ensures reads { Reads counted (at_level 2) (AtMostMarks budget) (Ends 2) ts.now result }
     ensures count { IfOk result (λ x. x.0.marks ≡ marks (counted x.0)) }
 {
     let (left, rest) = chain(alloc, ts, 3, budget)?;
@@ -292,7 +292,7 @@ fn chain<'a>(
 ) -> Result<(Counted, &'a [Lexeme]), Fail>
     requires high { level ≤ 5 }
     requires few { budget ≤ 256 }
-    ensures reads { Reads counted (at_level level) (AtMost budget) (Ends level) ts.now result }
+    ensures reads { Reads counted (at_level level) (AtMostMarks budget) (Ends level) ts.now result }
     ensures count { IfOk result (λ x. x.0.marks ≡ marks (counted x.0)) }
 {
     if level == 5 {
@@ -316,7 +316,7 @@ fn chain<'a>(
 /// Reads an expression with at most 256 tokens that count: operators, `(`, `[`, `.` and `len`.
 /// The first token with which no expression goes on is refused, and so is a 257th one that counts.
 pub fn expression<'a>(alloc: Global, ts: &'a [Lexeme]) -> Result<(Expr, &'a [Lexeme]), Fail>
-    ensures { Reads shown.expression grammar.whole Keeps (Ends 0) ts.now result }
+    ensures { Reads shown.expression grammar.whole_expression KeepsDepth (Ends 0) ts.now result }
 {
     let (counted, rest) = chain(alloc, ts, 0, MOST_MARKS)?;
     Ok((counted.tree, rest))

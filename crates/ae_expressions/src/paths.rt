@@ -32,7 +32,7 @@ fn root<'a>(ts: &'a [Lexeme]) -> Result<(NameAt, &'a [Lexeme]), Fail>
 }
 
 fn step<'a>(ts: &'a [Lexeme]) -> Result<(NameAt, &'a [Lexeme]), Fail>
-    ensures { Reads itself grammar.step Free Always ts.now result }
+    ensures { Reads itself grammar.path_step Free Always ts.now result }
 {
     let (_, rest) = expect_sign(ts, Sign::Dot)?;
     name(rest)

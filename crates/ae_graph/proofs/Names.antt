@@ -5,7 +5,7 @@ use Rattle.ae_rules.specs.declared.uses.Mode.{Mode}
 use Rattle.ae_rules.specs.declared.uses.Mode.TheVariants as mode
 use Rattle.ae_tree.specs.Plain.{Expression, Number, Truth, Nothing, Read, Item, Length, Grouped, Negated, Minus, Binary, RightSide, Value, Taken, Zeros, Made, Returned}
 use Rattle.ae_tree.specs.Plain.{Action, Declares, Assigns, Prints}
-use Rattle.ae_rules.specs.BuiltUses.{reads, reads_right, read_if, local_mode}
+use Rattle.ae_rules.specs.BuiltUses.{reads_local, reads_right, read_if, local_mode}
 use Rattle.ae_graph.specs.Footprint.{names_in, names_right, read_by, written_by, is_written}
 use Rattle.ae_graph.proofs.Elements.{has}
 
@@ -13,7 +13,7 @@ or_false : (a : Bool) → (a || false) ≡ a
 or_false true = refl
 or_false false = refl
 
-pub has-names_in : (e : Expression) (y : ℕ) → has (names_in e) y ≡ reads e y
+pub has-names_in : (e : Expression) (y : ℕ) → has (names_in e) y ≡ reads_local e y
 has-names_in (Number n at) y = refl
 has-names_in (Truth b at) y = refl
 has-names_in (Nothing at) y = refl
@@ -26,7 +26,7 @@ has-names_in (Minus e at) y = has-names_in e y
 has-names_in (Binary op a b) y =
     list_any-append (λ x. nat_eq x y) (names_in a) (names_in b)
     ∙ ap (λ v. v || has (names_in b) y) (has-names_in a y)
-    ∙ ap (λ v. reads a y || v) (has-names_in b y)
+    ∙ ap (λ v. reads_local a y || v) (has-names_in b y)
 
 pub has-names_right : (e : RightSide) (y : ℕ) → has (names_right e) y ≡ reads_right e y
 has-names_right (Value e) y = has-names_in e y
@@ -37,7 +37,7 @@ has-names_right (Returned c) y = refl
 
 -- how a statement uses a local that it writes or reads
 abbrev pub mode_of : Bool → Bool → Option Mode
-mode_of writes reads = if writes then Some mode.Write else read_if reads
+mode_of writes reads_local = if writes then Some mode.Write else read_if reads_local
 
 pub local_mode-is : (a : Action) (y : ℕ) → local_mode a y ≡ mode_of (is_written (written_by a) y) (has (read_by a) y)
 local_mode-is (Declares ty x e) y = ap (mode_of (nat_eq x.name y)) (sym (has-names_right e y))

@@ -11,16 +11,16 @@ use Rattle.ae_text.specs.declared.refusal.Edge.{Edge}
 use Rattle.ae_tree.specs.declared.tree.Stmt.{Stmt}
 use Rattle.ae_tree.specs.Plain.{Lines}
 use Rattle.ae_tree.specs.Shown.{action, lines_from}
-use Rattle.ae_tree.specs.Limits.{count}
+use Rattle.ae_tree.specs.Limits.{statement_count}
 use Rattle.ae_rules.specs.BuiltUses.{ArePreds, statement_at}
 use Rattle.ae_rules.specs.Edges.{IsRising}
 use Rattle.ae_graph.specs.Graph.{Graph, preds_in, edges_to, edges_from, AreSuccs}
 use Rattle.ae_graph.specs.Succs.{AreEarlier, is_among, joined, JoinsWaiters}
 use Rattle.ae_graph.proofs.Elements.{here, there, nowhere, has_from, from_has}
 
-pub count_lines : (xs : List Stmt) → count (lines_from xs) ≡ length xs
+pub count_lines : (xs : List Stmt) → statement_count (lines_from xs) ≡ length xs
 count_lines [] = refl
-count_lines (x ∷ xs) = add-one (count (lines_from xs)) ∙ ap suc (count_lines xs)
+count_lines (x ∷ xs) = add-one (statement_count (lines_from xs)) ∙ ap suc (count_lines xs)
 
 pub statement_get : (xs : List Stmt) (i : ℕ) (x : Stmt) → i < length xs → x ≡ get_or xs i x → statement_at (lines_from xs) i ≡ Some (action x.kind)
 statement_get [] i x h e = absurd (omega (arith, h))

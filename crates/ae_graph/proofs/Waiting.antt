@@ -10,7 +10,7 @@ use Rattle.ae_rules.specs.declared.uses.Resource.TheVariants.{Local, Group}
 use Rattle.ae_rules.specs.declared.uses.Mode.{Mode}
 use Rattle.ae_rules.specs.declared.uses.Use.{Use}
 use Rattle.ae_tree.specs.Plain.{Action, Lines}
-use Rattle.ae_rules.specs.BuiltUses.{use_of, used_by, use_at, statement_at, IsEdge, ArePreds}
+use Rattle.ae_rules.specs.BuiltUses.{use_of, used_by, use_at, statement_at, IsBuiltEdge, ArePreds}
 use Rattle.ae_rules.specs.Edges.{are_compatible, is_strong, IsConflict, IsWeak}
 use Rattle.ae_graph.specs.declared.waits.Past.{Past}
 use Rattle.ae_graph.specs.Rising.{IsRisingOf}
@@ -139,14 +139,14 @@ clash (Some m) None h = absurd h
 clash (Some m) (Some n) h = record { first = m; second = n; first_is = refl; second_is = refl; apart = h }
 
 edge_from : (b : Lines) (j : ℕ) (a : Action) (uses : List Use) → statement_at b j ≡ Some a → IsFootprint a uses
-    → (i : ℕ) → Contains (waited_by (opened b j) uses) i → IsEdge b i j
+    → (i : ℕ) → Contains (waited_by (opened b j) uses) i → IsBuiltEdge b i j
 edge_from b j a uses s f i h =
     let g = from_flat_map (λ (u : Use). waited u.mode (opened b j u.what)) uses i h in
     let u = g.0 in
     let w = from_waited u.mode (opened b j u.what) i g.2 in
     let o : IsOpen b j u.what w.0 = is_open b j u.what w.0 w.1 in
     let used : use_at b j u.what ≡ Some u.mode = used_at b j a u.what s ∙ (f.exact u).0 g.1 in
-    subst (λ (n : ℕ). IsEdge b n j) w.2 (record {
+    subst (λ (n : ℕ). IsBuiltEdge b n j) w.2 (record {
       before = o.before;
       on = u.what;
       conflict = conflict_of _ _ w.0.mode u.mode o.used used w.3;
@@ -154,7 +154,7 @@ edge_from b j a uses s f i h =
     })
 
 to_edge : (b : Lines) (j : ℕ) (a : Action) (uses : List Use) → statement_at b j ≡ Some a → IsFootprint a uses
-    → (i : ℕ) → IsEdge b i j → Contains (waited_by (opened b j) uses) i
+    → (i : ℕ) → IsBuiltEdge b i j → Contains (waited_by (opened b j) uses) i
 to_edge b j a uses s f i e =
     let c : Clash (use_at b i e.on) (use_at b j e.on) = clash _ _ e.conflict in
     let p : Past = record { stmt = i; mode = c.first } in

@@ -2,7 +2,7 @@
 use Rattle.std.specs.Prelude.{◌≡◌, ◌<◌, ◌+◌, ◌++◌, ◌↔◌, ℕ, nat_eq, Bool, List, [], ◌∷◌, length, slice_index_or, Option, None, Some, Contains, map}
 use Rattle.ae_text.specs.declared.refusal.Edge.{Edge}
 use Rattle.ae_tree.specs.Plain.{Lines}
-use Rattle.ae_tree.specs.Limits.{count}
+use Rattle.ae_tree.specs.Limits.{statement_count}
 use Rattle.ae_rules.specs.BuiltUses.{ArePreds}
 use Rattle.ae_rules.specs.Edges.{IsRising}
 
@@ -20,7 +20,7 @@ is_free preds = nat_eq (length preds) 0
 -- the graph of this block
 abbrev pub IsGraph : Option Lines → Graph → Type 0
 IsGraph None g = ⊥
-IsGraph (Some b) g = (length g ≡ count b) × ((j : ℕ) → j < length g → ArePreds b j (preds_in g j))
+IsGraph (Some b) g = (length g ≡ statement_count b) × ((j : ℕ) → j < length g → ArePreds b j (preds_in g j))
 
 -- the statements that wait for statement i, rising
 pub record AreSuccs (g : Graph) (i : ℕ) (succs : List ℕ) : Type 0 where

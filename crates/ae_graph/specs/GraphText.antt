@@ -5,8 +5,8 @@ use Rattle.ae_tree.specs.Plain.{Definition, Code}
 use Rattle.ae_graph.specs.Graph.{Graph, IsGraph, is_free}
 
 -- a name as it is written, and nothing for a number without a name
-abbrev pub spelling : List (List ℕ) → ℕ → List ℕ
-spelling names x = slice_index_or names x []
+abbrev pub written_name : List (List ℕ) → ℕ → List ℕ
+written_name names x = slice_index_or names x []
 
 -- each number behind a space
 abbrev pub spaced : List ℕ → List ℕ
@@ -26,7 +26,7 @@ abbrev pub block_text : ℕ → Graph → List ℕ
 block_text number g = codes "block " ++ decimal number ++ codes " has " ++ decimal (length g) ++ codes "\n" ++ lines_text 0 g
 
 abbrev pub method_text : List (List ℕ) → Definition → Graph → List ℕ
-method_text names m g = codes "method " ++ spelling names m.name.name ++ codes "\n" ++ block_text m.no g
+method_text names m g = codes "method " ++ written_name names m.name.name ++ codes "\n" ++ block_text m.no g
 
 -- the texts of methods, one after another, each with the graph of its body
 abbrev pub AreMethodTexts : List (List ℕ) → List Definition → List ℕ → Type 0

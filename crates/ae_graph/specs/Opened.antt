@@ -12,13 +12,13 @@ use Rattle.ae_rules.specs.Edges.{are_compatible, is_strong}
 use Rattle.ae_graph.specs.declared.waits.Past.{Past}
 use Rattle.ae_graph.specs.declared.waits.OpenUses.{OpenUses}
 
-abbrev pub listed : Option (List Past) → List Past
-listed None = []
-listed (Some open_uses) = open_uses
+abbrev pub past_list : Option (List Past) → List Past
+past_list None = []
+past_list (Some open_uses) = open_uses
 
 -- what is kept of a name
 abbrev pub kept : {S : Type 0} → HashMap ℕ (List Past) S → ℕ → List Past
-kept m x = listed (get nat_eq m x)
+kept m x = past_list (get nat_eq m x)
 
 -- what is kept of a resource
 abbrev pub kept_of : OpenUses → Resource → List Past

@@ -1,7 +1,7 @@
 // The graph of a block.
 ghost use Rattle.std.specs.Prelude.{◌≡◌, ◌<◌, ◌≤◌, ◌^◌, List, [], length, IfOk, IsSome, Some, count_by};
 ghost use Rattle.ae_tree.specs.Shown.{code, braced, lines_from};
-ghost use Rattle.ae_tree.specs.Limits.{count, Within};
+ghost use Rattle.ae_tree.specs.Limits.{statement_count, Within};
 ghost use Rattle.ae_tree.specs.Judgement.{Accepted};
 ghost use Rattle.ae_rules.specs.BuiltUses.{block_of};
 ghost use Rattle.ae_graph.specs.Graph.{IsGraph, AreSuccs, preds_in, edges_from, is_free};
@@ -36,7 +36,7 @@ impl Model for BlockGraph {
 
 // The graph of these statements.
 fn graph_of(alloc: Global, stmts: &[Stmt]) -> Result<BlockGraph, AllocError>
-    requires { count (lines_from stmts.now) ≤ 1024 }
+    requires { statement_count (lines_from stmts.now) ≤ 1024 }
     ensures { IfOk result (IsGraph (Some (lines_from stmts.now))) }
 {
     let preds = preds_of(alloc, stmts)?;
@@ -52,7 +52,7 @@ fn graph_of(alloc: Global, stmts: &[Stmt]) -> Result<BlockGraph, AllocError>
 // The graph of a block within the limits.
 #[tactic(auto, using(crate::proofs::Rules::forms))]
 pub fn block_graph(alloc: Global, block: &Block) -> Result<BlockGraph, Memory>
-    requires { count (braced block.now).lines ≤ 1024 }
+    requires { statement_count (braced block.now).lines ≤ 1024 }
     ensures { IfOk result (IsGraph (Some (braced block.now).lines)) }
 {
     match graph_of(alloc, block.stmts.as_slice()) {

@@ -2,10 +2,10 @@
 ghost use Rattle.std.specs.Prelude.{◌≡◌, ◌<◌, ◌≤◌, ◌^◌, ◌++◌, [], ◌∷◌, length, slice_index_or, codes, IfOk, OnOk, Some};
 ghost use Rattle.std.specs.Fmt.{decimal};
 ghost use Rattle.ae_tree.specs.Shown.{definition, code};
-ghost use Rattle.ae_tree.specs.Limits.{count, Within};
+ghost use Rattle.ae_tree.specs.Limits.{statement_count, Within};
 ghost use Rattle.ae_tree.specs.Judgement.{Accepted};
 ghost use Rattle.ae_graph.specs.Graph.{Graph, IsGraph};
-ghost use Rattle.ae_graph.specs.GraphText.{spelling, spaced, line_text, lines_text, block_text, method_text, IsGraphText, PutsMethod};
+ghost use Rattle.ae_graph.specs.GraphText.{written_name, spaced, line_text, lines_text, block_text, method_text, IsGraphText, PutsMethod};
 
 use crate::block::{BlockGraph, block_graph};
 use ae_tree::{Method, Name, Program};
@@ -13,7 +13,7 @@ use ae_text::{Items, Memory};
 use std::alloc::{AllocError, Global};
 
 fn spelling_of(names: &[Items<u8>], name: Name) -> &[u8]
-    ensures { result.now ≡ spelling names.now name }
+    ensures { result.now ≡ written_name names.now name }
 {
     match names.get(name as usize) {
         Some(spelling) => spelling.as_slice(),
@@ -75,7 +75,7 @@ fn put_block_head(
     number: u32,
     count: usize,
 ) -> Result<(), AllocError>
-    ensures { OnOk result (text.new.items ≡ text.old.items ++ (codes "block " ++ decimal number ++ codes " has " ++ decimal count ++ codes "\n")) }
+    ensures { OnOk result (text.new.items ≡ text.old.items ++ (codes "block " ++ decimal number ++ codes " has " ++ decimal statement_count ++ codes "\n")) }
 {
     let head = format!(in alloc; "block {number} has {count}\n")?;
     text.extend_from_slice(head.as_bytes())
@@ -97,7 +97,7 @@ fn put_block(
 
 #[tactic(auto, using(crate::proofs::Rules::forms))]
 fn put_name(text: &mut Vec<u8>, names: &[Items<u8>], name: Name) -> Result<(), AllocError>
-    ensures { OnOk result (text.new.items ≡ text.old.items ++ (codes "method " ++ spelling names.now name ++ codes "\n")) }
+    ensures { OnOk result (text.new.items ≡ text.old.items ++ (codes "method " ++ written_name names.now name ++ codes "\n")) }
 {
     text.extend_from_slice(b"method ")?;
     text.extend_from_slice(spelling_of(names, name))?;
@@ -126,7 +126,7 @@ fn put_method(
     names: &[Items<u8>],
     method: &Method,
 ) -> Result<(), Memory>
-    requires { count (definition method.now).body ≤ 1024 }
+    requires { statement_count (definition method.now).body ≤ 1024 }
     ensures { OnOk result (PutsMethod names.now (definition method.now) text.old.items text.new.items) }
 {
     let graph = block_graph(alloc, &method.body)?;

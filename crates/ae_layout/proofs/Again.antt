@@ -6,11 +6,11 @@ use Rattle.ae_text.specs.declared.token.Keyword.TheVariants as word
 use Rattle.ae_text.specs.declared.token.TokenKind.{TokenKind}
 use Rattle.ae_text.specs.declared.token.TokenKind.TheVariants as t
 use Rattle.ae_text.specs.declared.token.Token.{Token}
-use Rattle.ae_text.specs.Tokens.{Text, tokens_from, end_of, Lexes}
+use Rattle.ae_text.specs.Tokens.{Text, tokens_from, end_token, Lexes}
 use Rattle.ae_tree.specs.Names.{numbered}
 use Rattle.ae_tree.specs.Plain.{Code}
 use Rattle.ae_tree.specs.Grammar.{Derives}
-use Rattle.ae_layout.specs.Layout.{Names, program_rows}
+use Rattle.ae_layout.specs.Layout.{Spellings, program_rows}
 use Rattle.ae_layout.specs.Rows.{Every, CanSpell, kinds_of}
 use Rattle.ae_layout.specs.Laws.{ReadAgain}
 use Rattle.ae_layout.proofs.Cut.{kinds_in, tokens_kinds}
@@ -39,7 +39,7 @@ all_not_this (k ∷ ks) c = (can_not_this k c.0, all_not_this ks c.1)
 text_not_this : (text : Text) (tokens : List Token) → Lexes text tokens → Every NotThis (map (λ x. x.kind) tokens)
 text_not_this text tokens l =
     let same : map (λ (x : Token). x.kind) tokens ≡ kinds_in l.pieces ++ t.End ∷ [] =
-    ap (map (λ (x : Token). x.kind)) l.are ∙ map-append (λ (x : Token). x.kind) (tokens_from text 0 l.pieces) (end_of text ∷ [])
+    ap (map (λ (x : Token). x.kind)) l.are ∙ map-append (λ (x : Token). x.kind) (tokens_from text 0 l.pieces) (end_token text ∷ [])
     ∙ ap (λ ks. ks ++ t.End ∷ []) (tokens_kinds text 0 l.pieces) in
     let P : List TokenKind → Type 0 = Every NotThis in
     subst P (sym same) (all_not_this (kinds_in l.pieces) (source_can text (kinds_in l.pieces) (tokens, l, same)))
@@ -47,7 +47,7 @@ text_not_this text tokens l =
 -- the tokens of a program are those of its layout, and the end
 pub tokens_of_layout : (text : Text) (tokens : List Token) (p : Code) → Lexes text tokens → Derives tokens p → map (λ x. x.kind) tokens ≡ kinds_of (program_rows p) ++ t.End ∷ []
 tokens_of_layout text tokens p l d =
-    let P : Names → Type 0 = λ names. Clean (numbered names tokens) in
+    let P : Spellings → Type 0 = λ names. Clean (numbered names tokens) in
     let clean : Clean (numbered p.names tokens) = subst P (sym d.names) (clean_names tokens (text_not_this text tokens l)) in
     sym (shown_again tokens) ∙ ap (λ names. shown names (numbered names tokens)) (sym d.names) ∙ program_puts tokens p d clean
 

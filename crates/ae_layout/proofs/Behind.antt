@@ -10,7 +10,7 @@ use Rattle.ae_text.specs.Tokens.{Text, Stops, is_digit, begins_word, goes_on, si
 use Rattle.ae_text.proofs.SpellingLemmas.{keyword_is_word, sign_first, signs_start, begins_ascii, NoDouble, single_longest, double_longest}
 use Rattle.ae_text.proofs.QuoteLemmas.{quoted_longest}
 use Rattle.ae_text.proofs.LexLemmas.{spells_sign, spells_quote, longest_word, longest_number}
-use Rattle.ae_layout.specs.Rows.{goes_on_with, parts}
+use Rattle.ae_layout.specs.Rows.{goes_on_with, stay_apart}
 
 -- a character that goes on with a sign, to a longer one or to a comment
 abbrev pub lengthens : ℕ → Bool
@@ -267,7 +267,7 @@ number_behind_sign : (s rest : Text) → IsNumber s → Stops lengthens (s ++ re
 number_behind_sign [] rest w = absurd w
 number_behind_sign (b ∷ s) rest w = digit_lengthens_none b w.0
 
-behind_sign : (h : TokenKind) (g : Sign) (s rest : Text) → IsTrue (parts (t.Sign g) h) → Spells h s → Stops lengthens (s ++ rest)
+behind_sign : (h : TokenKind) (g : Sign) (s rest : Text) → IsTrue (stay_apart (t.Sign g) h) → Spells h s → Stops lengthens (s ++ rest)
 behind_sign (t.Name b) g s rest p w = word_behind_sign s rest w.1
 behind_sign (t.Int n) g s rest p w = number_behind_sign s rest w.0
 behind_sign (t.Text b) g s rest p w = let P : Text → Type 0 = λ x. Stops lengthens (x ++ rest) in subst P (sym w.whole) refl
@@ -276,7 +276,7 @@ behind_sign (t.Sign h) g s rest p w = sign_behind_sign h s rest p w
 behind_sign t.End g s rest p w = absurd w
 
 -- what parts from a token may come behind it
-pub parts_ends : (k h : TokenKind) (s rest : Text) → IsTrue (parts k h) → Spells h s → Ends k (s ++ rest)
+pub parts_ends : (k h : TokenKind) (s rest : Text) → IsTrue (stay_apart k h) → Spells h s → Ends k (s ++ rest)
 parts_ends (t.Sign g) h s rest p w = behind_sign h g s rest p w
 parts_ends (t.Text b) h s rest p w = tt
 parts_ends t.End h s rest p w = tt

@@ -5,10 +5,10 @@ use Rattle.std.proofs.lemmas.Str.{encodes-append, encode_ascii}
 use Rattle.std.proofs.lemmas.List.{map-append}
 use Rattle.ae_text.specs.declared.token.TokenKind.{TokenKind}
 use Rattle.ae_text.specs.declared.token.TokenKind.TheVariants as t
-use Rattle.ae_text.specs.Tokens.{Text, Each, width, Piece, White, Comment, Tok, spelling as piece_spelling, text_of, ArePieces, tokens_from, end_of}
-use Rattle.ae_layout.specs.Spelling.{Printed, gap, printed, spelling, tokens_text}
+use Rattle.ae_text.specs.Tokens.{Text, Each, width, TextPiece, White, Comment, Tok, piece_text as piece_spelling, text_of, ArePieces, tokens_from, end_token}
+use Rattle.ae_layout.specs.Spelling.{Printed, gap, printed_text, token_text, tokens_text}
 use Rattle.ae_layout.specs.Layout.{Row, row_text, rows_text}
-use Rattle.ae_layout.specs.Rows.{Every, CanSpell, parts, PartFrom, ArePart, is_space, IsLaid, kinds, kinds_of, AreSpelled, LexesAs}
+use Rattle.ae_layout.specs.Rows.{Every, CanSpell, stay_apart, PartFrom, ArePart, is_space, IsLaid, kinds, kinds_of, AreSpelled, LexesAs}
 use Rattle.ae_layout.proofs.Escapes.{scalars-append}
 use Rattle.ae_layout.proofs.Written.{Written, written}
 use Rattle.ae_layout.proofs.Behind.{Ends, token_is, space_ends, feed_ends, parts_ends}
@@ -16,7 +16,7 @@ use Rattle.ae_layout.proofs.Behind.{Ends, token_is, space_ends, feed_ends, parts
 -- ---- a text with its pieces
 
 -- the kinds of the tokens among pieces
-abbrev pub kinds_in : List Piece → List TokenKind
+abbrev pub kinds_in : List TextPiece → List TokenKind
 kinds_in [] = []
 kinds_in (White c ∷ ps) = kinds_in ps
 kinds_in (Comment s ∷ ps) = kinds_in ps
@@ -24,7 +24,7 @@ kinds_in (Tok k s ∷ ps) = k ∷ kinds_in ps
 
 -- bytes of these characters are cut into tokens of these kinds
 pub record IsCut (bytes cs : Text) (ks : List TokenKind) : Type 0 where
-  pub pieces : List Piece
+  pub pieces : List TextPiece
   pub bytes_are : bytes ≡ encode_utf8_all cs
   pub scalars : all_scalars cs ≡ true
   pub text_is : text_of pieces ≡ cs
@@ -57,7 +57,7 @@ cut_feed bytes cs ks c = record {
 }
 
 -- with a token before it
-cut_token : (k : TokenKind) (bytes cs : Text) (ks : List TokenKind) (w : Written k) → Ends k cs → IsCut bytes cs ks → IsCut (spelling k ++ bytes) (w.characters ++ cs) (k ∷ ks)
+cut_token : (k : TokenKind) (bytes cs : Text) (ks : List TokenKind) (w : Written k) → Ends k cs → IsCut bytes cs ks → IsCut (token_text k ++ bytes) (w.characters ++ cs) (k ∷ ks)
 cut_token k bytes cs ks w e c =
     let P : Text → Type 0 = Ends k in
     let rest : Ends k (text_of c.pieces ++ []) = subst P (sym (append-nil (text_of c.pieces) ∙ c.text_is)) e in
@@ -78,11 +78,11 @@ record Behind (k : TokenKind) (bytes : Text) (ks : List TokenKind) : Type 0 wher
   cut : IsCut bytes characters ks
   ends : Ends k characters
 
-printed_is : (x : Printed) → printed x ≡ gap x.close ++ spelling x.kind
-unfolding printed
+printed_is : (x : Printed) → printed_text x ≡ gap x.close ++ token_text x.kind
+unfolding printed_text
 printed_is x = refl
 
-token_behind : (close : Bool) (j k : TokenKind) (bytes : Text) (ks : List TokenKind) → (close ≡ true → IsTrue (parts j k)) → Written k → Behind k bytes ks → Behind j ((gap close ++ spelling k) ++ bytes) (k ∷ ks)
+token_behind : (close : Bool) (j k : TokenKind) (bytes : Text) (ks : List TokenKind) → (close ≡ true → IsTrue (stay_apart j k)) → Written k → Behind k bytes ks → Behind j ((gap close ++ token_text k) ++ bytes) (k ∷ ks)
 token_behind true j k bytes ks p w b = record {
   characters = w.characters ++ b.characters;
   cut = cut_token k bytes b.characters ks w b.ends b.cut;
@@ -90,7 +90,7 @@ token_behind true j k bytes ks p w b = record {
 }
 token_behind false j k bytes ks p w b = record {
   characters = 32 ∷ (w.characters ++ b.characters);
-  cut = cut_space (spelling k ++ bytes) (w.characters ++ b.characters) (k ∷ ks) (cut_token k bytes b.characters ks w b.ends b.cut);
+  cut = cut_space (token_text k ++ bytes) (w.characters ++ b.characters) (k ∷ ks) (cut_token k bytes b.characters ks w b.ends b.cut);
   ends = space_ends j (w.characters ++ b.characters);
 }
 
@@ -100,7 +100,7 @@ behind_as k bytes bytes' ks e b = let P : Text → Type 0 = λ x. Behind k x ks 
 tokens_behind : (k : TokenKind) (xs : List Printed) (bytes : Text) (ks : List TokenKind) → PartFrom k xs → Every CanSpell (kinds xs) → ((j : TokenKind) → Behind j bytes ks) → Behind k (tokens_text xs ++ bytes) (kinds xs ++ ks)
 tokens_behind k [] bytes ks p c b = b k
 tokens_behind k (x ∷ xs) bytes ks p c b =
-    behind_as k _ _ _ (sym (append_assoc (printed x) (tokens_text xs) bytes ∙ ap (λ y. y ++ (tokens_text xs ++ bytes)) (printed_is x)))
+    behind_as k _ _ _ (sym (append_assoc (printed_text x) (tokens_text xs) bytes ∙ ap (λ y. y ++ (tokens_text xs ++ bytes)) (printed_is x)))
     (token_behind x.close k x.kind (tokens_text xs ++ bytes) (kinds xs ++ ks) p.0 (written x.kind c.0) (tokens_behind x.kind xs bytes ks p.1 c.1 b))
 
 -- ---- a line
@@ -111,9 +111,9 @@ Whole bytes ks = (cs : Text) × IsCut bytes cs ks
 feed_behind : (bytes : Text) (ks : List TokenKind) → Whole bytes ks → (j : TokenKind) → Behind j (10 ∷ bytes) ks
 feed_behind bytes ks w j = record { characters = 10 ∷ w.0; cut = cut_feed bytes w.0 ks w.1; ends = feed_ends j w.0 }
 
-token_whole : (close : Bool) (k : TokenKind) (bytes : Text) (ks : List TokenKind) → Written k → Behind k bytes ks → Whole ((gap close ++ spelling k) ++ bytes) (k ∷ ks)
+token_whole : (close : Bool) (k : TokenKind) (bytes : Text) (ks : List TokenKind) → Written k → Behind k bytes ks → Whole ((gap close ++ token_text k) ++ bytes) (k ∷ ks)
 token_whole true k bytes ks w b = (w.characters ++ b.characters, cut_token k bytes b.characters ks w b.ends b.cut)
-token_whole false k bytes ks w b = (32 ∷ (w.characters ++ b.characters), cut_space (spelling k ++ bytes) (w.characters ++ b.characters) (k ∷ ks) (cut_token k bytes b.characters ks w b.ends b.cut))
+token_whole false k bytes ks w b = (32 ∷ (w.characters ++ b.characters), cut_space (token_text k ++ bytes) (w.characters ++ b.characters) (k ∷ ks) (cut_token k bytes b.characters ks w b.ends b.cut))
 
 whole_as : (bytes bytes' : Text) (ks : List TokenKind) → bytes ≡ bytes' → Whole bytes ks → Whole bytes' ks
 whole_as bytes bytes' ks e w = let P : Text → Type 0 = λ x. Whole x ks in subst P e w
@@ -121,7 +121,7 @@ whole_as bytes bytes' ks e w = let P : Text → Type 0 = λ x. Whole x ks in sub
 line_whole : (xs : List Printed) (bytes : Text) (ks : List TokenKind) → ArePart xs → Every CanSpell (kinds xs) → Whole bytes ks → Whole (tokens_text xs ++ 10 ∷ bytes) (kinds xs ++ ks)
 line_whole [] bytes ks p c w = (10 ∷ w.0, cut_feed bytes w.0 ks w.1)
 line_whole (x ∷ xs) bytes ks p c w =
-    whole_as _ _ _ (sym (append_assoc (printed x) (tokens_text xs) (10 ∷ bytes) ∙ ap (λ y. y ++ (tokens_text xs ++ 10 ∷ bytes)) (printed_is x)))
+    whole_as _ _ _ (sym (append_assoc (printed_text x) (tokens_text xs) (10 ∷ bytes) ∙ ap (λ y. y ++ (tokens_text xs ++ 10 ∷ bytes)) (printed_is x)))
     (token_whole x.close x.kind (tokens_text xs ++ 10 ∷ bytes) (kinds xs ++ ks) (written x.kind c.0) (tokens_behind x.kind xs (10 ∷ bytes) ks p c.1 (feed_behind bytes ks w)))
 
 indent_whole : (s bytes : Text) (ks : List TokenKind) → Each is_space s → Whole bytes ks → Whole (s ++ bytes) ks
@@ -152,7 +152,7 @@ rows_whole (r ∷ rs) l c =
     (indent_whole r.indent _ _ l.0.0 (line_whole r.tokens (rows_text rs) (kinds_of rs) l.0.1 (every_front CanSpell (kinds r.tokens) (kinds_of rs) c) rest))
 
 -- the tokens of pieces have their kinds
-pub tokens_kinds : (bytes : Text) (at : ℕ) (ps : List Piece) → map (λ x. x.kind) (tokens_from bytes at ps) ≡ kinds_in ps
+pub tokens_kinds : (bytes : Text) (at : ℕ) (ps : List TextPiece) → map (λ x. x.kind) (tokens_from bytes at ps) ≡ kinds_in ps
 tokens_kinds bytes at [] = refl
 tokens_kinds bytes at (White c ∷ ps) = tokens_kinds bytes (at + width (piece_spelling (White c))) ps
 tokens_kinds bytes at (Comment s ∷ ps) = tokens_kinds bytes (at + width (piece_spelling (Comment s))) ps
@@ -160,9 +160,9 @@ tokens_kinds bytes at (Tok k s ∷ ps) = ap (λ l. k ∷ l) (tokens_kinds bytes 
 
 cut_lexes : (bytes cs : Text) (ks : List TokenKind) → IsCut bytes cs ks → LexesAs bytes ks
 cut_lexes bytes cs ks c = (
-  tokens_from bytes 0 c.pieces ++ end_of bytes ∷ [],
+  tokens_from bytes 0 c.pieces ++ end_token bytes ∷ [],
   record { pieces = c.pieces; utf8 = (cs, (c.scalars, sym c.bytes_are)); whole = c.bytes_are ∙ ap encode_utf8_all (sym c.text_is); each = c.each; are = refl },
-  map-append (λ x. x.kind) (tokens_from bytes 0 c.pieces) (end_of bytes ∷ []) ∙ ap (λ l. l ++ t.End ∷ []) (tokens_kinds bytes 0 c.pieces ∙ c.kinds_are),
+  map-append (λ x. x.kind) (tokens_from bytes 0 c.pieces) (end_token bytes ∷ []) ∙ ap (λ l. l ++ t.End ∷ []) (tokens_kinds bytes 0 c.pieces ∙ c.kinds_are),
 )
 
 -- the text of lines whose tokens part is cut into those tokens

@@ -6,8 +6,8 @@ use Rattle.std.specs.Str.{encode_utf8_all, all_scalars}
 use Rattle.std.proofs.lemmas.Str.{encodes-append, encode_ascii, inside_one}
 use Rattle.ae_text.specs.declared.texts.Part.{Part}
 use Rattle.ae_text.specs.declared.texts.Part.TheVariants.{Plain, Escape}
-use Rattle.ae_text.specs.Tokens.{Text, in_text, escaped, spelled, AreParts, AreKnown, meant, IsQuoted}
-use Rattle.ae_layout.specs.Spelling.{escaped as written_byte, all_escaped}
+use Rattle.ae_text.specs.Tokens.{Text, in_text, escape_meaning, parts_text, AreParts, AreKnownEscapes, parts_meaning, IsQuoted}
+use Rattle.ae_layout.specs.Spelling.{escaped_byte as written_byte, all_escaped}
 use Rattle.ae_text.proofs.TextLemmas.{spelled-append, parts-append}
 
 -- ---- one character
@@ -90,11 +90,11 @@ itself_char c e = by_size (cases_lt c 128)
 -- ---- what the part of a character comes to
 
 record Fits (c : ℕ) (p : Part) : Type 0 where
-  bytes : encode_utf8_all (spelled (p ∷ [])) ≡ all_escaped (encode_utf8 c)
+  bytes : encode_utf8_all (parts_text (p ∷ [])) ≡ all_escaped (encode_utf8 c)
   are : AreParts (p ∷ [])
-  known : AreKnown (p ∷ [])
-  value_is : meant (p ∷ []) ≡ c ∷ []
-  scalars : IsScalar c → all_scalars (spelled (p ∷ [])) ≡ true
+  known : AreKnownEscapes (p ∷ [])
+  value_is : parts_meaning (p ∷ []) ≡ c ∷ []
+  scalars : IsScalar c → all_scalars (parts_text (p ∷ [])) ≡ true
 
 ascii_two : (a b c : ℕ) → a < 128 → b < 128 → c < 128 → a ∷ b ∷ [] ≡ written_byte c → encode_utf8_all (a ∷ b ∷ []) ≡ all_escaped (encode_utf8 c)
 ascii_two a b c l m n e =
@@ -124,46 +124,46 @@ abbrev pub parts_of : Text → List Part
 parts_of [] = []
 parts_of (c ∷ cs) = part_of c ∷ parts_of cs
 
-known_more : (p : Part) (ps : List Part) → AreKnown (p ∷ []) → AreKnown ps → AreKnown (p ∷ ps)
+known_more : (p : Part) (ps : List Part) → AreKnownEscapes (p ∷ []) → AreKnownEscapes ps → AreKnownEscapes (p ∷ ps)
 known_more (Plain c) ps m n = n
 known_more (Escape c) ps m n = (m.0, n)
 
-meant_more : (p : Part) (ps : List Part) → meant (p ∷ ps) ≡ meant (p ∷ []) ++ meant ps
+meant_more : (p : Part) (ps : List Part) → parts_meaning (p ∷ ps) ≡ parts_meaning (p ∷ []) ++ parts_meaning ps
 meant_more (Plain c) ps = refl
 meant_more (Escape c) ps = refl
 
-parts_bytes : (cs : Text) → encode_utf8_all (spelled (parts_of cs)) ≡ all_escaped (encode_utf8_all cs)
+parts_bytes : (cs : Text) → encode_utf8_all (parts_text (parts_of cs)) ≡ all_escaped (encode_utf8_all cs)
 parts_bytes [] = refl
 parts_bytes (c ∷ cs) =
-    ap encode_utf8_all (spelled-append (part_of c ∷ []) (parts_of cs)) ∙ encodes-append (spelled (part_of c ∷ [])) (spelled (parts_of cs))
-    ∙ ap (λ x. x ++ encode_utf8_all (spelled (parts_of cs))) (fits c).bytes ∙ ap (λ x. all_escaped (encode_utf8 c) ++ x) (parts_bytes cs)
+    ap encode_utf8_all (spelled-append (part_of c ∷ []) (parts_of cs)) ∙ encodes-append (parts_text (part_of c ∷ [])) (parts_text (parts_of cs))
+    ∙ ap (λ x. x ++ encode_utf8_all (parts_text (parts_of cs))) (fits c).bytes ∙ ap (λ x. all_escaped (encode_utf8 c) ++ x) (parts_bytes cs)
     ∙ sym (all_escaped-append (encode_utf8 c) (encode_utf8_all cs))
 
 parts_are : (cs : Text) → AreParts (parts_of cs)
 parts_are [] = tt
 parts_are (c ∷ cs) = parts-append (part_of c ∷ []) (parts_of cs) (fits c).are (parts_are cs)
 
-parts_known : (cs : Text) → AreKnown (parts_of cs)
+parts_known : (cs : Text) → AreKnownEscapes (parts_of cs)
 parts_known [] = tt
 parts_known (c ∷ cs) = known_more (part_of c) (parts_of cs) (fits c).known (parts_known cs)
 
-parts_mean : (cs : Text) → meant (parts_of cs) ≡ cs
+parts_mean : (cs : Text) → parts_meaning (parts_of cs) ≡ cs
 parts_mean [] = refl
-parts_mean (c ∷ cs) = meant_more (part_of c) (parts_of cs) ∙ ap (λ x. x ++ meant (parts_of cs)) (fits c).value_is ∙ ap (λ x. c ∷ x) (parts_mean cs)
+parts_mean (c ∷ cs) = meant_more (part_of c) (parts_of cs) ∙ ap (λ x. x ++ parts_meaning (parts_of cs)) (fits c).value_is ∙ ap (λ x. c ∷ x) (parts_mean cs)
 
-parts_scalars : (cs : Text) → all_scalars cs ≡ true → all_scalars (spelled (parts_of cs)) ≡ true
+parts_scalars : (cs : Text) → all_scalars cs ≡ true → all_scalars (parts_text (parts_of cs)) ≡ true
 parts_scalars [] h = refl
 parts_scalars (c ∷ cs) h =
     let p = both_true _ (all_scalars cs) h in
     let P : Text → Type 0 = λ x. all_scalars x ≡ true in
-    subst P (sym (spelled-append (part_of c ∷ []) (parts_of cs))) (scalars-append (spelled (part_of c ∷ [])) (spelled (parts_of cs)) ((fits c).scalars p.0) (parts_scalars cs p.1))
+    subst P (sym (spelled-append (part_of c ∷ []) (parts_of cs))) (scalars-append (parts_text (part_of c ∷ [])) (parts_text (parts_of cs)) ((fits c).scalars p.0) (parts_scalars cs p.1))
 
 -- ---- the characters that parts stand for
 
-meant_scalars : (ps : List Part) → all_scalars (spelled ps) ≡ true → AreKnown ps → all_scalars (meant ps) ≡ true
+meant_scalars : (ps : List Part) → all_scalars (parts_text ps) ≡ true → AreKnownEscapes ps → all_scalars (parts_meaning ps) ≡ true
 meant_scalars [] h k = refl
-meant_scalars (Plain c ∷ ps) h k = let p = both_true _ (all_scalars (spelled ps)) h in rw p.0 (meant_scalars ps p.1 k)
-meant_scalars (Escape c ∷ ps) h k = let p = both_true _ (all_scalars (spelled ps)) h in scalars-append (escaped c ∷ []) (meant ps) (scalar_one (escaped c) (by_test (c == 110) (c == 116) p.0)) (meant_scalars ps p.1 k.1)
+meant_scalars (Plain c ∷ ps) h k = let p = both_true _ (all_scalars (parts_text ps)) h in rw p.0 (meant_scalars ps p.1 k)
+meant_scalars (Escape c ∷ ps) h k = let p = both_true _ (all_scalars (parts_text ps)) h in scalars-append (escape_meaning c ∷ []) (parts_meaning ps) (scalar_one (escape_meaning c) (by_test (c == 110) (c == 116) p.0)) (meant_scalars ps p.1 k.1)
   where
     by_test : (m n : Bool) → IsScalar c → IsScalar (if m then 10 else (if n then 9 else c))
     by_test true n h = refl
@@ -177,20 +177,20 @@ inner_scalars (c ∷ s) h = let p = both_true _ (all_scalars (s ++ 34 ∷ [])) h
 -- ---- the text as the layout writes it
 
 abbrev pub quoted : Text → Text
-quoted cs = 34 ∷ (spelled (parts_of cs) ++ 34 ∷ [])
+quoted cs = 34 ∷ (parts_text (parts_of cs) ++ 34 ∷ [])
 
 pub quoted_bytes : (cs : Text) → encode_utf8_all (quoted cs) ≡ 34 ∷ (all_escaped (encode_utf8_all cs) ++ 34 ∷ [])
 quoted_bytes cs =
-    ap (λ x. x ++ encode_utf8_all (spelled (parts_of cs) ++ 34 ∷ [])) (encode_ascii 34 (lit< tt))
-    ∙ ap (λ x. 34 ∷ x) (encodes-append (spelled (parts_of cs)) (34 ∷ []) ∙ ap (λ x. x ++ encode_utf8_all (34 ∷ [])) (parts_bytes cs) ∙ ap (λ x. all_escaped (encode_utf8_all cs) ++ (x ++ [])) (encode_ascii 34 (lit< tt)))
+    ap (λ x. x ++ encode_utf8_all (parts_text (parts_of cs) ++ 34 ∷ [])) (encode_ascii 34 (lit< tt))
+    ∙ ap (λ x. 34 ∷ x) (encodes-append (parts_text (parts_of cs)) (34 ∷ []) ∙ ap (λ x. x ++ encode_utf8_all (34 ∷ [])) (parts_bytes cs) ∙ ap (λ x. all_escaped (encode_utf8_all cs) ++ (x ++ [])) (encode_ascii 34 (lit< tt)))
 
 pub quoted_is : (bytes cs : Text) → bytes ≡ encode_utf8_all cs → IsQuoted bytes (quoted cs)
 quoted_is bytes cs e = record { parts = parts_of cs; whole = refl; are = parts_are cs; known = parts_known cs; value_is = e ∙ ap encode_utf8_all (sym (parts_mean cs)) }
 
 pub quoted_scalars : (cs : Text) → all_scalars cs ≡ true → all_scalars (quoted cs) ≡ true
-quoted_scalars cs h = scalars-append (spelled (parts_of cs)) (34 ∷ []) (parts_scalars cs h) refl
+quoted_scalars cs h = scalars-append (parts_text (parts_of cs)) (34 ∷ []) (parts_scalars cs h) refl
 
-pub value_scalars : (bytes s : Text) (q : IsQuoted bytes s) → all_scalars s ≡ true → all_scalars (meant q.parts) ≡ true
+pub value_scalars : (bytes s : Text) (q : IsQuoted bytes s) → all_scalars s ≡ true → all_scalars (parts_meaning q.parts) ≡ true
 value_scalars bytes s q h =
     let P : Text → Type 0 = λ x. all_scalars x ≡ true in
-    meant_scalars q.parts (inner_scalars (spelled q.parts) (subst P q.whole h)) q.known
+    meant_scalars q.parts (inner_scalars (parts_text q.parts) (subst P q.whole h)) q.known

@@ -7,7 +7,7 @@ use Rattle.ae_tree.specs.declared.limits.Limit.TheVariants as limit
 use Rattle.ae_tree.specs.declared.tree.Me.{Me}
 use Rattle.ae_tree.specs.Plain.{Expression, Number, Truth, Nothing, Read, Item, Length, Grouped, Negated, Minus, Binary, RightSide, Value, Taken, Zeros, Made, Returned, Lines, End, Next, Definition, Code}
 use Rattle.ae_tree.specs.Plain.{Action, Declares, Assigns, Stores, StoresAt, Calls, Chooses, ChoosesElse, Repeats, Groups, Splits, Locks, Freezes, Shares, Prints, PrintsText, Asserts, Returns}
-use Rattle.ae_tree.specs.Limits.{marks, Keeps, AllKeep, KeepsRight, count, IsFew, Opens, KeepsIn, EachKeeps, one_for, HasFewParams, KeepsMethod, KeepsTo, Within}
+use Rattle.ae_tree.specs.Limits.{marks, KeepsDepth, AllKeepDepth, KeepsRight, statement_count, IsFew, Opens, KeepsIn, EachKeeps, one_for, HasFewParams, KeepsMethod, KeepsTo, Within}
 use Rattle.ae_layout.specs.Places.{optional, unplaced_name, unplaced_expression, unplaced_right, unplaced_action, unplaced_lines, unplaced_me, unplaced_param, unplaced_method, unplaced}
 
 -- each says the other
@@ -52,14 +52,14 @@ marks_same (Negated e at) = ap (λ n. 1 + n) (marks_same e)
 marks_same (Minus e at) = ap (λ n. 1 + n) (marks_same e)
 marks_same (Binary op a b) = ap₂ (λ n m. n + 1 + m) (marks_same a) (marks_same b)
 
-keeps_same : (l : Limit) (e : Expression) → Same (Keeps l (unplaced_expression e)) (Keeps l e)
+keeps_same : (l : Limit) (e : Expression) → Same (KeepsDepth l (unplaced_expression e)) (KeepsDepth l e)
 keeps_same limit.Depth e = same_at (λ n. n ≤ 256) (marks (unplaced_expression e)) (marks e) (marks_same e)
 keeps_same limit.Statements e = same_it _
 keeps_same limit.Levels e = same_it _
 keeps_same limit.Params e = same_it _
 
-all_same : (l : Limit) (es : List Expression) → Same (AllKeep l (map unplaced_expression es)) (AllKeep l es)
-all_same l es = same_all unplaced_expression (Keeps l) (Keeps l) (keeps_same l) es
+all_same : (l : Limit) (es : List Expression) → Same (AllKeepDepth l (map unplaced_expression es)) (AllKeepDepth l es)
+all_same l es = same_all unplaced_expression (KeepsDepth l) (KeepsDepth l) (keeps_same l) es
 
 right_same : (l : Limit) (r : RightSide) → Same (KeepsRight l (unplaced_right r)) (KeepsRight l r)
 right_same l (Value e) = keeps_same l e
@@ -68,12 +68,12 @@ right_same l (Zeros e at) = keeps_same l e
 right_same l (Made c gs es at) = all_same l es
 right_same l (Returned c) = all_same l c.args
 
-count_same : (b : Lines) → count (unplaced_lines b) ≡ count b
+count_same : (b : Lines) → statement_count (unplaced_lines b) ≡ statement_count b
 count_same End = refl
 count_same (Next at a rest) = ap (λ n. n + 1) (count_same rest)
 
 few_same : (l : Limit) (b : Lines) → Same (IsFew l (unplaced_lines b)) (IsFew l b)
-few_same limit.Statements b = same_at (λ n. n ≤ 1024) (count (unplaced_lines b)) (count b) (count_same b)
+few_same limit.Statements b = same_at (λ n. n ≤ 1024) (statement_count (unplaced_lines b)) (statement_count b) (count_same b)
 few_same limit.Depth b = same_it _
 few_same limit.Levels b = same_it _
 few_same limit.Params b = same_it _

@@ -17,7 +17,7 @@ use Rattle.ae_tree.specs.declared.tree.Path.{Path}
 use Rattle.ae_tree.specs.declared.tree.Ty.{Ty}
 use Rattle.ae_tree.specs.declared.tree.Ty.TheVariants as ty
 use Rattle.ae_tree.specs.Plain.{Expression, Number, Truth, Nothing, Read, Item, Length, Grouped, Negated, Minus, Binary, Invocation, RightSide, Value, Taken, Zeros, Made, Returned}
-use Rattle.ae_tree.specs.Grammar.{Tokens, ◌⨾◌, one_at, one, a_word, a_sign, nothing, each, further, separated, listed, name, root, step, path, groups, permission, kind, type_, level, left_level, sign_of, truth, expression, whole, arguments, receiver, call, right_side}
+use Rattle.ae_tree.specs.Grammar.{Tokens, ◌⨾◌, one_at, one_token, a_word, a_sign, no_tokens, one_by_one, further, separated, comma_list, name, root, path_step, path, groups, permission, kind, type_, level, left_level, sign_of, truth_word, expression_at, whole_expression, arguments, receiver, call_written, right_of_equals}
 use Rattle.ae_layout.specs.Places.{nowhere, optional, unplaced_name, unplaced_permission, unplaced_kind, unplaced_type, unplaced_path, unplaced_expression, unplaced_call, unplaced_right}
 
 -- ---- equations of several arguments
@@ -79,7 +79,7 @@ moves_then m n us vs e d =
     record { y = (a.y, b.y); is = record { front = c.front; back = c.back; parts = c.parts; first = a.is; second = b.is }; same = (a.same, b.same) }
 
 -- the one token of a text of one token
-pub moves_one : (k : Lexical) (at : Spot) (us vs : Tokens) → kinds us ≡ kinds vs → one_at k at us → one k vs
+pub moves_one : (k : Lexical) (at : Spot) (us vs : Tokens) → kinds us ≡ kinds vs → one_at k at us → one_token k vs
 moves_one k at us [] e d = let none : k ∷ [] ≡ [] = ap kinds (sym d) ∙ e in absurd (cc)
 moves_one k at us (y ∷ []) e d =
     let all : k ∷ [] ≡ y.kind ∷ [] = ap kinds (sym d) ∙ e in
@@ -90,7 +90,7 @@ moves_one k at us (y ∷ z ∷ vs) e d = let all : k ∷ [] ≡ y.kind ∷ z.kin
 pub moves_at : (k : Lexical) (at : Spot) → Moves (one_at k at) (one_at k) (λ y. Unit {0})
 moves_at k at us vs e d = let m = moves_one k at us vs e d in record { y = m.0; is = m.1; same = tt }
 
-pub moves_mark : (k : Lexical) → Moves (one k) (λ (y : Unit {0}). one k) (λ y. Unit {0})
+pub moves_mark : (k : Lexical) → Moves (one_token k) (λ (y : Unit {0}). one_token k) (λ y. Unit {0})
 moves_mark k us vs e d = record { y = tt; is = moves_one k d.0 us vs e d.1; same = tt }
 
 pub moves_sign : (g : Sign) → Moves (a_sign g) (λ (y : Unit {0}). a_sign g) (λ y. Unit {0})
@@ -99,13 +99,13 @@ moves_sign g = moves_mark (tok.Sign g)
 pub moves_word : (w : Keyword) → Moves (a_word w) (λ (y : Unit {0}). a_word w) (λ y. Unit {0})
 moves_word w = moves_mark (tok.Word w)
 
-pub no_tokens : (us vs : Tokens) → kinds us ≡ kinds vs → nothing us → nothing vs
+pub no_tokens : (us vs : Tokens) → kinds us ≡ kinds vs → no_tokens us → no_tokens vs
 no_tokens us [] e d = refl
 no_tokens us (y ∷ vs) e d = let none : [] ≡ y.kind ∷ kinds vs = ap kinds (sym d) ∙ e in absurd (cc)
 
 -- ---- lists
 
-pub moved_each : {A B : Type 0} (D : Lang A) (bare : A → B) → ((x : A) → Moved D bare x) → (xs : List A) → Moved (each D) (map bare) xs
+pub moved_each : {A B : Type 0} (D : Lang A) (bare : A → B) → ((x : A) → Moved D bare x) → (xs : List A) → Moved (one_by_one D) (map bare) xs
 moved_each D bare m [] us vs e d = record { y = []; is = no_tokens us vs e d; same = refl }
 moved_each D bare m (x ∷ xs) us vs e d =
     let a = moves_then (m x) (moved_each D bare m xs) us vs e d in
@@ -122,7 +122,7 @@ moved_separated D bare m (x ∷ xs) us vs e d =
     let a = moves_then (m x) (moved_each (further D) bare (moved_further D bare m) xs) us vs e d in
     record { y = a.y.0 ∷ a.y.1; is = a.is; same = ap2 (λ z zs. z ∷ zs) a.same.0 a.same.1 }
 
-pub moved_listed : {A B : Type 0} (D : Lang A) (bare : A → B) → ((x : A) → Moved D bare x) → (xs : List A) → Moved (listed D) (map bare) xs
+pub moved_listed : {A B : Type 0} (D : Lang A) (bare : A → B) → ((x : A) → Moved D bare x) → (xs : List A) → Moved (comma_list D) (map bare) xs
 moved_listed D bare m [] us vs e d = record { y = []; is = no_tokens us vs e d; same = refl }
 moved_listed D bare m (x ∷ xs) us vs e d =
     let a = moves_then (m x) (moved_each (further D) bare (moved_further D bare m) xs) us vs e d in
@@ -144,12 +144,12 @@ pub moved_root : (x : NameAt) → Moved root unplaced_name x
 moved_root x us vs e (inl d) = let m = moves_one (tok.Name x.name) x.at us vs e d in record { y = record { name = x.name; at = m.0 }; is = inl m.1; same = refl }
 moved_root x us vs e (inr d) = let m = moves_one (tok.Word word.This) x.at us vs e d.1 in record { y = record { name = x.name; at = m.0 }; is = inr (d.0, m.1); same = refl }
 
-pub moved_step : (x : NameAt) → Moved step unplaced_name x
+pub moved_step : (x : NameAt) → Moved path_step unplaced_name x
 moved_step x us vs e d = let a = moves_then (moves_sign sign.Dot) (moved_name x) us vs e d in record { y = a.y.1; is = a.is; same = a.same.1 }
 
 pub moved_path : (p : Path) → Moved path unplaced_path p
 moved_path p us vs e d =
-    let a = moves_then (moved_root p.root) (moved_each step unplaced_name moved_step p.steps) us vs e d in
+    let a = moves_then (moved_root p.root) (moved_each path_step unplaced_name moved_step p.steps) us vs e d in
     record { y = record { root = a.y.0; steps = a.y.1 }; is = a.is; same = ap2 (λ r s. record { root = r; steps = s }) a.same.0 a.same.1 }
 
 pub moved_groups : (gs : List NameAt) → Moved groups (map unplaced_name) gs
@@ -181,9 +181,9 @@ moved_type (ty.Object p k) us vs e d =
 
 -- ---- expressions
 
-pub moved_expression : (x : Expression) (l : ℕ) → Moves (expression x l) (λ y. expression y l) (λ y. unplaced_expression y ≡ unplaced_expression x)
+pub moved_expression : (x : Expression) (l : ℕ) → Moves (expression_at x l) (λ y. expression_at y l) (λ y. unplaced_expression y ≡ unplaced_expression x)
 moved_expression (Number n at) l us vs e d = let m = moves_one (tok.Int n) at us vs e d in record { y = Number n m.0; is = m.1; same = refl }
-moved_expression (Truth b at) l us vs e d = let m = moves_one (tok.Word (truth b)) at us vs e d in record { y = Truth b m.0; is = m.1; same = refl }
+moved_expression (Truth b at) l us vs e d = let m = moves_one (tok.Word (truth_word b)) at us vs e d in record { y = Truth b m.0; is = m.1; same = refl }
 moved_expression (Nothing at) l us vs e d = let m = moves_one (tok.Word word.Null) at us vs e d in record { y = Nothing m.0; is = m.1; same = refl }
 moved_expression (Read p) l us vs e d = let a = moved_path p us vs e d in record { y = Read a.y; is = a.is; same = ap Read a.same }
 moved_expression (Item p x) l us vs e d =
@@ -205,14 +205,14 @@ moved_expression (Binary o x y) l us vs e d =
     let a = moves_then (moved_expression x (left_level o)) (moves_then (moves_sign (sign_of o)) (moved_expression y (level o + 1))) us vs e d.1 in
     record { y = Binary o a.y.0 a.y.1.1; is = (d.0, a.is); same = ap2 (Binary o) a.same.0 a.same.1.1 }
 
-pub moved_whole : (x : Expression) → Moved whole unplaced_expression x
+pub moved_whole : (x : Expression) → Moved whole_expression unplaced_expression x
 moved_whole x = moved_expression x 0
 
 -- ---- calls and right sides
 
 pub moved_arguments : (es : List Expression) → Moved arguments (map unplaced_expression) es
 moved_arguments es us vs e d =
-    let a = moves_then (moves_sign sign.OpenParen) (moves_then (moved_listed whole unplaced_expression moved_whole es) (moves_sign sign.CloseParen)) us vs e d in
+    let a = moves_then (moves_sign sign.OpenParen) (moves_then (moved_listed whole_expression unplaced_expression moved_whole es) (moves_sign sign.CloseParen)) us vs e d in
     record { y = a.y.1.0; is = a.is; same = a.same.1.0 }
 
 pub moved_receiver : (r : Option Path) → Moved receiver (optional unplaced_path) r
@@ -224,13 +224,13 @@ moved_receiver (Some p) us vs e d =
 call_of : Option Path → NameAt → List NameAt → List Expression → Invocation
 call_of on method groups args = record { on = on; method = method; groups = groups; args = args }
 
-pub moved_call : (c : Invocation) → Moved call unplaced_call c
+pub moved_call : (c : Invocation) → Moved call_written unplaced_call c
 unfolding call_of
 moved_call c us vs e d =
     let a = moves_then (moved_receiver c.on) (moves_then (moved_name c.method) (moves_then (moved_groups c.groups) (moved_arguments c.args))) us vs e d in
     record { y = call_of a.y.0 a.y.1.0 a.y.1.1.0 a.y.1.1.1; is = a.is; same = ap4 call_of a.same.0 a.same.1.0 a.same.1.1.0 a.same.1.1.1 }
 
-pub moved_right : (r : RightSide) → Moved right_side unplaced_right r
+pub moved_right : (r : RightSide) → Moved right_of_equals unplaced_right r
 moved_right (Value x) us vs e d = let a = moved_whole x us vs e d in record { y = Value a.y; is = a.is; same = ap Value a.same }
 moved_right (Taken p at) us vs e d =
     let a = moves_then (moves_at (tok.Word word.Take) at) (moved_path p) us vs e d.1 in

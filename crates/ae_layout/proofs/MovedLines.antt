@@ -7,7 +7,7 @@ use Rattle.ae_tree.specs.declared.lexeme.Lexical.TheVariants as tok
 use Rattle.ae_tree.specs.declared.tree.Path.{Path}
 use Rattle.ae_tree.specs.Plain.{Expression, Lines, End, Next}
 use Rattle.ae_tree.specs.Plain.{Action, Declares, Assigns, Stores, StoresAt, Calls, Chooses, ChoosesElse, Repeats, Groups, Splits, Locks, Freezes, Shares, Prints, PrintsText, Asserts, Returns}
-use Rattle.ae_tree.specs.Grammar.{Tokens, ◌⨾◌, opened, opened_in, first_spot, braced, statement, statements, returning, with_return, body}
+use Rattle.ae_tree.specs.Grammar.{Tokens, ◌⨾◌, blocks_opened, opened_in, call_spot, in_braces, statement, statements, return_end, with_return, method_body}
 use Rattle.ae_layout.specs.Places.{nowhere, unplaced_name, unplaced_path, unplaced_expression, unplaced_action, unplaced_lines}
 use Rattle.ae_layout.proofs.Moved.{ap2, ap3, Lang, Moves, Moved, moves_then, moves_at, moves_mark, moves_sign, moves_word, no_tokens, not_empty, moved_name, moved_names, moved_path, moved_type, moved_whole, moved_call, moved_right}
 
@@ -15,7 +15,7 @@ use Rattle.ae_layout.proofs.Moved.{ap2, ap3, Lang, Moves, Moved, moves_then, mov
 
 mutual
   -- as many blocks are opened without places
-  bare_opened : (a : Action) → opened (unplaced_action a) ≡ opened a
+  bare_opened : (a : Action) → blocks_opened (unplaced_action a) ≡ blocks_opened a
   bare_opened (Declares t x e) = refl
   bare_opened (Assigns x e) = refl
   bare_opened (Stores p e) = refl
@@ -38,15 +38,15 @@ mutual
   bare_opened_in End = refl
   bare_opened_in (Next at a rest) = ap2 (λ k j. k + j) (bare_opened a) (bare_opened_in rest)
 
-same_opened : (a b : Action) → unplaced_action b ≡ unplaced_action a → opened a ≡ opened b
-same_opened a b e = sym (bare_opened a) ∙ ap opened (sym e) ∙ bare_opened b
+same_opened : (a b : Action) → unplaced_action b ≡ unplaced_action a → blocks_opened a ≡ blocks_opened b
+same_opened a b e = sym (bare_opened a) ∙ ap blocks_opened (sym e) ∙ bare_opened b
 
 same_opened_in : (a b : Lines) → unplaced_lines b ≡ unplaced_lines a → opened_in a ≡ opened_in b
 same_opened_in a b e = sym (bare_opened_in a) ∙ ap opened_in (sym e) ∙ bare_opened_in b
 
 -- ---- statements
 
-moves_braced : {A : Type 0} {p : Tokens → Type 0} {E : Lang A} {S : A → Type 0} → Moves p E S → Moves (braced p) (λ y. braced (E y)) S
+moves_braced : {A : Type 0} {p : Tokens → Type 0} {E : Lang A} {S : A → Type 0} → Moves p E S → Moves (in_braces p) (λ y. in_braces (E y)) S
 moves_braced m us vs e d =
     let a = moves_then (moves_sign sign.OpenBrace) (moves_then m (moves_sign sign.CloseBrace)) us vs e d in
     record { y = a.y.1.0; is = a.is; same = a.same.1.0 }
@@ -83,7 +83,7 @@ mutual
       record { y = (a.y.0.root.at, StoresAt a.y.0 a.y.1.1.0 a.y.1.1.1.1.1.0); is = (refl, a.is); same = ap3 StoresAt a.same.0 a.same.1.1.0 a.same.1.1.1.1.1.0 }
   moved_statement n at (Calls c) us vs e d =
       let a = moves_then (moved_call c) (moves_sign sign.Semicolon) us vs e d.1 in
-      record { y = (first_spot a.y.0, Calls a.y.0); is = (refl, a.is); same = ap Calls a.same.0 }
+      record { y = (call_spot a.y.0, Calls a.y.0); is = (refl, a.is); same = ap Calls a.same.0 }
   moved_statement n at (Chooses x k b) us vs e d =
       let a = moves_then (moves_at (tok.Word word.If) at) (moves_then (moved_whole x) (moves_braced (moved_statements (n + 1) b))) us vs e d.1 in
       record { y = (a.y.0, Chooses a.y.1.0 k a.y.1.1); is = (d.0, a.is); same = ap2 (λ z c. Chooses z k c) a.same.1.0 a.same.1.1 }
@@ -122,7 +122,7 @@ mutual
   pub moved_statements : (n : ℕ) (b : Lines) → Block n b
   moved_statements n End us vs e d = record { y = End; is = no_tokens us vs e d; same = refl }
   moved_statements n (Next at x rest) us vs e d =
-      let a = moves_then (moved_statement n at x) (moved_statements (n + opened x) rest) us vs e d in
+      let a = moves_then (moved_statement n at x) (moved_statements (n + blocks_opened x) rest) us vs e d in
       let P : ℕ → Type 0 = λ k. (statement n a.y.0.0 a.y.0.1 ⨾ statements (n + k) a.y.1) vs in
       record { y = Next a.y.0.0 a.y.0.1 a.y.1; is = subst P (same_opened x a.y.0.1 a.same.0) a.is; same = ap2 (Next nowhere) a.same.0 a.same.1 }
 
@@ -132,7 +132,7 @@ unplaced_return : Option (Spot × Expression) → Option (Spot × Expression)
 unplaced_return None = None
 unplaced_return (Some r) = Some (nowhere, unplaced_expression r.1)
 
-moved_returning : (r : Option (Spot × Expression)) → Moved returning unplaced_return r
+moved_returning : (r : Option (Spot × Expression)) → Moved return_end unplaced_return r
 unfolding unplaced_return
 moved_returning None us vs e d = record { y = None; is = no_tokens us vs e d; same = refl }
 moved_returning (Some r) us vs e d =
@@ -145,7 +145,7 @@ bare_with_return End None = refl
 bare_with_return End (Some r) = refl
 bare_with_return (Next at x rest) r = ap (Next nowhere (unplaced_action x)) (bare_with_return rest r)
 
-pub moved_body : (b : Lines) → Moved body unplaced_lines b
+pub moved_body : (b : Lines) → Moved method_body unplaced_lines b
 moved_body b us vs e d =
     let front : Lines = d.0 in
     let r : Option (Spot × Expression) = d.1 in

@@ -16,8 +16,8 @@ use Rattle.ae_tree.specs.declared.tree.GroupNeed.{GroupNeed}
 use Rattle.ae_tree.specs.declared.tree.Field.{Field}
 use Rattle.ae_tree.specs.declared.tree.Class.{Class}
 use Rattle.ae_tree.specs.Plain.{Lines, Definition, Code}
-use Rattle.ae_tree.specs.Grammar.{◌⨾◌, further, result, away, param, me, parameters, need_word, need, needs, IsOf, method, field, numbers_from, Declaration, OfClass, OfMethod, declaration, classes_in, methods_in, declared, declarations, decls_of, classes_of, methods_of, Derives}
-use Rattle.ae_tree.specs.Names.{spelled, spellings, names_of, lexical, numbered}
+use Rattle.ae_tree.specs.Grammar.{◌⨾◌, further, result, away, param, me, parameters, need_word, need, needs, IsMethodOf, method, field, numbers_from, Declaration, OfClass, OfMethod, declaration, classes_in, methods_in, declared, declarations, decls_of, classes_of, methods_of, Derives}
+use Rattle.ae_tree.specs.Names.{spelled_before, spellings, names_of, lexical, numbered}
 use Rattle.ae_layout.specs.Places.{nowhere, optional, unplaced_type, unplaced_away, unplaced_param, unplaced_me, unplaced_need, unplaced_method, unplaced_field, unplaced_class, unplaced}
 use Rattle.ae_layout.proofs.Moved.{ap2, ap3, ap4, kinds, Lang, Moves, Moved, moves_then, moves_at, moves_mark, moves_sign, moves_word, no_tokens, moved_each, moved_further, moved_listed, moved_name, moved_groups, moved_permission, moved_type}
 use Rattle.ae_layout.proofs.MovedLines.{moved_body}
@@ -86,7 +86,7 @@ some_again : {A : Type 0} (f : A → A) (x y : Option A) → optional f y ≡ op
 some_again f x y e n none = n (none_again f y x (sym e) none)
 
 -- a method with these parts is of the same class
-of_again : (c : Option ℕ) (m k : Definition) → k.class ≡ m.class → optional unplaced_me k.me ≡ optional unplaced_me m.me → IsOf c m → IsOf c k
+of_again : (c : Option ℕ) (m k : Definition) → k.class ≡ m.class → optional unplaced_me k.me ≡ optional unplaced_me m.me → IsMethodOf c m → IsMethodOf c k
 of_again None m k s e i = (s ∙ i.0, none_again unplaced_me m.me k.me e i.1)
 of_again (Some c) m k s e i = (s ∙ i.0, some_again unplaced_me m.me k.me e i.1)
 
@@ -225,7 +225,7 @@ same_spellings (t ∷ ts) [] e = absurd (cc)
 same_spellings (t ∷ ts) (u ∷ us) e =
     let head : t.kind ≡ u.kind = cc in
     let tail : token_kinds ts ≡ token_kinds us = cc in
-    ap2 spelled head (same_spellings ts us tail)
+    ap2 spelled_before head (same_spellings ts us tail)
 
 same_names : (ts us : List Token) → token_kinds ts ≡ token_kinds us → names_of ts ≡ names_of us
 same_names ts us e = let same : spellings ts ≡ spellings us = same_spellings ts us e in cc

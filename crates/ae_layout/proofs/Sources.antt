@@ -5,7 +5,7 @@ use Rattle.std.proofs.lemmas.Str.{encodes_same}
 use Rattle.std.proofs.lemmas.List.{map-append}
 use Rattle.ae_text.specs.declared.token.TokenKind.{TokenKind}
 use Rattle.ae_text.specs.declared.token.TokenKind.TheVariants as t
-use Rattle.ae_text.specs.Tokens.{Text, Piece, White, Comment, Tok, text_of, ArePieces, tokens_from, end_of}
+use Rattle.ae_text.specs.Tokens.{Text, TextPiece, White, Comment, Tok, text_of, ArePieces, tokens_from, end_token}
 use Rattle.ae_tree.specs.Plain.{Code}
 use Rattle.ae_layout.specs.Layout.{program_rows, layout}
 use Rattle.ae_layout.specs.Rows.{Every, CanSpell, kinds_of, Spellable, LexesAs}
@@ -24,7 +24,7 @@ scalars_parts (c ∷ s) r h =
     let q = scalars_parts s r p.1 in
     (rw p.0 q.0, q.1)
 
-pieces_can : (ps : List Piece) (rest : Text) → ArePieces ps rest → all_scalars (text_of ps) ≡ true → Every CanSpell (kinds_in ps)
+pieces_can : (ps : List TextPiece) (rest : Text) → ArePieces ps rest → all_scalars (text_of ps) ≡ true → Every CanSpell (kinds_in ps)
 pieces_can [] rest e h = tt
 pieces_can (White c ∷ ps) rest e h = pieces_can ps rest e.1 (scalars_parts (c ∷ []) (text_of ps) h).1
 pieces_can (Comment s ∷ ps) rest e h = pieces_can ps rest e.1 (scalars_parts (47 ∷ 47 ∷ s) (text_of ps) h).1
@@ -52,7 +52,7 @@ pub source_can : (bytes : Text) (ks : List TokenKind) → LexesAs bytes ks → E
 source_can bytes ks (tokens, l, e) =
     let same : kinds_in l.pieces ≡ ks =
     fronts_same (kinds_in l.pieces) ks t.End
-    (ap (λ x. x ++ t.End ∷ []) (sym (tokens_kinds bytes 0 l.pieces)) ∙ sym (map-append (λ x. x.kind) (tokens_from bytes 0 l.pieces) (end_of bytes ∷ [])) ∙ ap (map (λ x. x.kind)) (sym l.are) ∙ e) in
+    (ap (λ x. x ++ t.End ∷ []) (sym (tokens_kinds bytes 0 l.pieces)) ∙ sym (map-append (λ x. x.kind) (tokens_from bytes 0 l.pieces) (end_token bytes ∷ [])) ∙ ap (map (λ x. x.kind)) (sym l.are) ∙ e) in
     let P : List TokenKind → Type 0 = Every CanSpell in
     subst P same (pieces_can l.pieces [] l.each (utf8_scalars bytes (text_of l.pieces) l.utf8 l.whole))
 

@@ -7,13 +7,13 @@ use Rattle.ae_text.specs.declared.token.TokenKind.{TokenKind}
 use Rattle.ae_text.specs.declared.token.TokenKind.TheVariants as t
 use Rattle.ae_text.specs.declared.token.Token.{Token}
 use Rattle.ae_tree.specs.declared.lexeme.Lexical.TheVariants as tok
-use Rattle.ae_tree.specs.Names.{first_names, spelled, spellings, names_of, number_of, numbered, lexical}
+use Rattle.ae_tree.specs.Names.{first_names, spelled_before, spellings, names_of, name_number, numbered, lexical}
 use Rattle.ae_layout.specs.Spelling.{name_text}
-use Rattle.ae_layout.specs.Layout.{Names}
+use Rattle.ae_layout.specs.Layout.{Spellings}
 use Rattle.ae_layout.specs.Rows.{Every}
 use Rattle.ae_layout.proofs.Productions.{kind_of, shown, Clean}
 
-abbrev Held : Names → List ℕ → Type 0
+abbrev Held : Spellings → List ℕ → Type 0
 Held names s = list_any (bytes_eq s) names ≡ true
 
 -- ---- names among the names
@@ -35,49 +35,49 @@ any_last p (y ∷ xs) x h = by (p y) (any_last p xs x h)
     by false e = e
 
 -- what was inserted stands behind what was there
-record Grows (old new : Names) : Type 0 where
-  more : Names
+record Grows (old new : Spellings) : Type 0 where
+  more : Spellings
   parts : new ≡ old ++ more
 
-grows_key : (names : Names) (s : List ℕ) → Grows names (insert_key bytes_eq names s)
+grows_key : (names : Spellings) (s : List ℕ) → Grows names (insert_key bytes_eq names s)
 grows_key names s = by (list_any (bytes_eq s) names)
   where
     by : (b : Bool) → Grows names (if b then names else names ++ s ∷ [])
     by true = record { more = []; parts = sym (append-nil names) }
     by false = record { more = s ∷ []; parts = refl }
 
-grows_all : (names xs : Names) → Grows names (insert_all bytes_eq names xs)
+grows_all : (names xs : Spellings) → Grows names (insert_all bytes_eq names xs)
 grows_all names [] = record { more = []; parts = sym (append-nil names) }
 grows_all names (x ∷ xs) =
     let one = grows_key names x in
     let rest = grows_all (insert_key bytes_eq names x) xs in
     record { more = one.more ++ rest.more; parts = rest.parts ∙ ap (λ l. l ++ rest.more) one.parts ∙ append_assoc names one.more rest.more }
 
-held_grows : (old new : Names) (s : List ℕ) → Grows old new → Held old s → Held new s
-held_grows old new s g h = let P : Names → Type 0 = λ l. Held l s in subst P (sym g.parts) (any_more (bytes_eq s) old g.more h)
+held_grows : (old new : Spellings) (s : List ℕ) → Grows old new → Held old s → Held new s
+held_grows old new s g h = let P : Spellings → Type 0 = λ l. Held l s in subst P (sym g.parts) (any_more (bytes_eq s) old g.more h)
 
-held_key : (names : Names) (s : List ℕ) → Held (insert_key bytes_eq names s) s
+held_key : (names : Spellings) (s : List ℕ) → Held (insert_key bytes_eq names s) s
 held_key names s = by (list_any (bytes_eq s) names) refl
   where
     by : (b : Bool) → list_any (bytes_eq s) names ≡ b → Held (if b then names else names ++ s ∷ []) s
     by true e = e
     by false e = any_last (bytes_eq s) names s ((bytes_decides s s).1 refl)
 
-held_all : (names xs : Names) → Every (Held (insert_all bytes_eq names xs)) xs
+held_all : (names xs : Spellings) → Every (Held (insert_all bytes_eq names xs)) xs
 held_all names [] = tt
 held_all names (x ∷ xs) = (held_grows (insert_key bytes_eq names x) _ x (grows_all (insert_key bytes_eq names x) xs) (held_key names x), held_all (insert_key bytes_eq names x) xs)
 
 -- ---- numbers and spellings
 
 -- a name among the names is spelled at its number
-pub spelled_again : (names : Names) (s : List ℕ) → Held names s → name_text names (number_of names s) ≡ s
+pub spelled_again : (names : Spellings) (s : List ℕ) → Held names s → name_text names (name_number names s) ≡ s
 spelled_again [] s h = absurd (cc)
 spelled_again (x ∷ names) s h = by (bytes_eq s x) refl (spelled_again names s) h
   where
-    by : (b : Bool) → bytes_eq s x ≡ b → (Held names s → name_text names (number_of names s) ≡ s) → (b || list_any (bytes_eq s) names) ≡ true → slice_index_or (x ∷ names) (cond (not b) (1 + number_of names s) 0) [] ≡ s
+    by : (b : Bool) → bytes_eq s x ≡ b → (Held names s → name_text names (name_number names s) ≡ s) → (b || list_any (bytes_eq s) names) ≡ true → slice_index_or (x ∷ names) (cond (not b) (1 + name_number names s) 0) [] ≡ s
     by true e rest k = sym ((bytes_decides s x).0 e)
     by false e rest k =
-        let next : 1 + number_of names s ≡ suc (number_of names s) = omega arith in
+        let next : 1 + name_number names s ≡ suc (name_number names s) = omega arith in
         ap (λ n. slice_index_or (x ∷ names) n []) next ∙ rest k
 
 -- the third name is `this`
@@ -91,11 +91,11 @@ abbrev pub NotThis : TokenKind → Type 0
 NotThis (t.Name s) = s ≢ codes "this"
 NotThis _ = Unit {0}
 
-kind_again : (names : Names) (tokens : List Token) → Every (Held names) (spellings tokens) → shown names (numbered names tokens) ≡ map (λ x. x.kind) tokens
+kind_again : (names : Spellings) (tokens : List Token) → Every (Held names) (spellings tokens) → shown names (numbered names tokens) ≡ map (λ x. x.kind) tokens
 kind_again names [] h = refl
 kind_again names (x ∷ tokens) h = by x.kind (kind_again names tokens) h
   where
-    by : (k : TokenKind) → (Every (Held names) (spellings tokens) → shown names (numbered names tokens) ≡ map (λ y. y.kind) tokens) → Every (Held names) (spelled k (spellings tokens)) → kind_of names (lexical names k) ∷ shown names (numbered names tokens) ≡ k ∷ map (λ y. y.kind) tokens
+    by : (k : TokenKind) → (Every (Held names) (spellings tokens) → shown names (numbered names tokens) ≡ map (λ y. y.kind) tokens) → Every (Held names) (spelled_before k (spellings tokens)) → kind_of names (lexical names k) ∷ shown names (numbered names tokens) ≡ k ∷ map (λ y. y.kind) tokens
     by (t.Name s) rest e = ap₂ (λ y l. t.Name y ∷ l) (spelled_again names s e.0) (rest e.1)
     by (t.Int n) rest e = ap (λ l. t.Int n ∷ l) (rest e)
     by (t.Text s) rest e = ap (λ l. t.Text s ∷ l) (rest e)
@@ -110,19 +110,19 @@ shown_again tokens = kind_again (names_of tokens) tokens (held_all first_names (
 number_is : (a b : ℕ) → tok.Name a ≡ tok.Name b → a ≡ b
 number_is a b e = cc
 
-clean_all : (names : Names) (tokens : List Token) → name_text names 2 ≡ codes "this" → Every (Held names) (spellings tokens) → Every NotThis (map (λ x. x.kind) tokens) → Clean (numbered names tokens)
+clean_all : (names : Spellings) (tokens : List Token) → name_text names 2 ≡ codes "this" → Every (Held names) (spellings tokens) → Every NotThis (map (λ x. x.kind) tokens) → Clean (numbered names tokens)
 clean_all names [] third h n = tt
 clean_all names (x ∷ tokens) third h n = (by x.kind h n.0, clean_all names tokens third (later x.kind h) n.1)
   where
-    by : (k : TokenKind) → Every (Held names) (spelled k (spellings tokens)) → NotThis k → lexical names k ≢ tok.Name 2
-    by (t.Name s) e other = λ i. other (sym (spelled_again names s e.0) ∙ ap (name_text names) (number_is (number_of names s) 2 i) ∙ third)
+    by : (k : TokenKind) → Every (Held names) (spelled_before k (spellings tokens)) → NotThis k → lexical names k ≢ tok.Name 2
+    by (t.Name s) e other = λ i. other (sym (spelled_again names s e.0) ∙ ap (name_text names) (number_is (name_number names s) 2 i) ∙ third)
     by (t.Int n) e other = λ i. cc
     by (t.Text s) e other = λ i. cc
     by (t.Word w) e other = λ i. cc
     by (t.Sign g) e other = λ i. cc
     by t.End e other = λ i. cc
 
-    later : (k : TokenKind) → Every (Held names) (spelled k (spellings tokens)) → Every (Held names) (spellings tokens)
+    later : (k : TokenKind) → Every (Held names) (spelled_before k (spellings tokens)) → Every (Held names) (spellings tokens)
     later (t.Name s) e = e.1
     later (t.Int n) e = e
     later (t.Text s) e = e

@@ -9,24 +9,24 @@ use Rattle.ae_tree.specs.declared.tree.Param.{Param}
 use Rattle.ae_tree.specs.declared.tree.GroupNeed.{GroupNeed}
 use Rattle.ae_tree.specs.declared.tree.Decl.{Decl}
 use Rattle.ae_tree.specs.Plain.{Definition, Code}
-use Rattle.ae_layout.specs.Spelling.{Printed, printed, tokens_text}
-use Rattle.ae_layout.specs.Layout.{Names, near, far, name_kind, after_commas, result_tokens, groups_tokens, params_tokens, needs_tokens, head_tokens, Row, rows_text, found_method_rows, methods_rows, decl_rows, decls_rows}
+use Rattle.ae_layout.specs.Spelling.{Printed, printed_text, tokens_text}
+use Rattle.ae_layout.specs.Layout.{Spellings, near, far, name_kind, after_commas, result_tokens, groups_tokens, params_tokens, needs_tokens, head_tokens, Row, rows_text, found_method_rows, methods_rows, decl_rows, decls_rows}
 use Rattle.ae_layout.proofs.Texts.{tokens_text-append, rows_text-append, drop_one}
 
-pub one_token : (o0 o1 : Text) (x : Printed) → o1 ≡ o0 ++ printed x → o1 ≡ o0 ++ tokens_text (x ∷ [])
-one_token o0 o1 x p = p ∙ ap (λ s. o0 ++ s) (sym (append-nil (printed x)))
+pub one_token : (o0 o1 : Text) (x : Printed) → o1 ≡ o0 ++ printed_text x → o1 ≡ o0 ++ tokens_text (x ∷ [])
+one_token o0 o1 x p = p ∙ ap (λ s. o0 ++ s) (sym (append-nil (printed_text x)))
 
 pub then_tokens : (o0 o1 o2 : Text) (xs ys : List Printed) → o1 ≡ o0 ++ tokens_text xs → o2 ≡ o1 ++ tokens_text ys → o2 ≡ o0 ++ tokens_text (xs ++ ys)
 then_tokens o0 o1 o2 xs ys p q = q ∙ ap (λ s. s ++ tokens_text ys) p ∙ append_assoc o0 (tokens_text xs) (tokens_text ys) ∙ ap (λ s. o0 ++ s) (sym (tokens_text-append xs ys))
 
-pub token_then : (o0 o1 o2 : Text) (x : Printed) (ys : List Printed) → o1 ≡ o0 ++ printed x → o2 ≡ o1 ++ tokens_text ys → o2 ≡ o0 ++ tokens_text (x ∷ ys)
-token_then o0 o1 o2 x ys p q = q ∙ ap (λ s. s ++ tokens_text ys) p ∙ append_assoc o0 (printed x) (tokens_text ys)
+pub token_then : (o0 o1 o2 : Text) (x : Printed) (ys : List Printed) → o1 ≡ o0 ++ printed_text x → o2 ≡ o1 ++ tokens_text ys → o2 ≡ o0 ++ tokens_text (x ∷ ys)
+token_then o0 o1 o2 x ys p q = q ∙ ap (λ s. s ++ tokens_text ys) p ∙ append_assoc o0 (printed_text x) (tokens_text ys)
 
 pub then_rows : (o0 o1 o2 : Text) (xs ys : List Row) → o1 ≡ o0 ++ rows_text xs → o2 ≡ o1 ++ rows_text ys → o2 ≡ o0 ++ rows_text (xs ++ ys)
 then_rows o0 o1 o2 xs ys p q = q ∙ ap (λ s. s ++ rows_text ys) p ∙ append_assoc o0 (rows_text xs) (rows_text ys) ∙ ap (λ s. o0 ++ s) (sym (rows_text-append xs ys))
 
 -- one more item behind a comma
-pub commas_step : {A : Type 0} (f : A → List Printed) (xs : List A) (i : ℕ) (x : A) (whole o1 o2 o3 : Text) → i < length xs → x ≡ get_or xs i x → whole ≡ o1 ++ tokens_text (after_commas f (drop i xs)) → o2 ≡ o1 ++ printed (near (t.Sign sign.Comma)) → o3 ≡ o2 ++ tokens_text (f x) → whole ≡ o3 ++ tokens_text (after_commas f (drop (i + 1) xs))
+pub commas_step : {A : Type 0} (f : A → List Printed) (xs : List A) (i : ℕ) (x : A) (whole o1 o2 o3 : Text) → i < length xs → x ≡ get_or xs i x → whole ≡ o1 ++ tokens_text (after_commas f (drop i xs)) → o2 ≡ o1 ++ printed_text (near (t.Sign sign.Comma)) → o3 ≡ o2 ++ tokens_text (f x) → whole ≡ o3 ++ tokens_text (after_commas f (drop (i + 1) xs))
 commas_step f xs i x whole o1 o2 o3 lt is h p q =
     let rest = after_commas f (drop (i + 1) xs) in
     let w = token_then o1 o2 o3 (near (t.Sign sign.Comma)) (f x) p q in
@@ -36,7 +36,7 @@ commas_step f xs i x whole o1 o2 o3 lt is h p q =
     ∙ ap (λ s. s ++ tokens_text rest) (sym w)
 
 -- one more method of a class
-pub methods_step : (names : Names) (indent : Text) (ms : List Definition) (ns : List ℕ) (i x : ℕ) (whole o1 o2 : Text) → drop i ns ≡ x ∷ drop (i + 1) ns → whole ≡ o1 ++ rows_text (methods_rows names indent ms (drop i ns)) → o2 ≡ o1 ++ rows_text (found_method_rows names indent (slice_get ms x)) → whole ≡ o2 ++ rows_text (methods_rows names indent ms (drop (i + 1) ns))
+pub methods_step : (names : Spellings) (indent : Text) (ms : List Definition) (ns : List ℕ) (i x : ℕ) (whole o1 o2 : Text) → drop i ns ≡ x ∷ drop (i + 1) ns → whole ≡ o1 ++ rows_text (methods_rows names indent ms (drop i ns)) → o2 ≡ o1 ++ rows_text (found_method_rows names indent (slice_get ms x)) → whole ≡ o2 ++ rows_text (methods_rows names indent ms (drop (i + 1) ns))
 methods_step names indent ms ns i x whole o1 o2 e h p =
     let first = found_method_rows names indent (slice_get ms x) in
     let rest = methods_rows names indent ms (drop (i + 1) ns) in
@@ -60,7 +60,7 @@ pub drop_copy : {A : Type 0} (xs : List A) (i : ℕ) (d : A) → i < length xs �
 drop_copy xs i d h = rw add-one (drop-cons xs i d h)
 
 -- the parts of a method's head, one after another
-pub head_written : (names : Names) (m : Definition) (gs : List NameAt) (ps : List Param) (ns : List GroupNeed) (o0 o1 o2 o3 o4 o5 o6 o7 o8 o9 : Text) → gs ≡ m.groups → ps ≡ m.params → ns ≡ m.needs → o1 ≡ o0 ++ printed (near (t.Word word.Method)) → o2 ≡ o1 ++ tokens_text (result_tokens names m.result) → o3 ≡ o2 ++ printed (far (name_kind names m.name.name)) → o4 ≡ o3 ++ tokens_text (groups_tokens names gs) → o5 ≡ o4 ++ printed (near (t.Sign sign.OpenParen)) → o6 ≡ o5 ++ tokens_text (params_tokens names m.me ps) → o7 ≡ o6 ++ printed (near (t.Sign sign.CloseParen)) → o8 ≡ o7 ++ tokens_text (needs_tokens names ns) → o9 ≡ o8 ++ printed (far (t.Sign sign.OpenBrace)) → o9 ≡ o0 ++ tokens_text (head_tokens names m)
+pub head_written : (names : Spellings) (m : Definition) (gs : List NameAt) (ps : List Param) (ns : List GroupNeed) (o0 o1 o2 o3 o4 o5 o6 o7 o8 o9 : Text) → gs ≡ m.groups → ps ≡ m.params → ns ≡ m.needs → o1 ≡ o0 ++ printed_text (near (t.Word word.Method)) → o2 ≡ o1 ++ tokens_text (result_tokens names m.result) → o3 ≡ o2 ++ printed_text (far (name_kind names m.name.name)) → o4 ≡ o3 ++ tokens_text (groups_tokens names gs) → o5 ≡ o4 ++ printed_text (near (t.Sign sign.OpenParen)) → o6 ≡ o5 ++ tokens_text (params_tokens names m.me ps) → o7 ≡ o6 ++ printed_text (near (t.Sign sign.CloseParen)) → o8 ≡ o7 ++ tokens_text (needs_tokens names ns) → o9 ≡ o8 ++ printed_text (far (t.Sign sign.OpenBrace)) → o9 ≡ o0 ++ tokens_text (head_tokens names m)
 head_written names m gs ps ns o0 o1 o2 o3 o4 o5 o6 o7 o8 o9 eg ep en p1 p2 p3 p4 p5 p6 p7 p8 p9 =
     let q4 : o4 ≡ o3 ++ tokens_text (groups_tokens names m.groups) = p4 ∙ ap (λ (x : List NameAt). o3 ++ tokens_text (groups_tokens names x)) eg in
     let q6 : o6 ≡ o5 ++ tokens_text (params_tokens names m.me m.params) = p6 ∙ ap (λ (x : List Param). o5 ++ tokens_text (params_tokens names m.me x)) ep in

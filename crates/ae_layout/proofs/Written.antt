@@ -9,16 +9,16 @@ use Rattle.ae_text.specs.declared.token.Sign.{Sign}
 use Rattle.ae_text.specs.declared.token.Sign.TheVariants as sign
 use Rattle.ae_text.specs.declared.token.TokenKind.{TokenKind}
 use Rattle.ae_text.specs.declared.token.TokenKind.TheVariants as t
-use Rattle.ae_text.specs.Tokens.{Text, Each, is_digit, sign_text, IsNumber, value, value_from, meant, IsQuoted, Spells, IsInRange}
+use Rattle.ae_text.specs.Tokens.{Text, Each, is_digit, sign_text, IsNumber, digits_value, value_from, parts_meaning, IsQuoted, Spells, IsInRange}
 use Rattle.ae_text.proofs.SpellingLemmas.{keyword_same}
-use Rattle.ae_layout.specs.Spelling.{spelling}
+use Rattle.ae_layout.specs.Spelling.{token_text}
 use Rattle.ae_layout.specs.Rows.{CanSpell}
 use Rattle.ae_layout.proofs.Escapes.{quoted, quoted_bytes, quoted_is, quoted_scalars, value_scalars}
 
 -- the characters of a token's canonical spelling
 pub record Written (k : TokenKind) : Type 0 where
   pub characters : Text
-  pub bytes : encode_utf8_all characters ≡ spelling k
+  pub bytes : encode_utf8_all characters ≡ token_text k
   pub scalars : all_scalars characters ≡ true
   pub spells : Spells k characters
   pub in_range : IsInRange k characters
@@ -37,7 +37,7 @@ digits_test = record { empty = tt; parts = λ c cs d. (digit_range c d.0, d.1); 
 folds : FoldsDigits value_from
 folds = record { empty = λ n. refl; more = λ n c cs r. refl }
 
-model : IsNumeralModel (Each is_digit) value
+model : IsNumeralModel (Each is_digit) digits_value
 model = numerals_by_fold (Each is_digit) digits_test value_from folds
 
 some_digits : (ds : Text) → 0 < length ds → Each is_digit ds → IsNumber ds
@@ -50,7 +50,7 @@ decimal_scalars n h = let a : IsAscii (decimal n) = IsAscii-decimal n h in ap al
 written_int : (n : ℕ) → n < 2 ^ 63 → Written (t.Int (pos n))
 written_int n h =
     let fits : n < 2 ^ 64 = omega arith in
-    let same : value (decimal n) ≡ n = digits_value-decimal model n fits in
+    let same : digits_value (decimal n) ≡ n = digits_value-decimal model n fits in
     record {
       characters = decimal n;
       bytes = encodes-IsAscii (decimal n) (IsAscii-decimal n fits);
@@ -110,8 +110,8 @@ ascii_same (c ∷ cs) e =
 
 written_text : (bytes s : Text) → IsQuoted bytes s → all_scalars s ≡ true → Written (t.Text bytes)
 written_text bytes s q h =
-    let cs : Text = meant q.parts in
-    let P : Text → Type 0 = λ x. encode_utf8_all (quoted cs) ≡ spelling (t.Text x) in
+    let cs : Text = parts_meaning q.parts in
+    let P : Text → Type 0 = λ x. encode_utf8_all (quoted cs) ≡ token_text (t.Text x) in
     record {
       characters = quoted cs;
       bytes = subst P (sym q.value_is) (quoted_bytes cs);
@@ -122,7 +122,7 @@ written_text bytes s q h =
 
 pub written : (k : TokenKind) → CanSpell k → Written k
 written (t.Name b) c = record { characters = c.characters; bytes = sym c.spells.0; scalars = c.scalars; spells = c.spells; in_range = tt }
-written (t.Int n) c = let P : _ → Type 0 = λ m. Written (t.Int m) in subst P (sym c.spells.1) (written_int (value c.characters) c.in_range)
+written (t.Int n) c = let P : _ → Type 0 = λ m. Written (t.Int m) in subst P (sym c.spells.1) (written_int (digits_value c.characters) c.in_range)
 written (t.Text b) c = written_text b c.characters c.spells c.scalars
 written (t.Word w) c = record { characters = c.characters; bytes = ap encode_utf8_all c.spells ∙ keyword_same w; scalars = c.scalars; spells = c.spells; in_range = tt }
 written (t.Sign g) c = record { characters = c.characters; bytes = ap encode_utf8_all c.spells ∙ ascii_same (sign_text g) (sign_ascii g); scalars = c.scalars; spells = c.spells; in_range = tt }

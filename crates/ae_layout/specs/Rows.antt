@@ -36,16 +36,16 @@ goes_on_with sign.Slash = true
 goes_on_with _ = false
 
 -- the second may stand right behind the first: both are then read as they are
-abbrev pub parts : TokenKind → TokenKind → Bool
-parts (t.Sign g) (t.Sign h) = not (goes_on_with h)
-parts (t.Sign g) k = true
-parts k (t.Sign h) = true
-parts k h = false
+abbrev pub stay_apart : TokenKind → TokenKind → Bool
+stay_apart (t.Sign g) (t.Sign h) = not (goes_on_with h)
+stay_apart (t.Sign g) k = true
+stay_apart k (t.Sign h) = true
+stay_apart k h = false
 
 -- each stands behind a space, or parts from the token before it
 abbrev pub PartFrom : TokenKind → List Printed → Type 0
 PartFrom k [] = Unit {0}
-PartFrom k (x ∷ xs) = (x.close ≡ true → IsTrue (parts k x.kind)) × PartFrom x.kind xs
+PartFrom k (x ∷ xs) = (x.close ≡ true → IsTrue (stay_apart k x.kind)) × PartFrom x.kind xs
 
 abbrev pub ArePart : List Printed → Type 0
 ArePart [] = Unit {0}

@@ -2,7 +2,8 @@
 ghost use Rattle.std.specs.Prelude.{◌≡◌, ◌++◌, [], ◌∷◌, true, false, map, slice_get, IfOk, OnOk};
 ghost use Rattle.ae_layout.specs.Spelling.{tokens_text};
 ghost use Rattle.ae_tree.specs.Shown.{definition, code};
-ghost use Rattle.ae_layout.specs.Layout.{after_commas, listed, away_tokens, param_tokens, me_tokens, params_tokens, need_word as word_of_need, need_tokens, needs_tokens, result_tokens, head_tokens, row, row_text, rows_text, method_rows, found_method_rows, methods_rows, field_tokens, fields_rows, class_tokens, class_rows, found_class_rows, deeper as deeper_text, decl_rows, decls_rows, layout};
+ghost use Rattle.ae_layout.specs.Layout.{after_commas, with_commas, away_tokens, param_tokens, me_tokens, params_tokens, need_tokens, needs_tokens, result_tokens, head_tokens, row, row_text, rows_text, method_rows, found_method_rows, methods_rows, field_tokens, fields_rows, class_tokens, class_rows, found_class_rows, indented_more as deeper_text, decl_rows, decls_rows, layout};
+ghost use Rattle.ae_tree.specs.Grammar.{need_word};
 
 use crate::print_expr::{groups, perm, type_name};
 use crate::print_stmt::{body, close, deeper, end, start};
@@ -61,7 +62,7 @@ fn receiver(names: &[Items<u8>], me: &Me, out: &mut Vec<u8>) -> Result<(), Alloc
 
 #[tactic(auto, using(crate::proofs::Texts::texts))]
 fn param_list(names: &[Items<u8>], list: &[Param], out: &mut Vec<u8>) -> Result<(), AllocError>
-    ensures { OnOk result (out.new.items ≡ out.old.items ++ tokens_text (listed (param_tokens names.now) true list.now)) }
+    ensures { OnOk result (out.new.items ≡ out.old.items ++ tokens_text (with_commas (param_tokens names.now) true list.now)) }
 {
     match list.split_first() {
         Some((first, rest)) => {
@@ -93,7 +94,7 @@ fn params(
 
 #[tactic(auto, using(crate::proofs::Texts::texts))]
 fn need_word(need: Need) -> Keyword
-    ensures { result ≡ word_of_need need }
+    ensures { result ≡ need_word need }
 {
     match need {
         Need::Exclusive => Keyword::Exclusive,

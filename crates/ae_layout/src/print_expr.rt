@@ -1,9 +1,9 @@
 // Types, paths and expressions in their canonical layout.
 ghost use Rattle.std.specs.Prelude.{◌≡◌, ◌++◌, true, false, map, OnOk};
 ghost use Rattle.ae_layout.specs.Spelling.{tokens_text};
-ghost use Rattle.ae_tree.specs.Grammar.{sign_of as op_sign};
+ghost use Rattle.ae_tree.specs.Grammar.{sign_of as op_sign, truth_word};
 ghost use Rattle.ae_tree.specs.Shown.{expression, invocation, right_side};
-ghost use Rattle.ae_layout.specs.Layout.{after_commas, listed, name_tokens, groups_tokens, steps_tokens, path_tokens, perm_tokens, kind_tokens, type_tokens, truth_word as word_of_truth, expression_tokens, arguments_tokens, method_tokens, call_tokens, right_tokens};
+ghost use Rattle.ae_layout.specs.Layout.{after_commas, with_commas, name_tokens, groups_tokens, steps_tokens, path_tokens, perm_tokens, kind_tokens, type_tokens, expression_tokens, arguments_tokens, method_tokens, call_tokens, right_tokens};
 
 use crate::spell::{name, number, root, sign, word};
 use ae_tree::{Call, Expr, KindAt, NameAt, Op, Path, PermAt, Rhs, Ty};
@@ -29,7 +29,7 @@ pub fn name_list(
     list: &[NameAt],
     out: &mut Vec<u8>,
 ) -> Result<(), AllocError>
-    ensures { OnOk result (out.new.items ≡ out.old.items ++ tokens_text (listed (name_tokens names.now) close list.now)) }
+    ensures { OnOk result (out.new.items ≡ out.old.items ++ tokens_text (with_commas (name_tokens names.now) close list.now)) }
 {
     match list.split_first() {
         Some((first, rest)) => {
@@ -136,7 +136,7 @@ pub fn type_name(
 
 #[tactic(auto, using(crate::proofs::Texts::texts))]
 fn truth_word(truth: bool) -> Keyword
-    ensures { result ≡ word_of_truth truth }
+    ensures { result ≡ truth_word truth_word }
 {
     if truth { Keyword::True } else { Keyword::False }
 }
@@ -232,7 +232,7 @@ fn expr_list(
     list: &[Expr],
     out: &mut Vec<u8>,
 ) -> Result<(), AllocError>
-    ensures { OnOk result (out.new.items ≡ out.old.items ++ tokens_text (listed (expression_tokens names.now) true (map expression list.now))) }
+    ensures { OnOk result (out.new.items ≡ out.old.items ++ tokens_text (with_commas (expression_tokens names.now) true (map expression list.now))) }
 {
     match list.split_first() {
         Some((first, rest)) => {

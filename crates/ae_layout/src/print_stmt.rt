@@ -2,7 +2,7 @@
 ghost use Rattle.std.specs.Prelude.{◌≡◌, ◌++◌, [], ◌∷◌, true, false, IfOk, OnOk};
 ghost use Rattle.ae_layout.specs.Spelling.{tokens_text};
 ghost use Rattle.ae_tree.specs.Shown.{expression, invocation, right_side, action, braced};
-ghost use Rattle.ae_layout.specs.Layout.{listed, name_tokens, path_tokens, type_tokens, expression_tokens, call_tokens, right_tokens, name_kind, near, far, semicolon, open_brace, assigned as assigned_tokens, first_line, row_text, rows_text, close_row as row_of_close, else_row as row_of_else, deeper as deeper_text, block_rows, row, rows};
+ghost use Rattle.ae_layout.specs.Layout.{with_commas, name_tokens, path_tokens, type_tokens, expression_tokens, call_tokens, right_tokens, name_kind, near, far, semicolon, open_brace, equals_value as assigned_tokens, first_line, row_text, rows_text, close_row as row_of_close, else_row as row_of_else, indented_more as deeper_text, block_rows, row, rows};
 ghost use Rattle.ae_text.specs.declared.token.Keyword.TheVariants as word_of;
 ghost use Rattle.ae_text.specs.declared.token.Sign.TheVariants as sign_of;
 ghost use Rattle.ae_text.specs.declared.token.TokenKind.TheVariants as kind;
@@ -177,7 +177,7 @@ fn atomic(names: &[Items<u8>], group: Name, out: &mut Vec<u8>) -> Result<(), All
 
 #[tactic(auto, using(crate::proofs::Texts::texts))]
 fn split(names: &[Items<u8>], list: &[NameAt], out: &mut Vec<u8>) -> Result<(), AllocError>
-    ensures { OnOk result (out.new.items ≡ out.old.items ++ tokens_text (near (kind.Word word_of.Split) ∷ listed (name_tokens names.now) false list.now ++ open_brace)) }
+    ensures { OnOk result (out.new.items ≡ out.old.items ++ tokens_text (near (kind.Word word_of.Split) ∷ with_commas (name_tokens names.now) false list.now ++ open_brace)) }
 {
     word(true, Keyword::Split, out)?;
     name_list(names, false, list, out)?;

@@ -3,7 +3,7 @@ ghost use Rattle.std.specs.Prelude.{◌≡◌, ◌++◌, OnOk};
 ghost use Rattle.std.specs.Fmt.{signed_decimal};
 ghost use Rattle.ae_text.specs.Tokens.{sign_text as text_of_sign};
 ghost use Rattle.ae_text.specs.declared.token.TokenKind.TheVariants as kind;
-ghost use Rattle.ae_layout.specs.Spelling.{escaped, all_escaped, gap, printed};
+ghost use Rattle.ae_layout.specs.Spelling.{escaped_byte, all_escaped, gap, printed_text};
 ghost use Rattle.ae_layout.specs.Layout.{token, name_kind, root_kind};
 
 use ae_tree::Name;
@@ -26,7 +26,7 @@ fn space(close: bool, out: &mut Vec<u8>) -> Result<(), AllocError>
 
 #[tactic(auto, using(crate::proofs::Texts::spells))]
 pub fn word(close: bool, word: Keyword, out: &mut Vec<u8>) -> Result<(), AllocError>
-    ensures { OnOk result (out.new.items ≡ out.old.items ++ printed (token close (kind.Word word))) }
+    ensures { OnOk result (out.new.items ≡ out.old.items ++ printed_text (token close (kind.Word word))) }
 {
     space(close, out)?;
     out.extend_from_slice(word.text().as_bytes())
@@ -68,7 +68,7 @@ fn sign_text(sign: Sign) -> &'static str
 
 #[tactic(auto, using(crate::proofs::Texts::spells))]
 pub fn sign(close: bool, sign: Sign, out: &mut Vec<u8>) -> Result<(), AllocError>
-    ensures { OnOk result (out.new.items ≡ out.old.items ++ printed (token close (kind.Sign sign))) }
+    ensures { OnOk result (out.new.items ≡ out.old.items ++ printed_text (token close (kind.Sign sign))) }
 {
     space(close, out)?;
     out.extend_from_slice(sign_text(sign).as_bytes())
@@ -82,7 +82,7 @@ pub fn name(
     name: Name,
     out: &mut Vec<u8>,
 ) -> Result<(), AllocError>
-    ensures { OnOk result (out.new.items ≡ out.old.items ++ printed (token close (name_kind names.now name))) }
+    ensures { OnOk result (out.new.items ≡ out.old.items ++ printed_text (token close (name_kind names.now name))) }
 {
     space(close, out)?;
     match names.get(name as usize) {
@@ -99,7 +99,7 @@ pub fn root(
     root: Name,
     out: &mut Vec<u8>,
 ) -> Result<(), AllocError>
-    ensures { OnOk result (out.new.items ≡ out.old.items ++ printed (token close (root_kind names.now root))) }
+    ensures { OnOk result (out.new.items ≡ out.old.items ++ printed_text (token close (root_kind names.now root))) }
 {
     if root == THIS {
         return word(close, Keyword::This, out);
@@ -117,7 +117,7 @@ fn decimal(alloc: Global, value: i64, out: &mut Vec<u8>) -> Result<(), AllocErro
 // A number in decimal digits.
 #[tactic(auto, using(crate::proofs::Texts::spells))]
 pub fn number(alloc: Global, close: bool, value: i64, out: &mut Vec<u8>) -> Result<(), AllocError>
-    ensures { OnOk result (out.new.items ≡ out.old.items ++ printed (token close (kind.Int value))) }
+    ensures { OnOk result (out.new.items ≡ out.old.items ++ printed_text (token close (kind.Int value))) }
 {
     space(close, out)?;
     decimal(alloc, value, out)
@@ -126,7 +126,7 @@ pub fn number(alloc: Global, close: bool, value: i64, out: &mut Vec<u8>) -> Resu
 // A byte between quotes.
 #[tactic(auto, using(crate::proofs::Texts::spells))]
 fn escape(byte: u8, out: &mut Vec<u8>) -> Result<(), AllocError>
-    ensures { OnOk result (out.new.items ≡ out.old.items ++ escaped byte) }
+    ensures { OnOk result (out.new.items ≡ out.old.items ++ escaped_byte byte) }
 {
     match byte {
         b'\n' => out.extend_from_slice(b"\\n"),
@@ -150,7 +150,7 @@ fn escape_all(bytes: &[u8], out: &mut Vec<u8>) -> Result<(), AllocError>
 // A text between quotes, with its escapes.
 #[tactic(auto, using(crate::proofs::Texts::spells))]
 pub fn text(close: bool, bytes: &[u8], out: &mut Vec<u8>) -> Result<(), AllocError>
-    ensures { OnOk result (out.new.items ≡ out.old.items ++ printed (token close (kind.Text bytes.now))) }
+    ensures { OnOk result (out.new.items ≡ out.old.items ++ printed_text (token close (kind.Text bytes.now))) }
 {
     space(close, out)?;
     out.extend_from_slice(b"\"")?;

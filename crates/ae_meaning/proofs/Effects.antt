@@ -10,10 +10,10 @@ use Rattle.ae_rules.specs.declared.uses.Mode.TheVariants.{Write, GroupWhole}
 use Rattle.ae_tree.specs.Plain.{Expression, Number, Truth, Nothing, Read, Item, Length, Grouped, Negated, Minus, Binary, RightSide, Value, Taken, Zeros, Made, Returned}
 use Rattle.ae_tree.specs.Plain.{Action, Declares, Assigns, Stores, StoresAt, Calls, Chooses, ChoosesElse, Repeats, Groups, Splits, Locks, Freezes, Shares, Prints, PrintsText, Asserts, Returns}
 use Rattle.ae_tree.specs.Names.{io}
-use Rattle.ae_rules.specs.BuiltUses.{reads, reads_right, read_if, local_mode, use_of}
+use Rattle.ae_rules.specs.BuiltUses.{reads_local, reads_right, read_if, local_mode, use_of}
 use Rattle.ae_meaning.specs.declared.report.Ending.TheVariants.{Trap}
-use Rattle.ae_meaning.specs.Values.{Env, Outcome, Fine, Traps, Lacks, then_value, found, fitted, stepped, value}
-use Rattle.ae_meaning.specs.Meaning.{State, Run, Went, Ends, Stops, given, bound, printed, one}
+use Rattle.ae_meaning.specs.Values.{Env, TodayOutcome, Fine, Traps, Lacks, then_value, today_found, today_fitted, stepped, today_value}
+use Rattle.ae_meaning.specs.Meaning.{TodayState, Run, Went, Ends, Stops, today_given, bound, today_printed, today_one}
 use Rattle.ae_meaning.specs.Running.{sought}
 use Rattle.ae_meaning.specs.Frame.{is_read}
 use Rattle.ae_meaning.proofs.Rules.{right-given}
@@ -37,23 +37,23 @@ nat_eq_self x = grind (arith, nat_tests)
 abbrev pub SameOn : (ℕ → Bool) → Env → Env → Type 0
 SameOn u e f = (y : ℕ) → u y ≡ true → e y ≡ f y
 
-stepped_same : (steps : List NameAt) (o p : Outcome) → o ≡ p → stepped steps o ≡ stepped steps p
+stepped_same : (steps : List NameAt) (o p : TodayOutcome) → o ≡ p → stepped steps o ≡ stepped steps p
 stepped_same steps o p q = ap (stepped steps) q
 
 -- an expression's value is told by what it reads
-pub value_same : (a : Expression) (e f : Env) → SameOn (reads a) e f → value a e ≡ value a f
+pub value_same : (a : Expression) (e f : Env) → SameOn (reads_local a) e f → today_value a e ≡ today_value a f
 value_same (Number n at) e f h = refl
 value_same (Truth b at) e f h = refl
 value_same (Nothing at) e f h = refl
-value_same (Read p) e f h = ap (λ o. stepped p.steps (found o)) (h p.root.name (nat_eq_self p.root.name))
+value_same (Read p) e f h = ap (λ o. stepped p.steps (today_found o)) (h p.root.name (nat_eq_self p.root.name))
 value_same (Item p a) e f h = refl
 value_same (Length p at) e f h = refl
 value_same (Grouped a at) e f h = value_same a e f h
 value_same (Negated a at) e f h = refl
-value_same (Minus a at) e f h = ap (λ o. then_value o (λ x. fitted (neg_ℤ x))) (value_same a e f h)
+value_same (Minus a at) e f h = ap (λ o. then_value o (λ x. today_fitted (neg_ℤ x))) (value_same a e f h)
 value_same (Binary op a b) e f h =
-    let p : value a e ≡ value a f = value_same a e f (λ y r. h y (or_left (reads a y) (reads b y) r)) in
-    let q : value b e ≡ value b f = value_same b e f (λ y r. h y (or_right (reads a y) (reads b y) r)) in
+    let p : today_value a e ≡ today_value a f = value_same a e f (λ y r. h y (or_left (reads_local a y) (reads_local b y) r)) in
+    let q : today_value b e ≡ today_value b f = value_same b e f (λ y r. h y (or_right (reads_local a y) (reads_local b y) r)) in
     rw (p, q) refl
 
 sought_same : (a : RightSide) (e f : Env) → SameOn (reads_right a) e f → sought a e ≡ sought a f
@@ -70,16 +70,16 @@ pub data Effect : Type 0 where
   Fails : ℕ → Effect
   Halts : Effect
 
-abbrev pub added : List ℕ → State → State
+abbrev pub added : List ℕ → TodayState → TodayState
 added bytes s = record { env = s.env; log = s.log ++ bytes }
 
-abbrev pub perform : Spot → Effect → State → Run
+abbrev pub perform : Spot → Effect → TodayState → Run
 perform at (Binds x v) s = Went (bound x v s)
 perform at (Adds bytes) s = Went (added bytes s)
 perform at (Fails code) s = Ends (Trap code at) s.log
 perform at Halts s = Stops s.log
 
-abbrev pub doing : Outcome → (ℤ → Effect) → Effect
+abbrev pub doing : TodayOutcome → (ℤ → Effect) → Effect
 doing (Fine v) go = go v
 doing (Traps code) go = Fails code
 doing Lacks go = Halts
@@ -87,16 +87,16 @@ doing Lacks go = Halts
 abbrev pub effect : Action → Env → Effect
 effect (Declares ty x e) env = doing (sought e env) (Binds x.name)
 effect (Assigns x e) env = doing (sought e env) (Binds x.name)
-effect (Prints e) env = doing (value e env) (λ v. Adds (signed_decimal v ++ 10 ∷ []))
+effect (Prints e) env = doing (today_value e env) (λ v. Adds (signed_decimal v ++ 10 ∷ []))
 effect _ env = Halts
 
-given_performs : (o : Outcome) (at : Spot) (s : State) (go : ℤ → Run) (does : ℤ → Effect) → ((v : ℤ) → go v ≡ perform at (does v) s) → given o at s go ≡ perform at (doing o does) s
+given_performs : (o : TodayOutcome) (at : Spot) (s : TodayState) (go : ℤ → Run) (does : ℤ → Effect) → ((v : ℤ) → go v ≡ perform at (does v) s) → today_given o at s go ≡ perform at (doing o does) s
 given_performs (Fine v) at s go does h = h v
 given_performs (Traps code) at s go does h = refl
 given_performs Lacks at s go does h = refl
 
 -- a statement's run is its effect
-pub performs : (at : Spot) (a : Action) (s : State) → one at a s ≡ perform at (effect a s.env) s
+pub performs : (at : Spot) (a : Action) (s : TodayState) → today_one at a s ≡ perform at (effect a s.env) s
 performs at (Declares ty x e) s = right-given e at s (λ v. Went (bound x.name v s)) ∙ given_performs (sought e s.env) at s (λ v. Went (bound x.name v s)) (Binds x.name) (λ v. refl)
 performs at (Assigns x e) s = right-given e at s (λ v. Went (bound x.name v s)) ∙ given_performs (sought e s.env) at s (λ v. Went (bound x.name v s)) (Binds x.name) (λ v. refl)
 performs at (Stores p e) s = refl
@@ -110,7 +110,7 @@ performs at (Splits gs n b) s = refl
 performs at (Locks g n b) s = refl
 performs at (Freezes x) s = refl
 performs at (Shares x g) s = refl
-performs at (Prints e) s = given_performs (value e s.env) at s (λ v. Went (printed v s)) (λ v. Adds (signed_decimal v ++ 10 ∷ [])) (λ v. refl)
+performs at (Prints e) s = given_performs (today_value e s.env) at s (λ v. Went (today_printed v s)) (λ v. Adds (signed_decimal v ++ 10 ∷ [])) (λ v. refl)
 performs at (PrintsText text) s = refl
 performs at (Asserts e) s = refl
 performs at (Returns e) s = refl
@@ -147,7 +147,7 @@ effect_read (Returns a) e f h = refl
 read_is_used : (a : Action) (y : ℕ) → is_read a y ≡ true → is_some (local_mode a y) ≡ true
 read_is_used (Declares ty x r) y t = either_used (nat_eq x.name y) (reads_right r y) t
 read_is_used (Assigns x r) y t = either_used (nat_eq x.name y) (reads_right r y) t
-read_is_used (Prints a) y t = read_used (reads a y) t
+read_is_used (Prints a) y t = read_used (reads_local a y) t
 read_is_used (Stores p a) y t = absurd (cc)
 read_is_used (StoresAt p i a) y t = absurd (cc)
 read_is_used (Calls c) y t = absurd (cc)
@@ -174,7 +174,7 @@ Allowed a (Adds bytes) = use_of a (Group io) ≡ Some GroupWhole
 Allowed a (Fails code) = Unit {0}
 Allowed a Halts = Unit {0}
 
-doing_allowed : (a : Action) (o : Outcome) (does : ℤ → Effect) → ((v : ℤ) → Allowed a (does v)) → Allowed a (doing o does)
+doing_allowed : (a : Action) (o : TodayOutcome) (does : ℤ → Effect) → ((v : ℤ) → Allowed a (does v)) → Allowed a (doing o does)
 doing_allowed a (Fine v) does h = h v
 doing_allowed a (Traps code) does h = tt
 doing_allowed a Lacks does h = tt
@@ -185,7 +185,7 @@ written x e = ap (λ b. if b then Some Write else read_if (reads_right e x)) (na
 pub allowed : (a : Action) (env : Env) → Allowed a (effect a env)
 allowed (Declares ty x e) env = doing_allowed (Declares ty x e) (sought e env) (Binds x.name) (λ v. written x.name e)
 allowed (Assigns x e) env = doing_allowed (Assigns x e) (sought e env) (Binds x.name) (λ v. written x.name e)
-allowed (Prints e) env = doing_allowed (Prints e) (value e env) (λ v. Adds (signed_decimal v ++ 10 ∷ [])) (λ v. refl)
+allowed (Prints e) env = doing_allowed (Prints e) (today_value e env) (λ v. Adds (signed_decimal v ++ 10 ∷ [])) (λ v. refl)
 allowed (Stores p e) env = tt
 allowed (StoresAt p i e) env = tt
 allowed (Calls c) env = tt

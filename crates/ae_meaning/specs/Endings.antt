@@ -2,8 +2,8 @@
 use Rattle.std.specs.Prelude.{ℕ, ℤ, List, IsSome}
 use Rattle.ae_tree.specs.Plain.{Code}
 use Rattle.ae_tree.specs.Judgement.{Accepted}
-use Rattle.ae_meaning.specs.Meaning.{seq}
+use Rattle.ae_meaning.specs.Meaning.{today_seq}
 
 -- an accepted program has an ending
 abbrev pub AcceptedEnd : Type 0
-AcceptedEnd = (p : Code) → Accepted p → (ints : List ℤ) (fuel : ℕ) → IsSome (seq p ints fuel).ending
+AcceptedEnd = (p : Code) → Accepted p → (ints : List ℤ) (fuel : ℕ) → IsSome (today_seq p ints fuel).ending

@@ -2,7 +2,7 @@
 use Rattle.std.specs.Prelude.{◌≡◌, ◌⊎◌}
 use Rattle.ae_text.specs.declared.refusal.Spot.{Spot}
 use Rattle.ae_tree.specs.Plain.{Action, Lines, End, Next}
-use Rattle.ae_meaning.specs.Meaning.{State, Went, one, many, ended}
+use Rattle.ae_meaning.specs.Meaning.{TodayState, Went, today_one, today_many, meaning_of_run}
 use Rattle.ae_meaning.specs.Frame.{Apart}
 
 -- a statement that conflicts with none before it is taken out of the lines, and the rest is left
@@ -19,9 +19,9 @@ Reorders b (Next at a c) = (rest : Lines) × Takes b at a rest × Reorders rest 
 
 -- lines that go through do so in every such order, and lead to the same state
 abbrev pub OrderIsFree : Type 0
-OrderIsFree = (b c : Lines) → Reorders b c → (s t : State) → many b s ≡ Went t → many c s ≡ Went t
+OrderIsFree = (b c : Lines) → Reorders b c → (s t : TodayState) → today_many b s ≡ Went t → today_many c s ≡ Went t
 
 -- a statement that is taken out and goes through leaves the ending of the rest as it was
 abbrev pub TakingKeepsEnding : Type 0
 TakingKeepsEnding = (b : Lines) (at : Spot) (a : Action) (rest : Lines) → Takes b at a rest
-    → (s t : State) → one at a s ≡ Went t → (ended (many rest t)).ending ≡ (ended (many b s)).ending
+    → (s t : TodayState) → today_one at a s ≡ Went t → (meaning_of_run (today_many rest t)).ending ≡ (meaning_of_run (today_many b s)).ending

@@ -1,6 +1,6 @@
 // The values of a method's names.
 ghost use Rattle.std.specs.Prelude.{◌≡◌, ◌<◌, length, OnOk};
-ghost use Rattle.ae_meaning.specs.Values.{empty, with};
+ghost use Rattle.ae_meaning.specs.Values.{empty, today_with};
 ghost use Rattle.ae_meaning.specs.Running.{env_of};
 
 use ae_tree::Name;
@@ -45,7 +45,7 @@ impl Locals {
 
     /// Gives a name its value, in place of an older one.
     pub fn put(&mut self, name: Name, value: i64) -> Result<(), AllocError>
-        ensures { OnOk result (env_of self.new ≡ with name value (env_of self.old)) }
+        ensures { OnOk result (env_of self.new ≡ today_with name value (env_of self.old)) }
     {
         self.make_room(name)?;
         self.values[name as usize] = Some(value);

@@ -4,9 +4,9 @@ ghost use Rattle.std.specs.Fmt.{signed_decimal};
 ghost use Rattle.ae_tree.specs.Plain.{End};
 ghost use Rattle.ae_tree.specs.Shown.{expression, right_side, action, braced, definition, code};
 ghost use Rattle.ae_tree.specs.Judgement.{Accepted};
-ghost use Rattle.ae_meaning.specs.Values.{value};
-ghost use Rattle.ae_meaning.specs.Meaning.{one, many, main_body, begin, ended, seq};
-ghost use Rattle.ae_meaning.specs.Running.{env_of, held, Found, sought, Answers};
+ghost use Rattle.ae_meaning.specs.Values.{today_value};
+ghost use Rattle.ae_meaning.specs.Meaning.{today_one, today_many, main_body, begin, meaning_of_run, today_seq};
+ghost use Rattle.ae_meaning.specs.Running.{env_of, held, FindsValue, sought, AnswersAs};
 
 use crate::locals::Locals;
 use crate::report::{Ending, Meant};
@@ -45,7 +45,7 @@ impl From<AllocError> for Stop {
 
 // The value of an expression of the statement at this place.
 fn found(expr: &Expr, locals: &Locals, at: Spot) -> Result<i64, Stop>
-    ensures { Found (value (expression expr.now) (env_of locals.now)) at result }
+    ensures { FindsValue (today_value (expression expr.now) (env_of locals.now)) at result }
 {
     match value_of(expr, locals) {
         Ok(value) => Ok(value),
@@ -56,7 +56,7 @@ fn found(expr: &Expr, locals: &Locals, at: Spot) -> Result<i64, Stop>
 
 // The value of a right side.
 fn right(rhs: &Rhs, locals: &Locals, at: Spot) -> Result<i64, Stop>
-    ensures { Found (sought (right_side rhs.now) (env_of locals.now)) at result }
+    ensures { FindsValue (sought (right_side rhs.now) (env_of locals.now)) at result }
 {
     match rhs {
         Rhs::Expr(expr) => found(expr, locals, at),
@@ -66,7 +66,7 @@ fn right(rhs: &Rhs, locals: &Locals, at: Spot) -> Result<i64, Stop>
 
 // The number and a line feed.
 fn print(alloc: Global, log: &mut Vec<u8>, value: i64) -> Result<(), AllocError>
-    ensures { OnOk result (log.new.items ≡ log.old.items ++ (signed_decimal value ++ 10 ∷ [])) }
+    ensures { OnOk result (log.new.items ≡ log.old.items ++ (signed_decimal today_value ++ 10 ∷ [])) }
 {
     let text = format!(in alloc; "{value}\n")?;
     log.extend_from_slice(text.as_bytes())
@@ -75,7 +75,7 @@ fn print(alloc: Global, log: &mut Vec<u8>, value: i64) -> Result<(), AllocError>
 /// Runs one statement. Where it does not go through and memory was not refused, the locals stay as they were.
 #[tactic(auto, using(crate::proofs::Rules::forms))]
 pub fn run_stmt(alloc: Global, stmt: &Stmt, state: &mut Running) -> Result<(), Stop>
-    ensures answer { Answers (one stmt.now.at (action stmt.now.kind) (held state.old)) result (held state.new) }
+    ensures answer { AnswersAs (today_one stmt.now.at (action stmt.now.kind) (held state.old)) result (held state.new) }
     ensures kept { IfErr result (λ stop. stop ≢ Stop.Memory → env_of state.new.locals ≡ env_of state.old.locals) }
 {
     let at = stmt.at;
@@ -109,7 +109,7 @@ pub fn run_stmt(alloc: Global, stmt: &Stmt, state: &mut Running) -> Result<(), S
 // The statements of a block, up to the first that does not go through.
 #[tactic(auto, using(crate::proofs::Rules::forms))]
 fn run_block(alloc: Global, block: &Block, state: &mut Running) -> Result<(), Stop>
-    ensures { Answers (many (braced block.now).lines (held state.old)) result (held state.new) }
+    ensures { AnswersAs (today_many (braced block.now).lines (held state.old)) result (held state.new) }
 {
     for stmt in block.stmts.as_slice() {
         run_stmt(alloc, stmt, state)?;
@@ -133,8 +133,8 @@ fn main_method(program: &Program) -> Option<&Method>
 // Runs the method main from no locals and nothing printed.
 #[tactic(auto, using(crate::proofs::Rules::forms))]
 fn run_main(alloc: Global, program: &Program) -> Result<Meant, Memory>
-    ensures ending { IfOk result (λ m. m.ending ≡ (ended (many (main_body (map definition program.now.methods)) begin)).ending) }
-    ensures out { IfOk result (λ m. m.out ≡ (ended (many (main_body (map definition program.now.methods)) begin)).out) }
+    ensures ending { IfOk result (λ m. m.ending ≡ (meaning_of_run (today_many (main_body (map definition program.now.methods)) begin)).ending) }
+    ensures out { IfOk result (λ m. m.out ≡ (meaning_of_run (today_many (main_body (map definition program.now.methods)) begin)).out) }
 {
     let mut state = Running {
         locals: Locals::new(alloc),
@@ -158,8 +158,8 @@ fn run_main(alloc: Global, program: &Program) -> Result<Meant, Memory>
 #[tactic(auto, using(crate::proofs::Rules::forms))]
 pub fn evaluate(alloc: Global, program: &Program, ints: &[i64], fuel: u32) -> Result<Meant, Memory>
     requires accepted { Accepted (code program.now) }
-    ensures ending { IfOk result (λ m. m.ending ≡ (seq (code program.now) ints.now fuel).ending) }
-    ensures out { IfOk result (λ m. m.out ≡ (seq (code program.now) ints.now fuel).out) }
+    ensures ending { IfOk result (λ m. m.ending ≡ (today_seq (code program.now) ints.now fuel).ending) }
+    ensures out { IfOk result (λ m. m.out ≡ (today_seq (code program.now) ints.now fuel).out) }
     ensures ends { IfOk result (λ m. IsSome m.ending) }
 {
     run_main(alloc, program)

@@ -1,7 +1,7 @@
 // The values of expressions.
 ghost use Rattle.std.specs.Prelude.{◌≡◌, ◌≢◌, pos, neg_ℤ, int_div, int_rem};
 ghost use Rattle.ae_tree.specs.Shown.{expression};
-ghost use Rattle.ae_meaning.specs.Values.{Fine, value, found, fitted, unless_zero, applied, stepped};
+ghost use Rattle.ae_meaning.specs.Values.{Fine, today_value, today_found, today_fitted, today_unless_zero, today_applied, stepped};
 ghost use Rattle.ae_meaning.specs.Running.{env_of, Comes};
 
 use crate::locals::Locals;
@@ -20,7 +20,7 @@ const ZERO_DIVISOR: Fault = Fault::Trap(2);
 
 // Cut towards zero. The least number divided by -1 does not fit.
 fn quotient(a: i64, b: i64) -> Result<i64, Fault>
-    ensures { Comes (unless_zero b (fitted (int_div a b))) result }
+    ensures { Comes (today_unless_zero b (today_fitted (int_div a b))) result }
 {
     if b == 0 {
         return Err(ZERO_DIVISOR);
@@ -30,7 +30,7 @@ fn quotient(a: i64, b: i64) -> Result<i64, Fault>
 
 // With the dividend's sign. The least number leaves 0 when it is divided by -1.
 fn remainder(a: i64, b: i64) -> Result<i64, Fault>
-    ensures { Comes (unless_zero b (Fine (int_rem a b))) result }
+    ensures { Comes (today_unless_zero b (Fine (int_rem a b))) result }
 {
     if b == 0 {
         return Err(ZERO_DIVISOR);
@@ -39,7 +39,7 @@ fn remainder(a: i64, b: i64) -> Result<i64, Fault>
 }
 
 fn apply(op: Op, a: i64, b: i64) -> Result<i64, Fault>
-    ensures { Comes (applied op a b) result }
+    ensures { Comes (today_applied op a b) result }
 {
     match op {
         Op::Add => a.checked_add(b).ok_or(OVERFLOW),
@@ -53,14 +53,14 @@ fn apply(op: Op, a: i64, b: i64) -> Result<i64, Fault>
 
 // The negation of the least number does not fit.
 fn negate(a: i64) -> Result<i64, Fault>
-    ensures { Comes (fitted (neg_ℤ a)) result }
+    ensures { Comes (today_fitted (neg_ℤ a)) result }
 {
     a.checked_neg().ok_or(OVERFLOW)
 }
 
 // A local's value. Fields are not read yet.
 fn read(path: &Path, locals: &Locals) -> Result<i64, Fault>
-    ensures { Comes (stepped path.now.steps (found (env_of locals.now path.now.root.name))) result }
+    ensures { Comes (stepped path.now.steps (today_found (env_of locals.now path.now.root.name))) result }
 {
     if !path.steps.is_empty() {
         return Err(Fault::Lack);
@@ -71,7 +71,7 @@ fn read(path: &Path, locals: &Locals) -> Result<i64, Fault>
 /// The value of an expression, or its first fault from left to right.
 #[tactic(auto, using(crate::proofs::Rules::forms))]
 pub fn value_of(expr: &Expr, locals: &Locals) -> Result<i64, Fault>
-    ensures { Comes (value (expression expr.now) (env_of locals.now)) result }
+    ensures { Comes (today_value (expression expr.now) (env_of locals.now)) result }
 {
     match expr {
         Expr::Int(n, _) => Ok(*n),

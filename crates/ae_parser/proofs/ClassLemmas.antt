@@ -14,22 +14,22 @@ use Rattle.ae_tree.specs.declared.tree.Class.{Class}
 use Rattle.ae_tree.specs.declared.tree.Method.{Method}
 use Rattle.ae_tree.specs.Shown as shown
 use Rattle.ae_tree.specs.Plain.{Definition}
-use Rattle.ae_tree.specs.Grammar.{Tokens, each, name, groups, type_, field, method, numbers_from, Declaration, OfClass}
+use Rattle.ae_tree.specs.Grammar.{Tokens, one_by_one, name, groups, type_, field, method, numbers_from, Declaration, OfClass}
 use Rattle.ae_tree.specs.Limits.{KeepsMethod}
 use Rattle.ae_reading.specs.declared.fail.Fail.{Fail}
-use Rattle.ae_reading.specs.Reads.{head, Always, Is, Isnt, Free, IsWithin, Took, Failed, Mark}
+use Rattle.ae_reading.specs.Reads.{head, Always, Is, Isnt, Free, IsWithinAll, Took, Failed, TokenMark}
 use Rattle.ae_reading.proofs.ReadsLemmas.{Lang, Bound, Follow, Links, Both, Pair, Has, Along, took_as, failed_as, has_mark, has_both, has_name}
 use Rattle.ae_reading.proofs.Begins.{begins_both, begins_not, opens_one, opens_isnt, is_isnt}
 use Rattle.ae_reading.proofs.Runs.{Run, run_start, run_more, run_end, run_failed}
 use Rattle.ae_reading.proofs.TypeLemmas.{has_groups}
-use Rattle.ae_parser.specs.Productions.{BeginsType, NoType, AllKeep, KeepsOne, class_at}
+use Rattle.ae_parser.specs.Productions.{BeginsType, NoType, AllMethodsKeep, KeepsOne, class_behind}
 use Rattle.ae_parser.proofs.ParamLemmas.{begins_type, no_type}
 use Rattle.ae_parser.proofs.MethodLemmas.{method_begins}
 
 -- ---- fields
 
 abbrev pub semicolon : Lang (Unit {0})
-semicolon = Mark (tok.Sign sign.Semicolon)
+semicolon = TokenMark (tok.Sign sign.Semicolon)
 
 abbrev pub FieldParts : Type 0
 FieldParts = Ty × (NameAt × Unit {0})
@@ -61,7 +61,7 @@ begins_field y us r d = begins_both type_ (λ t. Both name semicolon) BeginsType
 pub type_goes_on : (ts : Tokens) → BeginsType (head ts) → NoType (head ts) → ⊥
 type_goes_on ts is other = other is
 
-pub fields_end : (ts rest : Tokens) (fs : List Field) → NoType (head rest) → Run field Free NoType ts fs rest → Took (each field) Free NoType ts fs rest
+pub fields_end : (ts rest : Tokens) (fs : List Field) → NoType (head rest) → Run field Free NoType ts fs rest → Took (one_by_one field) Free NoType ts fs rest
 fields_end ts rest fs other t = run_end (begins_not field BeginsType rest begins_field other) t
 
 pub field_smaller : (ts rest : Tokens) (f : Field) → Took field Free Always ts f rest → length rest < length ts
@@ -75,7 +75,7 @@ abbrev pub NoMethod : Follow
 NoMethod = Isnt (tok.Word word.Method)
 
 abbrev pub ReadMethods : ℕ → Tokens → List Definition → Tokens → Type 0
-ReadMethods c ts ms rest = Run (method (Some c)) AllKeep NoMethod ts ms rest
+ReadMethods c ts ms rest = Run (method (Some c)) AllMethodsKeep NoMethod ts ms rest
 
 method_goes_on : (ts : Tokens) → Is (tok.Word word.Method) (head ts) → NoMethod (head ts) → ⊥
 method_goes_on ts is = is_isnt (tok.Word word.Method) (head ts) is
@@ -91,13 +91,13 @@ pub all_last : {X : Type 0} (P : X → Type 0) (xs : List X) (x : X) (ys : List 
 all_last P [] x ys a = All-head P x ys a
 all_last P (y ∷ xs) x ys a = all_last P xs x ys (All-tail P y (xs ++ x ∷ ys) a)
 
-none_keep : IsWithin AllKeep []
+none_keep : IsWithinAll AllMethodsKeep []
 none_keep l = All-nil (KeepsMethod l)
 
 pub methods_start : (c : ℕ) (ts : Tokens) (ms : List Method) → ms ≡ [] → ReadMethods c ts (map shown.definition ms) ts
 methods_start c ts ms e =
     let P : List Method → Type 0 = λ l. ReadMethods c ts (map shown.definition l) ts in
-    subst P (sym e) (run_start (method (Some c)) AllKeep NoMethod ts none_keep)
+    subst P (sym e) (run_start (method (Some c)) AllMethodsKeep NoMethod ts none_keep)
 
 pub methods_more : (c : ℕ) (ts rest rest' : Tokens) (ms ns : List Method) (m : Method) → Is (tok.Word word.Method) (head rest) → ns ≡ ms ++ m ∷ [] →
     ReadMethods c ts (map shown.definition ms) rest → Took (method (Some c)) KeepsMethod Always rest (shown.definition m) rest' → ReadMethods c ts (map shown.definition ns) rest'
@@ -107,11 +107,11 @@ methods_more c ts rest rest' ms ns m is e t u =
     (run_more (λ zs vs r m f. tt) (method_goes_on rest is) (λ l. all_two (KeepsMethod l) (map shown.definition ms) (shown.definition m) (t.within l) (u.within l)) t u)
 
 pub methods_failed : (c : ℕ) (ts rest : Tokens) (ms : List Definition) (e : Fail) → Is (tok.Word word.Method) (head rest) →
-    ReadMethods c ts ms rest → Failed (method (Some c)) KeepsMethod Always rest e → Failed (each (method (Some c))) AllKeep NoMethod ts e
+    ReadMethods c ts ms rest → Failed (method (Some c)) KeepsMethod Always rest e → Failed (one_by_one (method (Some c))) AllMethodsKeep NoMethod ts e
 methods_failed c ts rest ms e is t f =
     run_failed (λ zs vs r m f. tt) (method_goes_on rest is) (λ l z w. all_two (KeepsMethod l) ms z (t.within l) w) (λ l z zs w. all_last (KeepsMethod l) ms z zs w) t f
 
-pub methods_end : (c : ℕ) (ts rest : Tokens) (ms : List Definition) → (Is (tok.Word word.Method) (head rest) → ⊥) → ReadMethods c ts ms rest → Took (each (method (Some c))) AllKeep NoMethod ts ms rest
+pub methods_end : (c : ℕ) (ts rest : Tokens) (ms : List Definition) → (Is (tok.Word word.Method) (head rest) → ⊥) → ReadMethods c ts ms rest → Took (one_by_one (method (Some c))) AllMethodsKeep NoMethod ts ms rest
 methods_end c ts rest ms other t = run_end (begins_not (method (Some c)) (Is (tok.Word word.Method)) rest (method_begins (Some c)) other) t
 
 -- a method is one token at least
@@ -124,12 +124,12 @@ method_smaller k ts rest m s = omega (arith, ap length s.whole, length-append s.
 pub run_shorter : {A : Type 0} {D : Lang A} {V : Bound (List A)} {F : Follow} {ts rest : Tokens} {xs : List A} → Run D V F ts xs rest → length rest ≤ length ts
 run_shorter {rest = rest} t = omega (arith, ap length t.whole, length-append t.taken rest)
 
-pub methods_long : (k : Option ℕ) (ms : List Definition) (us : Tokens) → each (method k) ms us → length ms ≤ length us
+pub methods_long : (k : Option ℕ) (ms : List Definition) (us : Tokens) → one_by_one (method k) ms us → length ms ≤ length us
 methods_long k [] us d = omega arith
 methods_long k (m ∷ ms) us d = omega (arith, ap length d.parts, length-append d.front d.back, method_long k m d.front d.first, methods_long k ms d.back d.second)
 
 -- no more methods than tokens
-pub methods_few : (c : ℕ) (ts rest : Tokens) (ms : List Definition) → Took (each (method (Some c))) AllKeep NoMethod ts ms rest → length ms + length rest ≤ length ts
+pub methods_few : (c : ℕ) (ts rest : Tokens) (ms : List Definition) → Took (one_by_one (method (Some c))) AllMethodsKeep NoMethod ts ms rest → length ms + length rest ≤ length ts
 methods_few c ts rest ms t = omega (arith, ap length t.whole, length-append t.taken rest, methods_long (Some c) ms t.taken t.derives)
 
 -- ---- the numbers of methods
@@ -168,19 +168,19 @@ numbered_end first count numbers next left none n = sym (n.all ∙ ap (λ (k : �
 -- ---- a class
 
 abbrev pub opening : Lang (Unit {0})
-opening = Mark (tok.Sign sign.OpenBrace)
+opening = TokenMark (tok.Sign sign.OpenBrace)
 
 abbrev pub closing : Lang (Unit {0})
-closing = Mark (tok.Sign sign.CloseBrace)
+closing = TokenMark (tok.Sign sign.CloseBrace)
 
 abbrev pub ClassParts : Type 0
 ClassParts = Unit {0} × (NameAt × (List NameAt × (Unit {0} × (List Field × (List Definition × Unit {0})))))
 
 abbrev pub class_body : ℕ → Lang ClassParts
-class_body c = Both (Mark (tok.Word word.Class)) (Both name (Both groups (Both opening (Both (each field) (Both (each (method (Some c))) closing)))))
+class_body c = Both (TokenMark (tok.Word word.Class)) (Both name (Both groups (Both opening (Both (one_by_one field) (Both (one_by_one (method (Some c))) closing)))))
 
 abbrev pub class_limit : Bound ClassParts
-class_limit = Pair Free (Pair Free (Pair Free (Pair Free (Pair Free (Pair AllKeep Free)))))
+class_limit = Pair Free (Pair Free (Pair Free (Pair Free (Pair Free (Pair AllMethodsKeep Free)))))
 
 abbrev pub class_with : NameAt → List NameAt → List Field → List ℕ → List Definition → Declaration
 class_with x gs fs ns ms = OfClass (record { name = x; groups = gs; fields = fs; methods = ns }) ms
@@ -188,10 +188,10 @@ class_with x gs fs ns ms = OfClass (record { name = x; groups = gs; fields = fs;
 abbrev pub class_tree : ℕ → ClassParts → Declaration
 class_tree m q = class_with q.1.0 q.1.1.0 q.1.1.1.1.0 (numbers_from m (length q.1.1.1.1.1.0)) q.1.1.1.1.1.0
 
-class_intro : (c m : ℕ) (q : ClassParts) (us : Tokens) → class_body c q us → class_at c m (class_tree m q) us
+class_intro : (c m : ℕ) (q : ClassParts) (us : Tokens) → class_body c q us → class_behind c m (class_tree m q) us
 class_intro c m q us d = (record { name = q.1.0; groups = q.1.1.0; fields = q.1.1.1.1.0; methods = numbers_from m (length q.1.1.1.1.1.0) }, q.1.1.1.1.1.0, refl, (refl, d))
 
-class_cases : (c m : ℕ) (y : Declaration) (us : Tokens) → class_at c m y us → (q : ClassParts) × (y ≡ class_tree m q) × class_body c q us
+class_cases : (c m : ℕ) (y : Declaration) (us : Tokens) → class_behind c m y us → (q : ClassParts) × (y ≡ class_tree m q) × class_body c q us
 class_cases c m y us d =
     let k : Class = d.0 in (
       (tt, (k.name, (k.groups, (tt, (k.fields, (d.1, tt)))))),
@@ -199,7 +199,7 @@ class_cases c m y us d =
       d.3.1,
     )
 
-class_along : (c m : ℕ) (ts : Tokens) → Along (class_at c m) (class_body c) KeepsOne class_limit ts (class_tree m)
+class_along : (c m : ℕ) (ts : Tokens) → Along (class_behind c m) (class_body c) KeepsOne class_limit ts (class_tree m)
 class_along c m ts = record {
   intro = class_intro c m;
   cases = λ y us r d h. class_cases c m y us d;
@@ -208,24 +208,24 @@ class_along c m ts = record {
 }
 
 pub class_took : (c m : ℕ) (ts rest : Tokens) (x : NameAt) (gs : List NameAt) (fs : List Field) (ms : List Definition) →
-    Took (class_body c) class_limit Always ts (tt, (x, (gs, (tt, (fs, (ms, tt)))))) rest → Took (class_at c m) KeepsOne Always ts (class_with x gs fs (numbers_from m (length ms)) ms) rest
-class_took c m ts rest x gs fs ms t = took_as (class_at c m) (class_body c) (class_tree m) (class_along c m ts) t
+    Took (class_body c) class_limit Always ts (tt, (x, (gs, (tt, (fs, (ms, tt)))))) rest → Took (class_behind c m) KeepsOne Always ts (class_with x gs fs (numbers_from m (length ms)) ms) rest
+class_took c m ts rest x gs fs ms t = took_as (class_behind c m) (class_body c) (class_tree m) (class_along c m ts) t
 
-pub class_failed : (c m : ℕ) (ts : Tokens) (e : Fail) → Failed (class_body c) class_limit Always ts e → Failed (class_at c m) KeepsOne Always ts e
-class_failed c m ts e f = failed_as (class_at c m) (class_body c) (class_tree m) (class_along c m ts) f
+pub class_failed : (c m : ℕ) (ts : Tokens) (e : Fail) → Failed (class_body c) class_limit Always ts e → Failed (class_behind c m) KeepsOne Always ts e
+class_failed c m ts e f = failed_as (class_behind c m) (class_body c) (class_tree m) (class_along c m ts) f
 
 -- methods and the closing brace are no field
-no_field : (c : ℕ) (ms : List Definition) (u : Unit {0}) (us r : Tokens) → Both (each (method (Some c))) closing (ms, u) us → NoType (head (us ++ r))
+no_field : (c : ℕ) (ms : List Definition) (u : Unit {0}) (us r : Tokens) → Both (one_by_one (method (Some c))) closing (ms, u) us → NoType (head (us ++ r))
 no_field c [] u us r d =
     let at : head (us ++ r) ≡ Some (record { kind = tok.Sign sign.CloseBrace; at = d.second.0 }) = ap (λ l. head (l ++ r)) (d.parts ∙ ap (λ l. l ++ d.back) d.first ∙ d.second.1) in
     let P : Option Lexeme → Type 0 = NoType in
     subst P (sym at) (no_type (tok.Sign sign.CloseBrace) (Some (record { kind = tok.Sign sign.CloseBrace; at = d.second.0 })) (λ e. cc) (λ e. cc) (λ e. cc) (λ e. cc) (λ e. cc) (λ e. cc) refl)
 no_field c (m ∷ ms) u us r d =
-    let is = begins_both (Both (method (Some c)) (each (method (Some c)))) (λ m. closing) (Is (tok.Word word.Method))
-    (begins_both (method (Some c)) (λ m. each (method (Some c))) (Is (tok.Word word.Method)) (method_begins (Some c))) ((m, ms), u) us r d in
+    let is = begins_both (Both (method (Some c)) (one_by_one (method (Some c)))) (λ m. closing) (Is (tok.Word word.Method))
+    (begins_both (method (Some c)) (λ m. one_by_one (method (Some c))) (Is (tok.Word word.Method)) (method_begins (Some c))) ((m, ms), u) us r d in
     no_type (tok.Word word.Method) (head (us ++ r)) (λ e. cc) (λ e. cc) (λ e. cc) (λ e. cc) (λ e. cc) (λ e. cc) is
 
-pub methods_no_type : (c : ℕ) → Links (Both (each (method (Some c))) closing) Always NoType
+pub methods_no_type : (c : ℕ) → Links (Both (one_by_one (method (Some c))) closing) Always NoType
 methods_no_type c y us r d f = no_field c y.0 y.1 us r d
 
 pub closing_no_method : Links closing Always NoMethod
@@ -236,23 +236,23 @@ closing_no_method y us r d f = opens_isnt us r (opens_one us r d.1) (λ e. cc)
 pub has_closed : Has closing Free
 has_closed = has_mark (tok.Sign sign.CloseBrace) tt
 
-has_no_methods : (c : ℕ) → Has (each (method (Some c))) AllKeep
+has_no_methods : (c : ℕ) → Has (one_by_one (method (Some c))) AllMethodsKeep
 has_no_methods c = record { tree = []; tokens = []; is = refl; known = tt; within = none_keep }
 
-has_no_fields : Has (each field) Free
+has_no_fields : Has (one_by_one field) Free
 has_no_fields = record { tree = []; tokens = []; is = refl; known = tt; within = λ l. tt }
 
-pub has_finished : (c : ℕ) → Has (Both (each (method (Some c))) closing) (Pair AllKeep Free)
+pub has_finished : (c : ℕ) → Has (Both (one_by_one (method (Some c))) closing) (Pair AllMethodsKeep Free)
 has_finished c = has_both (has_no_methods c) has_closed
 
-pub has_filled : (c : ℕ) → Has (Both (each field) (Both (each (method (Some c))) closing)) (Pair Free (Pair AllKeep Free))
+pub has_filled : (c : ℕ) → Has (Both (one_by_one field) (Both (one_by_one (method (Some c))) closing)) (Pair Free (Pair AllMethodsKeep Free))
 has_filled c = has_both has_no_fields (has_finished c)
 
-pub has_opened : (c : ℕ) → Has (Both opening (Both (each field) (Both (each (method (Some c))) closing))) (Pair Free (Pair Free (Pair AllKeep Free)))
+pub has_opened : (c : ℕ) → Has (Both opening (Both (one_by_one field) (Both (one_by_one (method (Some c))) closing))) (Pair Free (Pair Free (Pair AllMethodsKeep Free)))
 has_opened c = has_both (has_mark (tok.Sign sign.OpenBrace) tt) (has_filled c)
 
-pub has_grouped : (c : ℕ) → Has (Both groups (Both opening (Both (each field) (Both (each (method (Some c))) closing)))) (Pair Free (Pair Free (Pair Free (Pair AllKeep Free))))
+pub has_grouped : (c : ℕ) → Has (Both groups (Both opening (Both (one_by_one field) (Both (one_by_one (method (Some c))) closing)))) (Pair Free (Pair Free (Pair Free (Pair AllMethodsKeep Free))))
 has_grouped c = has_both has_groups (has_opened c)
 
-pub has_named : (c : ℕ) → Has (Both name (Both groups (Both opening (Both (each field) (Both (each (method (Some c))) closing))))) (Pair Free (Pair Free (Pair Free (Pair Free (Pair AllKeep Free)))))
+pub has_named : (c : ℕ) → Has (Both name (Both groups (Both opening (Both (one_by_one field) (Both (one_by_one (method (Some c))) closing))))) (Pair Free (Pair Free (Pair Free (Pair Free (Pair AllMethodsKeep Free)))))
 has_named c = has_both has_name (has_grouped c)

@@ -15,7 +15,7 @@ use Rattle.ae_tree.specs.Plain.{Definition}
 use Rattle.ae_tree.specs.Grammar.{Tokens, method, Declaration, OfClass, OfMethod, classes_in, methods_in, declared, declaration, declarations, classes_of, methods_of, decls_of}
 use Rattle.ae_tree.specs.Limits.{KeepsMethod}
 use Rattle.ae_reading.specs.declared.fail.Fail.{Fail}
-use Rattle.ae_reading.specs.Reads.{head, Always, Is, Free, Took, Failed, Mark, chain, after}
+use Rattle.ae_reading.specs.Reads.{head, Always, Is, Free, Took, Failed, TokenMark, chain, state_after}
 use Rattle.ae_reading.proofs.ReadsLemmas.{Lang, Follow, Links, Both, Pair, Along, NoneAt, took_as, failed_as, has_mark, first}
 use Rattle.ae_reading.proofs.Chains.{Chain, after-append, chain_start, chain_more, chain_end, chain_failed}
 use Rattle.ae_reading.proofs.Begins.{opens_so, opens_one, opens_mark, opens_is, opens_other}
@@ -23,12 +23,12 @@ use Rattle.ae_reading.proofs.Programs.{Counts2, counted, one_of, to_all, from_al
 use Rattle.ae_parser.specs.declared.classes.WithMethods.{WithMethods}
 use Rattle.ae_parser.specs.declared.declarations.Parts.{Parts}
 use Rattle.ae_parser.specs.Reading.{whole_program, KeepsAll, KeepsAllWhole, HasRead, ReadsAll}
-use Rattle.ae_parser.specs.Productions.{KeepsOne, shown_class, class_at, method_at, Added, ReadsOne}
+use Rattle.ae_parser.specs.Productions.{KeepsOne, shown_class, class_behind, method_behind, Added, ReadsOne}
 use Rattle.ae_parser.proofs.ClassLemmas.{all_one, method_long, methods_long}
 
 -- ---- one declaration
 
-method_along : (c m : ℕ) (ts : Tokens) → Along (method_at c m) (method None) KeepsOne KeepsMethod ts OfMethod
+method_along : (c m : ℕ) (ts : Tokens) → Along (method_behind c m) (method None) KeepsOne KeepsMethod ts OfMethod
 method_along c m ts = record {
   intro = λ q us d. (q, refl, d);
   cases = λ y us r d h. (d.0, d.1, d.2);
@@ -36,21 +36,21 @@ method_along c m ts = record {
   from = λ q us d l v. All-head (KeepsMethod l) q [] v;
 }
 
-pub method_fails : (c m : ℕ) (ts : Tokens) (e : Fail) → Failed (method None) KeepsMethod Always ts e → Failed (method_at c m) KeepsOne Always ts e
-method_fails c m ts e f = failed_as (method_at c m) (method None) OfMethod (method_along c m ts) f
+pub method_fails : (c m : ℕ) (ts : Tokens) (e : Fail) → Failed (method None) KeepsMethod Always ts e → Failed (method_behind c m) KeepsOne Always ts e
+method_fails c m ts e f = failed_as (method_behind c m) (method None) OfMethod (method_along c m ts) f
 
 pub added_method : (before behind : Parts) (ts rest : Tokens) (x : Method) → behind.classes ≡ before.classes → behind.methods ≡ before.methods ++ x ∷ [] → behind.decls ≡ before.decls ++ decl.Method (length before.methods) ∷ [] →
-    Took (method None) KeepsMethod Always ts (shown.definition x) rest → Added method_at before behind ts rest
+    Took (method None) KeepsMethod Always ts (shown.definition x) rest → Added method_behind before behind ts rest
 added_method before behind ts rest x cs ms ds t = record {
   one = OfMethod (shown.definition x);
-  took = took_as (method_at (length before.classes) (length before.methods)) (method None) OfMethod (method_along (length before.classes) (length before.methods) ts) t;
+  took = took_as (method_behind (length before.classes) (length before.methods)) (method None) OfMethod (method_along (length before.classes) (length before.methods) ts) t;
   classes = cs ∙ sym (append-nil before.classes);
   methods = ap (λ (l : List Method). map shown.definition l) ms ∙ map-append shown.definition before.methods (x ∷ []);
   decls = ds;
 }
 
 pub added_class : (before behind : Parts) (ts rest : Tokens) (w : WithMethods) → behind.classes ≡ before.classes ++ w.class ∷ [] → behind.methods ≡ before.methods ++ w.methods → behind.decls ≡ before.decls ++ decl.Class (length before.classes) ∷ [] →
-    Took (class_at (length before.classes) (length before.methods)) KeepsOne Always ts (shown_class w) rest → Added class_at before behind ts rest
+    Took (class_behind (length before.classes) (length before.methods)) KeepsOne Always ts (shown_class w) rest → Added class_behind before behind ts rest
 added_class before behind ts rest w cs ms ds t = record {
   one = shown_class w;
   took = t;
@@ -59,24 +59,24 @@ added_class before behind ts rest w cs ms ds t = record {
   decls = ds;
 }
 
-class_intro : (c m : ℕ) (q : Declaration) (us : Tokens) → class_at c m q us → declaration c m q us
+class_intro : (c m : ℕ) (q : Declaration) (us : Tokens) → class_behind c m q us → declaration c m q us
 class_intro c m q us d = let P : Declaration → Type 0 = λ x. declaration c m x us in subst P (sym d.2) d.3
 
-class_cases : (c m : ℕ) (ts : Tokens) → Is (tok.Word word.Class) (head ts) → (y : Declaration) (us r : Tokens) → declaration c m y us → head (us ++ r) ≡ head ts → (q : Declaration) × (y ≡ q) × class_at c m q us
+class_cases : (c m : ℕ) (ts : Tokens) → Is (tok.Word word.Class) (head ts) → (y : Declaration) (us r : Tokens) → declaration c m y us → head (us ++ r) ≡ head ts → (q : Declaration) × (y ≡ q) × class_behind c m q us
 class_cases c m ts is (OfClass k ms) us r d h = (OfClass k ms, refl, (k, ms, refl, d))
 class_cases c m ts is (OfMethod x) us r d h = let no : tok.Word word.Method ≡ tok.Word word.Class = opens_is us r ts (opens_mark us r d.2) h is in absurd cc
 
-pub class_there : (ts : Tokens) → Is (tok.Word word.Class) (head ts) → (c m : ℕ) → Along (declaration c m) (class_at c m) KeepsOne KeepsOne ts (λ q. q)
+pub class_there : (ts : Tokens) → Is (tok.Word word.Class) (head ts) → (c m : ℕ) → Along (declaration c m) (class_behind c m) KeepsOne KeepsOne ts (λ q. q)
 class_there ts is c m = record { intro = class_intro c m; cases = class_cases c m ts is; to = λ q us d l v. v; from = λ q us d l v. v }
 
-method_intro : (c m : ℕ) (q : Declaration) (us : Tokens) → method_at c m q us → declaration c m q us
+method_intro : (c m : ℕ) (q : Declaration) (us : Tokens) → method_behind c m q us → declaration c m q us
 method_intro c m q us d = let P : Declaration → Type 0 = λ x. declaration c m x us in subst P (sym d.1) d.2
 
-method_cases : (c m : ℕ) (ts : Tokens) → (Is (tok.Word word.Class) (head ts) → ⊥) → (y : Declaration) (us r : Tokens) → declaration c m y us → head (us ++ r) ≡ head ts → (q : Declaration) × (y ≡ q) × method_at c m q us
+method_cases : (c m : ℕ) (ts : Tokens) → (Is (tok.Word word.Class) (head ts) → ⊥) → (y : Declaration) (us r : Tokens) → declaration c m y us → head (us ++ r) ≡ head ts → (q : Declaration) × (y ≡ q) × method_behind c m q us
 method_cases c m ts other (OfClass k ms) us r d h = absurd (opens_other us r ts (opens_mark us r d.1) h other)
 method_cases c m ts other (OfMethod x) us r d h = (OfMethod x, refl, (x, refl, d))
 
-pub method_there : (ts : Tokens) → (Is (tok.Word word.Class) (head ts) → ⊥) → (c m : ℕ) → Along (declaration c m) (method_at c m) KeepsOne KeepsOne ts (λ q. q)
+pub method_there : (ts : Tokens) → (Is (tok.Word word.Class) (head ts) → ⊥) → (c m : ℕ) → Along (declaration c m) (method_behind c m) KeepsOne KeepsOne ts (λ q. q)
 method_there ts other c m = record { intro = method_intro c m; cases = method_cases c m ts other; to = λ q us d l v. v; from = λ q us d l v. v }
 
 -- one of the forms is a declaration
@@ -159,7 +159,7 @@ methods_append (y ∷ xs) ys = ap (λ (l : List Definition). methods_in y ++ l) 
 methods_one : (xs : List Declaration) (x : Declaration) → methods_of (xs ++ x ∷ []) ≡ methods_of xs ++ methods_in x
 methods_one xs x = methods_append xs (x ∷ []) ∙ ap (λ (l : List Definition). methods_of xs ++ l) (append-nil (methods_in x))
 
-decls_append : (c m : ℕ) (xs : List Declaration) (x : Declaration) → decls_of c m (xs ++ x ∷ []) ≡ decls_of c m xs ++ declared (after counted (c, m) xs).0 (after counted (c, m) xs).1 x ∷ []
+decls_append : (c m : ℕ) (xs : List Declaration) (x : Declaration) → decls_of c m (xs ++ x ∷ []) ≡ decls_of c m xs ++ declared (state_after counted (c, m) xs).0 (state_after counted (c, m) xs).1 x ∷ []
 decls_append c m [] x = refl
 decls_append c m (y ∷ xs) x = ap (λ (l : List Decl). declared c m y ∷ l) (decls_append (c + length (classes_in y)) (m + length (methods_in y)) xs x)
 
@@ -190,7 +190,7 @@ keeps_one l xs x ys a =
 pub record ReadParts (ts : Tokens) (p : Parts) (rest : Tokens) : Type 0 where
   pub list : List Declaration
   pub run : Chain one_of counted KeepsAll Ending (0, 0) ts list rest
-  pub state : after counted (0, 0) list ≡ (length p.classes, length p.methods)
+  pub state : state_after counted (0, 0) list ≡ (length p.classes, length p.methods)
   pub classes : p.classes ≡ classes_of list
   pub methods : map shown.definition p.methods ≡ methods_of list
   pub decls : p.decls ≡ decls_of 0 0 list
@@ -210,7 +210,7 @@ parts_start ts p cs ms ds = record {
 }
 
 state_more : (before behind : Parts) (ts rest rest' : Tokens) (p : ReadParts ts before rest) (a : Added declaration before behind rest rest') →
-    after counted (0, 0) (p.list ++ a.one ∷ []) ≡ (length behind.classes, length behind.methods)
+    state_after counted (0, 0) (p.list ++ a.one ∷ []) ≡ (length behind.classes, length behind.methods)
 state_more before behind ts rest rest' p a =
     let cs : length before.classes + length (classes_in a.one) ≡ length behind.classes = sym (ap (λ (l : List Class). length l) a.classes ∙ length-append before.classes (classes_in a.one)) in
     let ms : length before.methods + length (methods_in a.one) ≡ length behind.methods =
@@ -222,7 +222,7 @@ state_more before behind ts rest rest' p a =
 pub parts_more : (before behind : Parts) (ts rest rest' : Tokens) → (Ending (head rest) → ⊥) → ReadParts ts before rest → Added declaration before behind rest rest' → ReadParts ts behind rest'
 parts_more before behind ts rest rest' other p a =
     let S : Counts2 → Type 0 = λ s. Took (one_of s) KeepsOne Always rest a.one rest' in
-    let took : S (after counted (0, 0) p.list) = subst S (sym p.state) a.took in
+    let took : S (state_after counted (0, 0) p.list) = subst S (sym p.state) a.took in
     let long = one_long (length before.classes) (length before.methods) a.one a.took.taken a.took.derives in
     record {
       list = p.list ++ a.one ∷ [];
@@ -252,7 +252,7 @@ no_declaration c m rest is (OfMethod x) us r d h = let no : tok.Word word.Method
 
 pub parts_end : (ts rest : Tokens) (p : Parts) → Ending (head rest) → ReadParts ts p rest → HasRead ts p
 parts_end ts rest p is r =
-    let s : Counts2 = after counted (0, 0) r.list in
+    let s : Counts2 = state_after counted (0, 0) r.list in
     record {
       list = r.list;
       rest = rest;
@@ -265,18 +265,18 @@ parts_end ts rest p is r =
 
 -- ---- the end
 
-end_follows : Links (Mark tok.End) Always Ending
+end_follows : Links (TokenMark tok.End) Always Ending
 end_follows y us r d f = opens_so us r (opens_one us r d.1)
 
-whole_along : (ts : Tokens) → Along whole_program (Both (declarations 0 0) (Mark tok.End)) KeepsAllWhole (Pair KeepsAll Free) ts (λ q. q)
+whole_along : (ts : Tokens) → Along whole_program (Both (declarations 0 0) (TokenMark tok.End)) KeepsAllWhole (Pair KeepsAll Free) ts (λ q. q)
 whole_along ts = record { intro = λ q us d. d; cases = λ y us r d h. (y, refl, d); to = λ q us d l v. v.0; from = λ q us d l v. (v, tt) }
 
 pub parts_failed : (ts rest : Tokens) (p : Parts) (e : Fail) → (Ending (head rest) → ⊥) → ReadParts ts p rest → Failed (declaration (length p.classes) (length p.methods)) KeepsOne Always rest e → Failed whole_program KeepsAllWhole Always ts e
 parts_failed ts rest p e other r f =
     let S : Counts2 → Type 0 = λ s. Failed (one_of s) KeepsOne Always rest e in
-    let fails : S (after counted (0, 0) r.list) = subst S (sym r.state) f in
+    let fails : S (state_after counted (0, 0) r.list) = subst S (sym r.state) f in
     let all : Failed all_of KeepsAll Ending ts e = chain_failed (λ s zs vs r m f. tt) other (λ l z w. keeps_more l r.list z (r.run.within l) w) (λ l z zs w. keeps_one l r.list z zs w) r.run fails in
-    failed_as whole_program (Both (declarations 0 0) (Mark tok.End)) (λ q. q) (whole_along ts)
+    failed_as whole_program (Both (declarations 0 0) (TokenMark tok.End)) (λ q. q) (whole_along ts)
     (first end_follows (has_mark tok.End tt) (failed_as (declarations 0 0) all_of (λ q. q) (all_along ts) all))
 
 pub leaves_all : (ts : Tokens) (r : Result Parts Fail) (e : Fail) → Failed whole_program KeepsAllWhole Always ts e → IsErrAnd r (λ y. y ≡ e) → ReadsAll ts r
@@ -285,14 +285,14 @@ leaves_all ts (Err y) e f h = let P : Fail → Type 0 = Failed whole_program Kee
 
 -- ---- numbers that are lengths
 
-pub failed_counts : (c d m n : ℕ) (ts : Tokens) (e : Fail) → c ≡ d → m ≡ n → Failed (class_at c m) KeepsOne Always ts e → Failed (class_at d n) KeepsOne Always ts e
+pub failed_counts : (c d m n : ℕ) (ts : Tokens) (e : Fail) → c ≡ d → m ≡ n → Failed (class_behind c m) KeepsOne Always ts e → Failed (class_behind d n) KeepsOne Always ts e
 failed_counts c d m n ts e p q f =
-    let P : ℕ → Type 0 = λ k. Failed (class_at k n) KeepsOne Always ts e in
-    let Q : ℕ → Type 0 = λ k. Failed (class_at c k) KeepsOne Always ts e in
+    let P : ℕ → Type 0 = λ k. Failed (class_behind k n) KeepsOne Always ts e in
+    let Q : ℕ → Type 0 = λ k. Failed (class_behind c k) KeepsOne Always ts e in
     subst P p (subst Q q f)
 
-pub took_counts : (c d m n : ℕ) (ts rest : Tokens) (x : Declaration) → c ≡ d → m ≡ n → Took (class_at c m) KeepsOne Always ts x rest → Took (class_at d n) KeepsOne Always ts x rest
+pub took_counts : (c d m n : ℕ) (ts rest : Tokens) (x : Declaration) → c ≡ d → m ≡ n → Took (class_behind c m) KeepsOne Always ts x rest → Took (class_behind d n) KeepsOne Always ts x rest
 took_counts c d m n ts rest x p q t =
-    let P : ℕ → Type 0 = λ k. Took (class_at k n) KeepsOne Always ts x rest in
-    let Q : ℕ → Type 0 = λ k. Took (class_at c k) KeepsOne Always ts x rest in
+    let P : ℕ → Type 0 = λ k. Took (class_behind k n) KeepsOne Always ts x rest in
+    let Q : ℕ → Type 0 = λ k. Took (class_behind c k) KeepsOne Always ts x rest in
     subst P p (subst Q q t)

@@ -13,28 +13,28 @@ use Rattle.ae_tree.specs.declared.tree.Need.{Need}
 use Rattle.ae_tree.specs.declared.tree.Need.TheVariants as need_of
 use Rattle.ae_tree.specs.declared.tree.GroupNeed.{GroupNeed}
 use Rattle.ae_tree.specs.Plain.{Lines, End, Definition}
-use Rattle.ae_tree.specs.Grammar.{Tokens, Then, ◌⨾◌, one, separated, name, groups, type_, result, need_word, need, needs, body, IsOf, method}
+use Rattle.ae_tree.specs.Grammar.{Tokens, Then, ◌⨾◌, one_token, separated, name, groups, type_, result, need_word, need, needs, method_body, IsMethodOf, method}
 use Rattle.ae_tree.specs.Limits.{KeepsBlock, HasFewParams, KeepsMethod}
 use Rattle.ae_reading.specs.declared.fail.Fail.{Fail}
-use Rattle.ae_reading.specs.Reads.{head, Always, Is, Free, Took, Failed, Mark, Isnt}
+use Rattle.ae_reading.specs.Reads.{head, Always, Is, Free, Took, Failed, TokenMark, Isnt}
 use Rattle.ae_reading.proofs.ReadsLemmas.{Lang, Bound, Follow, Links, Both, Pair, Has, Along, took_as, failed_as, has_mark, has_both, has_name, at_once, nowhere, When, took_nothing}
 use Rattle.ae_reading.proofs.Begins.{not_both, opens_so, Opens, opens_one, opens_mark, opens_is, opens_other, of_other}
 use Rattle.ae_reading.proofs.Programs.{method_is}
 use Rattle.ae_statements.proofs.BlockLemmas.{none_few}
 use Rattle.ae_reading.proofs.TypeLemmas.{NoLess, has_groups}
 use Rattle.ae_parser.specs.declared.params.Given.{Given}
-use Rattle.ae_parser.specs.Productions.{BeginsType, HasMe, given, FewGiven, need_by, some_needs}
+use Rattle.ae_parser.specs.Productions.{BeginsType, HasMe, given_to_method, FewGiven, need_by, some_needs}
 use Rattle.ae_parser.proofs.ParamLemmas.{begins_type, no_type, has_given}
 
 -- ---- what a method returns
 
-void_cases : (ts : Tokens) → Is (tok.Word word.Void) (head ts) → (y : Option Ty) (us r : Tokens) → result y us → head (us ++ r) ≡ head ts → NoLess (head r) → (q : Unit {0}) × (y ≡ None) × Mark (tok.Word word.Void) q us × Always (head r)
+void_cases : (ts : Tokens) → Is (tok.Word word.Void) (head ts) → (y : Option Ty) (us r : Tokens) → result y us → head (us ++ r) ≡ head ts → NoLess (head r) → (q : Unit {0}) × (y ≡ None) × TokenMark (tok.Word word.Void) q us × Always (head r)
 void_cases ts is None us r d h f = (tt, refl, d, tt)
 void_cases ts is (Some t) us r d h f =
     let P : Option Lexeme → Type 0 = BeginsType in
     absurd (no_type (tok.Word word.Void) (head ts) (λ e. cc) (λ e. cc) (λ e. cc) (λ e. cc) (λ e. cc) (λ e. cc) is (subst P h (begins_type t us r d)))
 
-pub void_when : (ts : Tokens) → Is (tok.Word word.Void) (head ts) → When result (Mark (tok.Word word.Void)) Free Free NoLess Always ts (λ q. None)
+pub void_when : (ts : Tokens) → Is (tok.Word word.Void) (head ts) → When result (TokenMark (tok.Word word.Void)) Free Free NoLess Always ts (λ q. None)
 void_when ts is = record { intro = λ q us d. d; cases = void_cases ts is; to = λ q us d l v. tt; from = λ q us d l v. tt }
 
 some_cases : (ts : Tokens) → (Is (tok.Word word.Void) (head ts) → ⊥) → (y : Option Ty) (us r : Tokens) → result y us → head (us ++ r) ≡ head ts → (q : Ty) × (y ≡ Some q) × type_ q us
@@ -50,7 +50,7 @@ has_result = record { tree = None; tokens = at_once (tok.Word word.Void); is = (
 -- ---- one need
 
 abbrev pub need_body : Keyword → Lang (Unit {0} × NameAt)
-need_body w = Both (Mark (tok.Word w)) name
+need_body w = Both (TokenMark (tok.Word w)) name
 
 abbrev pub need_tree : Need → Unit {0} × NameAt → GroupNeed
 need_tree n q = record { need = n; group = q.1 }
@@ -67,11 +67,11 @@ same_need need_of.Protected need_of.Shared e = absurd cc
 same_need need_of.Protected need_of.Protected e = refl
 
 need_intro : (w : Keyword) (n : Need) → need_word n ≡ w → (q : Unit {0} × NameAt) (us : Tokens) → need_body w q us → need_by w (need_tree n q) us
-need_intro w n e q us d = let P : Keyword → Type 0 = λ k. (one (tok.Word k) ⨾ name q.1) us in (e, subst P (sym e) d)
+need_intro w n e q us d = let P : Keyword → Type 0 = λ k. (one_token (tok.Word k) ⨾ name q.1) us in (e, subst P (sym e) d)
 
 need_cases : (w : Keyword) (n : Need) → need_word n ≡ w → (y : GroupNeed) (us : Tokens) → need_by w y us → (q : Unit {0} × NameAt) × (y ≡ need_tree n q) × need_body w q us
 need_cases w n e y us d =
-    let P : Keyword → Type 0 = λ k. (one (tok.Word k) ⨾ name y.group) us in
+    let P : Keyword → Type 0 = λ k. (one_token (tok.Word k) ⨾ name y.group) us in
     ((tt, y.group), ap (λ (m : Need). record { need = m; group = y.group }) (same_need y.need n (d.0 ∙ sym e)), subst P d.0 d.1)
 
 need_along : (w : Keyword) (n : Need) (ts : Tokens) → need_word n ≡ w → Along (need_by w) (need_body w) Free (Pair Free Free) ts (need_tree n)
@@ -127,7 +127,7 @@ pub comma_or_brace : (ts : Tokens) → Is (tok.Sign sign.Comma) (head ts) → Op
 comma_or_brace ts is also = not_both (tok.Sign sign.Comma) (tok.Sign sign.OpenBrace) (λ e. cc) (head ts) is also
 
 abbrev pub with_body : Lang (Unit {0} × List GroupNeed)
-with_body = Both (Mark (tok.Word word.With)) (separated need)
+with_body = Both (TokenMark (tok.Word word.With)) (separated need)
 
 with_along : (ts : Tokens) → Along some_needs with_body Free (Pair Free Free) ts (λ q. q.1)
 with_along ts = record { intro = λ q us d. d; cases = λ y us r d h. ((tt, y), refl, d); to = λ q us d l v. tt; from = λ q us d l v. (tt, tt) }
@@ -170,10 +170,10 @@ abbrev pub KeepsBody : Bound Lines
 KeepsBody l b = KeepsBlock l 63 b
 
 -- a body begins with a brace
-pub body_opens : Links body Always Opening
+pub body_opens : Links method_body Always Opening
 body_opens y us r d f = opens_so us r (opens_mark us r d.3)
 
-pub has_body : Has body KeepsBody
+pub has_body : Has method_body KeepsBody
 has_body = record {
   tree = End;
   tokens = at_once (tok.Sign sign.OpenBrace) ++ at_once (tok.Sign sign.CloseBrace);
@@ -202,16 +202,16 @@ has_body = record {
 -- ---- methods
 
 abbrev pub opening : Lang (Unit {0})
-opening = Mark (tok.Sign sign.OpenParen)
+opening = TokenMark (tok.Sign sign.OpenParen)
 
 abbrev pub closing : Lang (Unit {0})
-closing = Mark (tok.Sign sign.CloseParen)
+closing = TokenMark (tok.Sign sign.CloseParen)
 
 abbrev pub MethodParts : Type 0
 MethodParts = Unit {0} × (Option Ty × (NameAt × (List NameAt × (Unit {0} × (Given × (Unit {0} × (List GroupNeed × Lines)))))))
 
 abbrev pub method_body : Option ℕ → Lang MethodParts
-method_body k = Both (Mark (tok.Word word.Method)) (Both result (Both name (Both groups (Both opening (Both (given k) (Both closing (Both needs body)))))))
+method_body k = Both (TokenMark (tok.Word word.Method)) (Both result (Both name (Both groups (Both opening (Both (given_to_method k) (Both closing (Both needs method_body)))))))
 
 abbrev pub method_limit : Bound MethodParts
 method_limit = Pair Free (Pair Free (Pair Free (Pair Free (Pair Free (Pair FewGiven (Pair Free (Pair Free KeepsBody)))))))
@@ -232,11 +232,11 @@ in_front f us d = record { front = d.front; back = d.back; parts = d.parts; firs
 given_at : (k : Option ℕ) (q : MethodParts) (us : Tokens) → method_body k q us → HasMe k q.1.1.1.1.1.0.me
 given_at k q us d = d.second.second.second.second.second.first.0
 
-is_of : (k : Option ℕ) (q : MethodParts) → HasMe k q.1.1.1.1.1.0.me → IsOf k (method_tree k q)
+is_of : (k : Option ℕ) (q : MethodParts) → HasMe k q.1.1.1.1.1.0.me → IsMethodOf k (method_tree k q)
 is_of None q h = (refl, h)
 is_of (Some c) q h = (refl, h)
 
-of_me : (k : Option ℕ) (m : Definition) → IsOf k m → HasMe k m.me
+of_me : (k : Option ℕ) (m : Definition) → IsMethodOf k m → HasMe k m.me
 of_me None m i = i.1
 of_me (Some c) m i = i.1
 
@@ -285,25 +285,25 @@ method_failed k ts e f = failed_as (method k) (method_body k) (method_tree k) (m
 
 -- completions behind each part
 
-pub has_needed : Has (Both needs body) (Pair Free KeepsBody)
+pub has_needed : Has (Both needs method_body) (Pair Free KeepsBody)
 has_needed = has_both has_needs has_body
 
-pub has_closed : Has (Both closing (Both needs body)) (Pair Free (Pair Free KeepsBody))
+pub has_closed : Has (Both closing (Both needs method_body)) (Pair Free (Pair Free KeepsBody))
 has_closed = has_both (has_mark (tok.Sign sign.CloseParen) tt) has_needed
 
-pub has_filled : (k : Option ℕ) → Has (Both (given k) (Both closing (Both needs body))) (Pair FewGiven (Pair Free (Pair Free KeepsBody)))
+pub has_filled : (k : Option ℕ) → Has (Both (given_to_method k) (Both closing (Both needs method_body))) (Pair FewGiven (Pair Free (Pair Free KeepsBody)))
 has_filled k = has_both (has_given k) has_closed
 
-pub has_opened : (k : Option ℕ) → Has (Both opening (Both (given k) (Both closing (Both needs body)))) (Pair Free (Pair FewGiven (Pair Free (Pair Free KeepsBody))))
+pub has_opened : (k : Option ℕ) → Has (Both opening (Both (given_to_method k) (Both closing (Both needs method_body)))) (Pair Free (Pair FewGiven (Pair Free (Pair Free KeepsBody))))
 has_opened k = has_both (has_mark (tok.Sign sign.OpenParen) tt) (has_filled k)
 
-pub has_grouped : (k : Option ℕ) → Has (Both groups (Both opening (Both (given k) (Both closing (Both needs body))))) (Pair Free (Pair Free (Pair FewGiven (Pair Free (Pair Free KeepsBody)))))
+pub has_grouped : (k : Option ℕ) → Has (Both groups (Both opening (Both (given_to_method k) (Both closing (Both needs method_body))))) (Pair Free (Pair Free (Pair FewGiven (Pair Free (Pair Free KeepsBody)))))
 has_grouped k = has_both has_groups (has_opened k)
 
-pub has_named : (k : Option ℕ) → Has (Both name (Both groups (Both opening (Both (given k) (Both closing (Both needs body)))))) (Pair Free (Pair Free (Pair Free (Pair FewGiven (Pair Free (Pair Free KeepsBody))))))
+pub has_named : (k : Option ℕ) → Has (Both name (Both groups (Both opening (Both (given_to_method k) (Both closing (Both needs method_body)))))) (Pair Free (Pair Free (Pair Free (Pair FewGiven (Pair Free (Pair Free KeepsBody))))))
 has_named k = has_both has_name (has_grouped k)
 
-pub has_returned : (k : Option ℕ) → Has (Both result (Both name (Both groups (Both opening (Both (given k) (Both closing (Both needs body))))))) (Pair Free (Pair Free (Pair Free (Pair Free (Pair FewGiven (Pair Free (Pair Free KeepsBody)))))))
+pub has_returned : (k : Option ℕ) → Has (Both result (Both name (Both groups (Both opening (Both (given_to_method k) (Both closing (Both needs method_body))))))) (Pair Free (Pair Free (Pair Free (Pair Free (Pair FewGiven (Pair Free (Pair Free KeepsBody)))))))
 has_returned k = has_both has_result (has_named k)
 
 pub has_method : (k : Option ℕ) → Has (method k) KeepsMethod

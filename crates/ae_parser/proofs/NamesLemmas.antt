@@ -11,9 +11,9 @@ use Rattle.ae_text.specs.declared.token.Token.{Token}
 use Rattle.ae_tree.specs.declared.lexeme.Lexical.{Lexical}
 use Rattle.ae_tree.specs.declared.lexeme.Lexical.TheVariants as tok
 use Rattle.ae_tree.specs.declared.lexeme.Lexeme.{Lexeme}
-use Rattle.ae_tree.specs.Names.{spelled, spellings, first_names, names_of, number_of, lexical, lexeme, numbered}
+use Rattle.ae_tree.specs.Names.{spelled_before, spellings, first_names, names_of, name_number, lexical, lexeme, numbered}
 use Rattle.ae_tree.specs.Grammar.{Tokens}
-use Rattle.ae_tree.specs.Refused.{IsKnown, AreKnown}
+use Rattle.ae_tree.specs.Refused.{IsKnown, AreSpellable}
 
 abbrev pub Words : Type 0
 Words = List (List ℕ)
@@ -62,11 +62,11 @@ has_inserted ks s = step (list_any (bytes_eq s) ks) refl
     step true e = e
     step false e = has_last ks s
 
-number_more : (ks more : Words) (s : List ℕ) → Has ks s → number_of (ks ++ more) s ≡ number_of ks s
+number_more : (ks more : Words) (s : List ℕ) → Has ks s → name_number (ks ++ more) s ≡ name_number ks s
 number_more [] more s h = cc
 number_more (x ∷ ks) more s h = step (bytes_eq s x) h (number_more ks more s)
   where
-    step : (b : Bool) → (b || list_any (bytes_eq s) ks) ≡ true → (Has ks s → number_of (ks ++ more) s ≡ number_of ks s) → cond (not b) (1 + number_of (ks ++ more) s) 0 ≡ cond (not b) (1 + number_of ks s) 0
+    step : (b : Bool) → (b || list_any (bytes_eq s) ks) ≡ true → (Has ks s → name_number (ks ++ more) s ≡ name_number ks s) → cond (not b) (1 + name_number (ks ++ more) s) 0 ≡ cond (not b) (1 + name_number ks s) 0
     step true h again = refl
     step false h again = ap (λ n. 1 + n) (again h)
 
@@ -91,7 +91,7 @@ has_still ks xs s h =
     subst P (sym m.1) (has_more ks m.0 s h)
 
 token_in : (kind : TokenKind) (ks : Words) (ts : List Token) → ((ls : Words) → AreIn (insert_all bytes_eq ls (spellings ts)) ts) →
-    IsIn (insert_all bytes_eq ks (spelled kind (spellings ts))) kind × AreIn (insert_all bytes_eq ks (spelled kind (spellings ts))) ts
+    IsIn (insert_all bytes_eq ks (spelled_before kind (spellings ts))) kind × AreIn (insert_all bytes_eq ks (spelled_before kind (spellings ts))) ts
 token_in (k.Name s) ks ts again = (has_still (insert_key bytes_eq ks s) (spellings ts) s (has_inserted ks s), again (insert_key bytes_eq ks s))
 token_in (k.Int n) ks ts again = (tt, again ks)
 token_in (k.Text s) ks ts again = (tt, again ks)
@@ -118,7 +118,7 @@ numbered_more names more (t ∷ ts) h =
 
 -- ---- tokens before others
 
-spelled-append : (kind : TokenKind) (a b : Words) → spelled kind (a ++ b) ≡ spelled kind a ++ b
+spelled-append : (kind : TokenKind) (a b : Words) → spelled_before kind (a ++ b) ≡ spelled_before kind a ++ b
 spelled-append (k.Name s) a b = refl
 spelled-append (k.Int n) a b = refl
 spelled-append (k.Text s) a b = refl
@@ -128,7 +128,7 @@ spelled-append k.End a b = refl
 
 spellings-append : (a b : List Token) → spellings (a ++ b) ≡ spellings a ++ spellings b
 spellings-append [] b = refl
-spellings-append (t ∷ a) b = ap (spelled t.kind) (spellings-append a b) ∙ spelled-append t.kind (spellings a) (spellings b)
+spellings-append (t ∷ a) b = ap (spelled_before t.kind) (spellings-append a b) ∙ spelled-append t.kind (spellings a) (spellings b)
 
 names-append : (a b : List Token) → names_of (a ++ b) ≡ insert_all bytes_eq (names_of a) (spellings b)
 names-append a b = ap (insert_all bytes_eq first_names) (spellings-append a b) ∙ fold-append (insert_key bytes_eq) first_names (spellings a) (spellings b)
@@ -166,10 +166,10 @@ token_of l = record { kind = kind_of l.kind; begin = 0; end = 0; at = l.at }
 abbrev pub tokens_of : Tokens → List Token
 tokens_of ls = map token_of ls
 
-io_first : (ts : List Token) → number_of (names_of ts) (codes "io") ≡ 0
-io_first ts = let m = insert_more (spellings ts) first_names in ap (λ names. number_of names (codes "io")) m.1
+io_first : (ts : List Token) → name_number (names_of ts) (codes "io") ≡ 0
+io_first ts = let m = insert_more (spellings ts) first_names in ap (λ names. name_number names (codes "io")) m.1
 
-kind_again : (names : Words) (l : Lexical) → number_of names (codes "io") ≡ 0 → IsKnown l → lexical names (kind_of l) ≡ l
+kind_again : (names : Words) (l : Lexical) → name_number names (codes "io") ≡ 0 → IsKnown l → lexical names (kind_of l) ≡ l
 kind_again names (tok.Name n) io h = ap tok.Name (io ∙ sym h)
 kind_again names (tok.Int n) io h = refl
 kind_again names (tok.Text s) io h = refl
@@ -177,13 +177,13 @@ kind_again names (tok.Word w) io h = refl
 kind_again names (tok.Sign g) io h = refl
 kind_again names tok.End io h = refl
 
-numbered_again : (names : Words) (ls : Tokens) → number_of names (codes "io") ≡ 0 → AreKnown ls → numbered names (tokens_of ls) ≡ ls
+numbered_again : (names : Words) (ls : Tokens) → name_number names (codes "io") ≡ 0 → AreSpellable ls → numbered names (tokens_of ls) ≡ ls
 numbered_again names [] io h = refl
 numbered_again names (l ∷ ls) io h =
     ap₂ (λ (a : Lexical) (b : Tokens). record { kind = a; at = l.at } ∷ b) (kind_again names l.kind io h.0) (numbered_again names ls io h.1)
 
 -- tokens with known lexemes behind them
-pub lexemes-append : (front : List Token) (more : Tokens) → AreKnown more → lexemes_of (front ++ tokens_of more) ≡ lexemes_of front ++ more
+pub lexemes-append : (front : List Token) (more : Tokens) → AreSpellable more → lexemes_of (front ++ tokens_of more) ≡ lexemes_of front ++ more
 lexemes-append front more known =
     let whole = front ++ tokens_of more in
     map-append (lexeme (names_of whole)) front (tokens_of more)

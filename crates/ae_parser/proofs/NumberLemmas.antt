@@ -10,8 +10,8 @@ use Rattle.indexmap.specs.IndexSet.{insert_key, insert_all}
 use Rattle.ae_text.specs.declared.token.TokenKind.{TokenKind}
 use Rattle.ae_text.specs.declared.token.TokenKind.TheVariants as k
 use Rattle.ae_text.specs.declared.token.Token.{Token}
-use Rattle.ae_tree.specs.Names.{spelled, spellings, number_of}
-use Rattle.ae_parser.specs.Slices.{bytes_of}
+use Rattle.ae_tree.specs.Names.{spelled_before, spellings, name_number}
+use Rattle.ae_parser.specs.Slices.{slices_bytes}
 
 abbrev Slices : Type 0
 Slices = List (Bor (List ℕ))
@@ -19,21 +19,21 @@ Slices = List (Bor (List ℕ))
 abbrev Same : (Bor (List ℕ) → Bor (List ℕ) → Bool) → Type 0
 Same eq = (a b : Bor (List ℕ)) → eq a b ≡ bytes_eq a.now b.now
 
-any_same : (eq : Bor (List ℕ) → Bor (List ℕ) → Bool) → Same eq → (s : Bor (List ℕ)) (ks : Slices) → list_any (eq s) ks ≡ list_any (bytes_eq s.now) (bytes_of ks)
+any_same : (eq : Bor (List ℕ) → Bor (List ℕ) → Bool) → Same eq → (s : Bor (List ℕ)) (ks : Slices) → list_any (eq s) ks ≡ list_any (bytes_eq s.now) (slices_bytes ks)
 any_same eq same s [] = refl
 any_same eq same s (x ∷ ks) = ap₂ (λ a b. a || b) (same s x) (any_same eq same s ks)
 
-bytes_cond : (b : Bool) (ks more : Slices) → bytes_of (cond b ks more) ≡ cond b (bytes_of ks) (bytes_of more)
+bytes_cond : (b : Bool) (ks more : Slices) → slices_bytes (cond b ks more) ≡ cond b (slices_bytes ks) (slices_bytes more)
 bytes_cond true ks more = refl
 bytes_cond false ks more = refl
 
-pub inserted : (eq : Bor (List ℕ) → Bor (List ℕ) → Bool) → Same eq → (old new : Slices) (s : Bor (List ℕ)) → new ≡ insert_key eq old s → bytes_of new ≡ insert_key bytes_eq (bytes_of old) s.now
+pub inserted : (eq : Bor (List ℕ) → Bor (List ℕ) → Bool) → Same eq → (old new : Slices) (s : Bor (List ℕ)) → new ≡ insert_key eq old s → slices_bytes new ≡ insert_key bytes_eq (slices_bytes old) s.now
 inserted eq same old new s e =
-    ap bytes_of e ∙ bytes_cond (list_any (eq s) old) old (old ++ s ∷ [])
-    ∙ ap₂ (λ b l. cond b (bytes_of old) l) (any_same eq same s old) (map-append (λ (slice : Bor (List ℕ)). slice.now) old (s ∷ []))
+    ap slices_bytes e ∙ bytes_cond (list_any (eq s) old) old (old ++ s ∷ [])
+    ∙ ap₂ (λ b l. cond b (slices_bytes old) l) (any_same eq same s old) (map-append (λ (slice : Bor (List ℕ)). slice.now) old (s ∷ []))
 
 -- one token more
-pub spelled_first : (names : List (List ℕ)) (kind : TokenKind) (rest : List (List ℕ)) → insert_all bytes_eq (insert_all bytes_eq names (spelled kind [])) rest ≡ insert_all bytes_eq names (spelled kind rest)
+pub spelled_first : (names : List (List ℕ)) (kind : TokenKind) (rest : List (List ℕ)) → insert_all bytes_eq (insert_all bytes_eq names (spelled_before kind [])) rest ≡ insert_all bytes_eq names (spelled_before kind rest)
 spelled_first names (k.Name s) rest = refl
 spelled_first names (k.Int n) rest = refl
 spelled_first names (k.Text s) rest = refl
@@ -41,13 +41,13 @@ spelled_first names (k.Word w) rest = refl
 spelled_first names (k.Sign g) rest = refl
 spelled_first names k.End rest = refl
 
-pub spelled_next : (old new : Slices) (t : Token) (rest all : List Token) → rest ≡ t ∷ all → bytes_of new ≡ insert_all bytes_eq (bytes_of old) (spelled t.kind []) →
-    insert_all bytes_eq (bytes_of new) (spellings all) ≡ insert_all bytes_eq (bytes_of old) (spellings rest)
+pub spelled_next : (old new : Slices) (t : Token) (rest all : List Token) → rest ≡ t ∷ all → slices_bytes new ≡ insert_all bytes_eq (slices_bytes old) (spelled_before t.kind []) →
+    insert_all bytes_eq (slices_bytes new) (spellings all) ≡ insert_all bytes_eq (slices_bytes old) (spellings rest)
 spelled_next old new t rest all e n =
-    ap (λ names. insert_all bytes_eq names (spellings all)) n ∙ spelled_first (bytes_of old) t.kind (spellings all)
-    ∙ ap (λ l. insert_all bytes_eq (bytes_of old) (spellings l)) (sym e)
+    ap (λ names. insert_all bytes_eq names (spellings all)) n ∙ spelled_first (slices_bytes old) t.kind (spellings all)
+    ∙ ap (λ l. insert_all bytes_eq (slices_bytes old) (spellings l)) (sym e)
 
-pub position_same : (eq : Bor (List ℕ) → Bool) (s : List ℕ) → ((b : Bor (List ℕ)) → eq b ≡ bytes_eq s b.now) → (ks : Slices) → position_or_len eq ks ≡ number_of (bytes_of ks) s
+pub position_same : (eq : Bor (List ℕ) → Bool) (s : List ℕ) → ((b : Bor (List ℕ)) → eq b ≡ bytes_eq s b.now) → (ks : Slices) → position_or_len eq ks ≡ name_number (slices_bytes ks) s
 position_same eq s same [] = refl
 position_same eq s same (x ∷ ks) = ap₂ (λ b n. cond (not b) (1 + n) 0) (same x) (position_same eq s same ks)
 

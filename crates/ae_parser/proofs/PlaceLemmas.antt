@@ -12,12 +12,12 @@ use Rattle.ae_tree.specs.declared.limits.Limit.TheVariants.{Statements, Levels, 
 use Rattle.ae_tree.specs.Plain.{Definition, Code}
 use Rattle.ae_tree.specs.Names.{names_of, numbered}
 use Rattle.ae_tree.specs.Grammar.{Tokens, Declaration, methods_of}
-use Rattle.ae_tree.specs.Limits.{KeepsMethod, KeepsTo, IsNearly, Within, KeepsBefore}
+use Rattle.ae_tree.specs.Limits.{KeepsMethod, KeepsTo, IsNearlyInLimits, Within, KeepsBefore}
 use Rattle.std.specs.Prelude.{All}
-use Rattle.ae_tree.specs.Refused.{Goes, GoesUpTo, Any, IsHead, CanPassAt, IsUnexpected, Passes, IsPlaced, IsOver, BreaksAt, IsRefused, AreKnown}
+use Rattle.ae_tree.specs.Refused.{Goes, GoesUpTo, Any, IsHead, CanPassAt, IsUnexpected, Passes, IsPlaced, IsOverAt, BreaksAt, IsRefused, AreSpellable}
 use Rattle.ae_reading.specs.declared.fail.Why.{Why}
 use Rattle.ae_reading.specs.declared.fail.Why.TheVariants.{Unexpected, Over}
-use Rattle.ae_reading.specs.Reads.{head, Always, NoEnd, Counts, Larger, Stopped}
+use Rattle.ae_reading.specs.Reads.{head, Always, EndIsNone, Counts, Larger, Stopped}
 use Rattle.ae_reading.proofs.Programs.{code_of}
 use Rattle.ae_parser.specs.Reading.{whole_program, KeepsAll, KeepsAllWhole, Stands, Refuses, rule_of}
 use Rattle.ae_parser.proofs.NamesLemmas.{lexemes_of, tokens_of, take-lexemes, lexemes-append}
@@ -27,7 +27,7 @@ use Rattle.ae_parser.proofs.ProgramLemmas.{lexemes_derive, tokens_derive, last_l
 -- ---- where it stands
 
 -- tokens before the end leave the end
-some_left : (front before rest : Tokens) (l : Lexeme) → front ++ l ∷ [] ≡ before ++ rest → l.kind ≡ tok.End → NoEnd before → (next : Lexeme) × (later : Tokens) × (rest ≡ next ∷ later)
+some_left : (front before rest : Tokens) (l : Lexeme) → front ++ l ∷ [] ≡ before ++ rest → l.kind ≡ tok.End → EndIsNone before → (next : Lexeme) × (later : Tokens) × (rest ≡ next ∷ later)
 some_left [] [] rest l e is n = (l, [], sym e)
 some_left (x ∷ front) [] rest l e is n = (x, front ++ l ∷ [], sym e)
 some_left [] (y ∷ before) rest l e is n = let s : y ≡ l = cc in absurd (n.0 (ap (λ (x : Lexeme). x.kind) s ∙ is))
@@ -76,7 +76,7 @@ refuses why ts left back s p =
 
 -- the tokens whose lexemes begin a program begin one
 goes_on : (keeps : Code → Type 0) (ts : List Token) (n : ℕ) (before more : Tokens) (list : List Declaration) → n ≤ length ts → take n (lexemes_of ts) ≡ before →
-    whole_program (list, tt) (before ++ more) → AreKnown more → ((names : List (List ℕ)) → keeps (code_of names list)) → Goes keeps ts n
+    whole_program (list, tt) (before ++ more) → AreSpellable more → ((names : List (List ℕ)) → keeps (code_of names list)) → Goes keeps ts n
 goes_on keeps ts n before more list le e d known kept =
     let whole : List Token = take n ts ++ tokens_of more in
     let is : lexemes_of whole ≡ before ++ more = lexemes-append (take n ts) more known ∙ ap (λ (l : Tokens). l ++ more) (sym (take-lexemes n ts) ∙ e) in
@@ -112,9 +112,9 @@ before_is : (ts : List Token) (why : Why) (left : ℕ) (s : Ends ts why left) �
 before_is ts why left s = ap (take (length s.before)) s.whole ∙ take_at s.before s.rest (length s.before) refl
 
 -- a program that keeps to the limits which are not decided early goes on up to the place
-goes_nearly : (ts : List Token) (why : Why) (left : ℕ) (s : Ends ts why left) → Goes IsNearly ts (length s.before)
+goes_nearly : (ts : List Token) (why : Why) (left : ℕ) (s : Ends ts why left) → Goes IsNearlyInLimits ts (length s.before)
 goes_nearly ts why left s =
-    goes_on IsNearly ts (length s.before) s.before s.more s.tree.0 (omega (arith, lengths ts why left s)) (before_is ts why left s) s.goes s.known (λ names. s.within)
+    goes_on IsNearlyInLimits ts (length s.before) s.before s.more s.tree.0 (omega (arith, lengths ts why left s)) (before_is ts why left s) s.goes s.known (λ names. s.within)
 
 -- the lexemes that begin a program within the limits, and those behind them
 start_is : (ts : List Token) (why : Why) (left : ℕ) (s : Ends ts why left) → take (length s.lead.start) (lexemes_of ts) ≡ s.lead.start
@@ -167,7 +167,7 @@ unexpected ts left k r w e =
     let P : ℕ → Type 0 = IsUnexpected ts in
     subst P (sym here) (goes_before ts Unexpected r.stop s, none_goes Any ts Unexpected r.stop s w (λ p list m kept. tt))
 
-over : (l : Limit) (ts : List Token) (left k : ℕ) (r : Refused ts (Over l) left) → IsWhole ts → k + r.back ≡ length r.stopped.before → IsOver l ts k
+over : (l : Limit) (ts : List Token) (left k : ℕ) (r : Refused ts (Over l) left) → IsWhole ts → k + r.back ≡ length r.stopped.before → IsOverAt l ts k
 over l ts left k r w e =
     let s = r.stopped in
     let keeps : (p : Code) (list : List Declaration) → p.methods ≡ methods_of list → KeepsTo l p → KeepsAll l list = λ p list m kept. let A : List Definition → Type 0 = All (KeepsMethod l) in subst A m kept in

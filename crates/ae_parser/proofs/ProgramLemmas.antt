@@ -16,13 +16,13 @@ use Rattle.ae_tree.specs.declared.tree.Program.{Program}
 use Rattle.ae_tree.specs.Plain.{Definition, Code}
 use Rattle.ae_tree.specs.Shown.{code, definition}
 use Rattle.ae_tree.specs.Names.{names_of, numbered, lexeme, lexical}
-use Rattle.ae_tree.specs.Grammar.{Tokens, one, Declaration, classes_of, methods_of, Derives}
+use Rattle.ae_tree.specs.Grammar.{Tokens, one_token, Declaration, classes_of, methods_of, Derives}
 use Rattle.ae_tree.specs.Limits.{KeepsMethod, Within}
 use Rattle.ae_reading.specs.declared.fail.Fail.{Fail}
 use Rattle.ae_reading.specs.declared.fail.Why.{Why}
 use Rattle.ae_reading.specs.declared.fail.Why.TheVariants.{Unexpected, Over}
 use Rattle.ae_reading.specs.declared.fail.Fail.TheVariants.{Refused, Memory}
-use Rattle.ae_reading.specs.Reads.{head, Always, Is, NoEnd, Counts, Failed}
+use Rattle.ae_reading.specs.Reads.{head, Always, Is, EndIsNone, Counts, Failed}
 use Rattle.ae_reading.proofs.Programs.{code_of, code_is}
 use Rattle.ae_parser.specs.declared.declarations.Parts.{Parts}
 use Rattle.ae_parser.specs.Reading.{whole_program, KeepsAll, KeepsAllWhole, HasRead}
@@ -38,12 +38,12 @@ kind_end names (kind.Word w) e = cc
 kind_end names (kind.Sign g) e = cc
 kind_end names kind.End e = refl
 
-no_ends : (names : List (List ℕ)) (ts : List Token) → t.NoEnd ts → NoEnd (numbered names ts)
+no_ends : (names : List (List ℕ)) (ts : List Token) → t.HasNoEnd ts → EndIsNone (numbered names ts)
 no_ends names [] n = tt
 no_ends names (x ∷ ts) n = (λ e. n.0 (kind_end names x.kind e), no_ends names ts n.1)
 
 -- the end is where it was
-end_alone : (front taken rest : Tokens) (l : Lexeme) → front ++ l ∷ [] ≡ taken ++ rest → NoEnd front → NoEnd taken → Is tok.End (head rest) → rest ≡ l ∷ []
+end_alone : (front taken rest : Tokens) (l : Lexeme) → front ++ l ∷ [] ≡ taken ++ rest → EndIsNone front → EndIsNone taken → Is tok.End (head rest) → rest ≡ l ∷ []
 end_alone [] [] rest l e n m is = sym e
 end_alone [] (x ∷ taken) rest l e n m is = no_more taken rest e is
   where
@@ -63,7 +63,7 @@ last_lexeme tokens w =
     let last : lexeme names w.last ≡ record { kind = tok.End; at = w.last.at } = ap (λ k. record { kind = lexical names k; at = w.last.at }) w.end in
     ap (numbered names) w.parts ∙ map-append (lexeme names) w.front (w.last ∷ []) ∙ ap (λ (l : Lexeme). numbered names w.front ++ l ∷ []) last
 
-the_end : (tokens : List Token) (taken rest : Tokens) → IsWhole tokens → lexemes_of tokens ≡ taken ++ rest → NoEnd taken → Is tok.End (head rest) → one tok.End rest
+the_end : (tokens : List Token) (taken rest : Tokens) → IsWhole tokens → lexemes_of tokens ≡ taken ++ rest → EndIsNone taken → Is tok.End (head rest) → one_token tok.End rest
 the_end tokens taken rest w e n is =
     (w.last.at, end_alone (numbered (names_of tokens) w.front) taken rest (record { kind = tok.End; at = w.last.at }) (sym (last_lexeme tokens w) ∙ e) (no_ends (names_of tokens) w.front w.no_end) n is)
 
@@ -108,7 +108,7 @@ program_within tokens names ts p e h =
     let P : Code → Type 0 = Within in
     subst P (sym (code_read tokens names ts p h e)) h.took.within
 
-end_of : (us : Tokens) → one tok.End us → Is tok.End (head us)
+end_of : (us : Tokens) → one_token tok.End us → Is tok.End (head us)
 end_of us d = let P : Tokens → Type 0 = λ l. Is tok.End (head l) in subst P (sym d.1) refl
 
 read_only : (tokens : List Token) (p : Parts) (h : HasRead (lexemes_of tokens) p) → (q : Code) → Derives tokens q → code_of (names_of tokens) h.list ≡ q

@@ -14,8 +14,8 @@ use Rattle.ae_tree.specs.declared.limits.Limit.{Limit}
 use Rattle.ae_tree.specs.declared.limits.Limit.TheVariants as limit
 use Rattle.ae_tree.specs.Plain.{Code}
 use Rattle.ae_tree.specs.Grammar.{Tokens, Derives}
-use Rattle.ae_tree.specs.Limits.{KeepsTo, rank, IsNearly, Within}
-use Rattle.ae_tree.specs.Refused.{Goes, Any, GoesUpTo, IsHead, OpensBlock, IsTypeWord, NoOpen, CanPassAt, lexemes, IsUnexpected, Passes, IsPlaced, IsOver, BreaksAt}
+use Rattle.ae_tree.specs.Limits.{KeepsTo, rank, IsNearlyInLimits, Within}
+use Rattle.ae_tree.specs.Refused.{Goes, Any, GoesUpTo, IsHead, OpensBlock, IsTypeWord, NoOpen, CanPassAt, lexemes, IsUnexpected, Passes, IsPlaced, IsOverAt, BreaksAt}
 use Rattle.ae_parser.specs.Laws.{IsOneRefusal, NoProgramIsRefused}
 use Rattle.ae_parser.proofs.OnePlace.{one_place}
 
@@ -114,8 +114,8 @@ StopsAt (Some l) ts d = Passes l ts d
 
 -- a limit that a token passes is passed by all that goes on behind it
 within_past : (l : Limit) (ts : List Token) (d e : ℕ) → d < e → CanPassAt l (lexemes ts) d → GoesUpTo ts e → Goes (KeepsTo l) ts (d + 1)
-within_past limit.Statements ts d e l c g = goes_as IsNearly (KeepsTo limit.Statements) ts (d + 1) (λ p k. k limit.Statements) (goes_down IsNearly ts (d + 1) e (omega (arith, l)) g.nearly)
-within_past limit.Depth ts d e l c g = goes_as IsNearly (KeepsTo limit.Depth) ts (d + 1) (λ p k. k limit.Depth) (goes_down IsNearly ts (d + 1) e (omega (arith, l)) g.nearly)
+within_past limit.Statements ts d e l c g = goes_as IsNearlyInLimits (KeepsTo limit.Statements) ts (d + 1) (λ p k. k limit.Statements) (goes_down IsNearlyInLimits ts (d + 1) e (omega (arith, l)) g.nearly)
+within_past limit.Depth ts d e l c g = goes_as IsNearlyInLimits (KeepsTo limit.Depth) ts (d + 1) (λ p k. k limit.Depth) (goes_down IsNearlyInLimits ts (d + 1) e (omega (arith, l)) g.nearly)
 within_past limit.Levels ts d e l c g = by_start (cases_lt d g.start)
   where
     by_start : (d < g.start) ⊎ (g.start ≤ d) → Goes (KeepsTo limit.Levels) ts (d + 1)
@@ -129,7 +129,7 @@ within_past limit.Params ts d e l c g = by_start (cases_lt d g.start)
 
 -- nothing goes on behind where the reading stops
 none_past : (o : Option Limit) (ts : List Token) (d e : ℕ) → d < e → StopsAt o ts d → GoesUpTo ts e → ⊥
-none_past None ts d e l s g = s.1 (goes_as IsNearly Any ts (d + 1) (λ p k. tt) (goes_down IsNearly ts (d + 1) e (omega (arith, l)) g.nearly))
+none_past None ts d e l s g = s.1 (goes_as IsNearlyInLimits Any ts (d + 1) (λ p k. tt) (goes_down IsNearlyInLimits ts (d + 1) e (omega (arith, l)) g.nearly))
 none_past (Some m) ts d e l s g = s.3 (within_past m ts d e l s.1 g)
 
 goes_to : (o : Option Limit) (ts : List Token) (d : ℕ) → StopsAt o ts d → GoesUpTo ts d
@@ -199,7 +199,7 @@ record Stopped (ts : List Token) (r : Rule) (k : ℕ) : Type 0 where
   placed : Back why (take (k + back) (lexemes ts)) back
   rule_is : r ≡ named why
 
-stopped_over : (l : Limit) (ts : List Token) (r : Rule) (k : ℕ) → r ≡ named (Some l) → IsOver l ts k → Stopped ts r k
+stopped_over : (l : Limit) (ts : List Token) (r : Rule) (k : ℕ) → r ≡ named (Some l) → IsOverAt l ts k → Stopped ts r k
 stopped_over l ts r k e o = record { why = Some l; back = o.0; stops = o.1; placed = o.2; rule_is = e }
 
 stopped : (ts : List Token) (r : Rule) (k : ℕ) → BreaksAt r ts k → Stopped ts r k

@@ -16,8 +16,8 @@ use Rattle.ae_tree.specs.declared.tree.Need.{Need}
 use Rattle.ae_tree.specs.declared.tree.Need.TheVariants as need_of
 use Rattle.ae_tree.specs.declared.tree.GroupNeed.{GroupNeed}
 use Rattle.ae_tree.specs.Plain.{Lines, Definition}
-use Rattle.ae_tree.specs.Grammar.{Tokens, a_word, each, further, name, groups, permission, type_, result, away, param, me, parameters, need_word, need, needs, body, method}
-use Rattle.ae_reading.specs.Reads.{head, Always, Is, Isnt, IsName, Token, Mark}
+use Rattle.ae_tree.specs.Grammar.{Tokens, a_word, one_by_one, further, name, groups, permission, type_, result, away, param, me, parameters, need_word, need, needs, method_body, method}
+use Rattle.ae_reading.specs.Reads.{head, Always, Is, Isnt, IsName, Token, TokenMark}
 use Rattle.ae_reading.proofs.ReadsLemmas.{Lang, Follow, Both, Links}
 use Rattle.ae_reading.proofs.UniqueLemmas.{Unique, apart_by, none_at, unique_at, unique_mark, unique_name, unique_then, unique_both, unique_as, unique_always, unique_optional, unique_furthers, unique_some}
 use Rattle.ae_reading.proofs.Begins.{Begins, begins_token, begins_mark, begins_name, begins_both, of_other, of_name, links_by, is_isnt, not_both}
@@ -49,7 +49,7 @@ unique_result (Some x) (Some y) us vs r s d e same t u = let o = unique_type x y
 -- ---- parameters
 
 abbrev pub sent : Lang (Spot × Unit {0})
-sent = Both (Token away_sign) (Mark (tok.Word word.None))
+sent = Both (Token away_sign) (TokenMark (tok.Word word.None))
 
 abbrev pub away_of : Option (Spot × Unit {0}) → Option Spot
 away_of None = None
@@ -61,8 +61,8 @@ away_cases (Some at) us d = (Some (at, tt), refl, d)
 
 unique_away : Unique away (Isnt (tok.Sign sign.Away))
 unique_away = unique_as away (optional sent) (Isnt away_sign) away_of away_cases
-    (unique_optional sent (Isnt away_sign) (apart_by sent (Is away_sign) (Isnt away_sign) (is_isnt away_sign) (begins_both (Token away_sign) (λ c. Mark (tok.Word word.None)) (Is away_sign) (begins_token away_sign)))
-    (unique_always sent (Isnt away_sign) (unique_then (Token away_sign) (Mark (tok.Word word.None)) Always (unique_at away_sign) (unique_mark (tok.Word word.None)))))
+    (unique_optional sent (Isnt away_sign) (apart_by sent (Is away_sign) (Isnt away_sign) (is_isnt away_sign) (begins_both (Token away_sign) (λ c. TokenMark (tok.Word word.None)) (Is away_sign) (begins_token away_sign)))
+    (unique_always sent (Isnt away_sign) (unique_then (Token away_sign) (TokenMark (tok.Word word.None)) Always (unique_at away_sign) (unique_mark (tok.Word word.None)))))
 
 name_isnt : (k : Lexical) → ((n : ℕ) → tok.Name n ≡ k → ⊥) → (G : Follow) → {B : Type 0} → (E : Lang B) → Links (Both name E) G (Isnt k)
 name_isnt k other G E = links_by (Both name E) IsName (Isnt k) (of_name k other) (begins_both name (λ c. E) IsName begins_name) G
@@ -104,7 +104,7 @@ pub data Params : Type 0 where
 abbrev pub params : Lang Params
 params Nobody us = us ≡ []
 params (First p ps) us = Whole param (p, ps) us
-params (Receiver m ps) us = Both me (each (further param)) (m, ps) us
+params (Receiver m ps) us = Both me (one_by_one (further param)) (m, ps) us
 
 abbrev pub params_tree : Params → Option Me × List Param
 params_tree Nobody = (None, [])
@@ -131,16 +131,16 @@ closing_no_comma = of_other closing (tok.Sign sign.Comma) (λ e. cc)
 unique_first : Unique (Whole param) (Is (tok.Sign sign.CloseParen))
 unique_first = unique_some param (Is closing) (Isnt away_sign) comma_no_away closing_no_away closing_no_comma unique_param
 
-unique_receiver : Unique (Both me (each (further param))) (Is (tok.Sign sign.CloseParen))
-unique_receiver = unique_both me (each (further param)) (Isnt away_sign) (Is closing)
+unique_receiver : Unique (Both me (one_by_one (further param))) (Is (tok.Sign sign.CloseParen))
+unique_receiver = unique_both me (one_by_one (further param)) (Isnt away_sign) (Is closing)
     (each_turns (further param) (Is closing) (Isnt away_sign) (λ p us r d. comma_no_away (head (us ++ r)) (begins_further param p us r d)) closing_no_away) unique_me
     (unique_furthers param (Is closing) (Isnt away_sign) comma_no_away closing_no_away closing_no_comma unique_param)
 
 begins_first : Begins (Whole param) IsType
-begins_first = begins_both param (λ c. each (further param)) IsType begins_param
+begins_first = begins_both param (λ c. one_by_one (further param)) IsType begins_param
 
-begins_receiver : Begins (Both me (each (further param))) IsPermission
-begins_receiver = begins_both me (λ c. each (further param)) IsPermission begins_me
+begins_receiver : Begins (Both me (one_by_one (further param))) IsPermission
+begins_receiver = begins_both me (λ c. one_by_one (further param)) IsPermission begins_me
 
 nobody_here : (us vs r s : Tokens) (F : Follow) → us ≡ [] → us ++ r ≡ vs ++ s → F (head r) → F (head (vs ++ s))
 nobody_here us vs r s F d same f = let P : Tokens → Type 0 = λ z. F (head z) in subst P (sym (ap (λ z. z ++ r) d) ∙ same) f
@@ -159,7 +159,7 @@ type_or_permission (ty.Object q k) p us vs r s d e same i =
     let o = unique_permission q p d.front vs (d.back ++ r) s d.first e all tt tt in
     none_at kind_of_token (tok.Word word.This) (λ at. refl) (head s) (subst P o.1 (begins_kind k d.back r d.second)) i
 
-first_or_receiver : (p : Param) (ps qs : List Param) (m : Me) (us vs r s : Tokens) → Whole param (p, ps) us → Both me (each (further param)) (m, qs) vs → us ++ r ≡ vs ++ s → ⊥
+first_or_receiver : (p : Param) (ps qs : List Param) (m : Me) (us vs r s : Tokens) → Whole param (p, ps) us → Both me (one_by_one (further param)) (m, qs) vs → us ++ r ≡ vs ++ s → ⊥
 first_or_receiver p ps qs m us vs r s d e same =
     let a = d.first in
     let b = e.first in
@@ -214,7 +214,7 @@ abbrev pub Needed : Type 0
 Needed = Unit {0} × (GroupNeed × List GroupNeed)
 
 abbrev pub needed : Lang Needed
-needed = Both (Mark (tok.Word word.With)) (Whole need)
+needed = Both (TokenMark (tok.Word word.With)) (Whole need)
 
 abbrev pub needs_of : Option Needed → List GroupNeed
 needs_of None = []
@@ -229,13 +229,13 @@ brace = tok.Sign sign.OpenBrace
 
 unique_needs : Unique needs (Is (tok.Sign sign.OpenBrace))
 unique_needs = unique_as needs (optional needed) (Is brace) needs_of needs_cases
-    (unique_optional needed (Is brace) (apart_by needed (Is (tok.Word word.With)) (Is brace) (not_both (tok.Word word.With) brace (λ e. cc)) (begins_both (Mark (tok.Word word.With)) (λ c. Whole need) (Is (tok.Word word.With)) (begins_mark (tok.Word word.With))))
-    (unique_then (Mark (tok.Word word.With)) (Whole need) (Is brace) (unique_mark (tok.Word word.With))
+    (unique_optional needed (Is brace) (apart_by needed (Is (tok.Word word.With)) (Is brace) (not_both (tok.Word word.With) brace (λ e. cc)) (begins_both (TokenMark (tok.Word word.With)) (λ c. Whole need) (Is (tok.Word word.With)) (begins_mark (tok.Word word.With))))
+    (unique_then (TokenMark (tok.Word word.With)) (Whole need) (Is brace) (unique_mark (tok.Word word.With))
     (unique_some need (Is brace) Always (λ o i. tt) (λ o i. tt) (of_other brace (tok.Sign sign.Comma) (λ e. cc)) unique_need)))
 
 -- ---- methods
 
-begins_body : Begins body (Is (tok.Sign sign.OpenBrace))
+begins_body : Begins method_body (Is (tok.Sign sign.OpenBrace))
 begins_body b us r d =
     let q = d.3 in
     let P : Tokens → Type 0 = λ z. Is brace (head z) in
@@ -251,28 +251,28 @@ abbrev pub MethodParts : Type 0
 MethodParts = Unit {0} × (Option Ty × (NameAt × (List NameAt × Listed)))
 
 abbrev pub ending : Lang Ending
-ending = Both needs body
+ending = Both needs method_body
 
 abbrev pub listing : Lang Listed
-listing = Both (Mark (tok.Sign sign.OpenParen)) (Both params_of (Both (Mark closing) ending))
+listing = Both (TokenMark (tok.Sign sign.OpenParen)) (Both params_of (Both (TokenMark closing) ending))
 
 abbrev pub method_form : Lang MethodParts
-method_form = Both (Mark (tok.Word word.Method)) (Both result (Both name (Both groups listing)))
+method_form = Both (TokenMark (tok.Word word.Method)) (Both result (Both name (Both groups listing)))
 
 unique_ending : Unique ending Always
-unique_ending = unique_both needs body (Is brace) Always (links_by body (Is brace) (Is brace) (λ o i. i) begins_body Always) unique_needs unique_body
+unique_ending = unique_both needs method_body (Is brace) Always (links_by method_body (Is brace) (Is brace) (λ o i. i) begins_body Always) unique_needs unique_body
 
 unique_listing : Unique listing Always
-unique_listing = unique_then (Mark (tok.Sign sign.OpenParen)) (Both params_of (Both (Mark closing) ending)) Always (unique_mark (tok.Sign sign.OpenParen))
-    (unique_both params_of (Both (Mark closing) ending) (Is closing) Always (links_by (Both (Mark closing) ending) (Is closing) (Is closing) (λ o i. i) (begins_both (Mark closing) (λ c. ending) (Is closing) (begins_mark closing)) Always) unique_parameters
-    (unique_then (Mark closing) ending Always (unique_mark closing) unique_ending))
+unique_listing = unique_then (TokenMark (tok.Sign sign.OpenParen)) (Both params_of (Both (TokenMark closing) ending)) Always (unique_mark (tok.Sign sign.OpenParen))
+    (unique_both params_of (Both (TokenMark closing) ending) (Is closing) Always (links_by (Both (TokenMark closing) ending) (Is closing) (Is closing) (λ o i. i) (begins_both (TokenMark closing) (λ c. ending) (Is closing) (begins_mark closing)) Always) unique_parameters
+    (unique_then (TokenMark closing) ending Always (unique_mark closing) unique_ending))
 
 listing_isnt : (k : Lexical) → (tok.Sign sign.OpenParen ≡ k → ⊥) → Links listing Always (Isnt k)
 listing_isnt k other = links_by listing (Is (tok.Sign sign.OpenParen)) (Isnt k) (of_other (tok.Sign sign.OpenParen) k other)
-    (begins_both (Mark (tok.Sign sign.OpenParen)) (λ c. Both params_of (Both (Mark closing) ending)) (Is (tok.Sign sign.OpenParen)) (begins_mark (tok.Sign sign.OpenParen))) Always
+    (begins_both (TokenMark (tok.Sign sign.OpenParen)) (λ c. Both params_of (Both (TokenMark closing) ending)) (Is (tok.Sign sign.OpenParen)) (begins_mark (tok.Sign sign.OpenParen))) Always
 
 unique_method_form : Unique method_form Always
-unique_method_form = unique_then (Mark (tok.Word word.Method)) (Both result (Both name (Both groups listing))) Always (unique_mark (tok.Word word.Method))
+unique_method_form = unique_then (TokenMark (tok.Word word.Method)) (Both result (Both name (Both groups listing))) Always (unique_mark (tok.Word word.Method))
     (unique_both result (Both name (Both groups listing)) (Isnt (tok.Sign sign.Less)) Always (name_isnt (tok.Sign sign.Less) (λ n e. cc) Always (Both groups listing)) unique_result
     (unique_then name (Both groups listing) Always unique_name
     (unique_both groups listing (Isnt (tok.Sign sign.Less)) Always (listing_isnt (tok.Sign sign.Less) (λ e. cc)) unique_groups unique_listing)))
@@ -302,4 +302,4 @@ pub unique_method : (c : Option ℕ) → Unique (method c) Always
 unique_method c = unique_as (method c) method_form Always (method_tree c) (method_cases c) unique_method_form
 
 pub begins_method : (c : Option ℕ) → Begins (method c) (Is (tok.Word word.Method))
-begins_method c m us r d = let k = method_cases c m us d in begins_both (Mark (tok.Word word.Method)) (λ p. Both result (Both name (Both groups listing))) (Is (tok.Word word.Method)) (begins_mark (tok.Word word.Method)) k.0 us r k.2
+begins_method c m us r d = let k = method_cases c m us d in begins_both (TokenMark (tok.Word word.Method)) (λ p. Both result (Both name (Both groups listing))) (Is (tok.Word word.Method)) (begins_mark (tok.Word word.Method)) k.0 us r k.2

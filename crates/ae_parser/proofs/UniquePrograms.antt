@@ -13,8 +13,8 @@ use Rattle.ae_tree.specs.declared.tree.Ty.{Ty}
 use Rattle.ae_tree.specs.declared.tree.Field.{Field}
 use Rattle.ae_tree.specs.Plain.{Definition, Code}
 use Rattle.ae_tree.specs.Names.{names_of, numbered}
-use Rattle.ae_tree.specs.Grammar.{Tokens, each, name, groups, type_, method, field, numbers_from, Declaration, OfClass, OfMethod, declaration, declarations, Derives}
-use Rattle.ae_reading.specs.Reads.{head, Always, Is, Isnt, IsName, Mark, chain}
+use Rattle.ae_tree.specs.Grammar.{Tokens, one_by_one, name, groups, type_, method, field, numbers_from, Declaration, OfClass, OfMethod, declaration, declarations, Derives}
+use Rattle.ae_reading.specs.Reads.{head, Always, Is, Isnt, IsName, TokenMark, chain}
 use Rattle.ae_reading.proofs.ReadsLemmas.{Lang, Follow, Both, Links}
 use Rattle.ae_reading.proofs.UniqueLemmas.{Unique, apart_by, none_at, unique_mark, unique_name, unique_then, unique_both, unique_each, unique_as, unique_choice, by_first, unique_chain}
 use Rattle.ae_reading.proofs.Begins.{Begins, begins_mark, begins_name, begins_both, of_kind, of_other, of_name, links_by, not_both}
@@ -35,17 +35,17 @@ abbrev pub FieldParts : Type 0
 FieldParts = Ty × (NameAt × Unit {0})
 
 abbrev pub field_form : Lang FieldParts
-field_form = Both type_ (Both name (Mark semicolon))
+field_form = Both type_ (Both name (TokenMark semicolon))
 
-named_isnt : Links (Both name (Mark semicolon)) Always (Isnt (tok.Sign sign.Less))
-named_isnt = links_by (Both name (Mark semicolon)) IsName (Isnt (tok.Sign sign.Less)) (of_name (tok.Sign sign.Less) (λ n e. cc)) (begins_both name (λ c. Mark semicolon) IsName begins_name) Always
+named_isnt : Links (Both name (TokenMark semicolon)) Always (Isnt (tok.Sign sign.Less))
+named_isnt = links_by (Both name (TokenMark semicolon)) IsName (Isnt (tok.Sign sign.Less)) (of_name (tok.Sign sign.Less) (λ n e. cc)) (begins_both name (λ c. TokenMark semicolon) IsName begins_name) Always
 
 unique_field : Unique field Always
 unique_field = unique_as field field_form Always (λ q. record { ty = q.0; name = q.1.0 }) (λ y us d. ((y.ty, (y.name, tt)), refl, d))
-    (unique_both type_ (Both name (Mark semicolon)) (Isnt (tok.Sign sign.Less)) Always named_isnt unique_type (unique_then name (Mark semicolon) Always unique_name (unique_mark semicolon)))
+    (unique_both type_ (Both name (TokenMark semicolon)) (Isnt (tok.Sign sign.Less)) Always named_isnt unique_type (unique_then name (TokenMark semicolon) Always unique_name (unique_mark semicolon)))
 
 begins_field : Begins field IsType
-begins_field f us r d = begins_both type_ (λ c. Both name (Mark semicolon)) IsType begins_type (f.ty, (f.name, tt)) us r d
+begins_field f us r d = begins_both type_ (λ c. Both name (TokenMark semicolon)) IsType begins_type (f.ty, (f.name, tt)) us r d
 
 -- what stands behind the fields
 abbrev pub EndsFields : Follow
@@ -62,13 +62,13 @@ abbrev pub ClassParts : Type 0
 ClassParts = Unit {0} × (NameAt × (List NameAt × (Unit {0} × (List Field × MethodsParts))))
 
 abbrev pub methods_form : ℕ → Lang MethodsParts
-methods_form c = Both (each (method (Some c))) (Mark closing)
+methods_form c = Both (one_by_one (method (Some c))) (TokenMark closing)
 
 abbrev pub inside_form : ℕ → Lang (Unit {0} × (List Field × MethodsParts))
-inside_form c = Both (Mark (tok.Sign sign.OpenBrace)) (Both (each field) (methods_form c))
+inside_form c = Both (TokenMark (tok.Sign sign.OpenBrace)) (Both (one_by_one field) (methods_form c))
 
 abbrev pub class_form : ℕ → Lang ClassParts
-class_form c = Both (Mark (tok.Word word.Class)) (Both name (Both groups (inside_form c)))
+class_form c = Both (TokenMark (tok.Word word.Class)) (Both name (Both groups (inside_form c)))
 
 begins_methods : (c : ℕ) → Links (methods_form c) Always EndsFields
 begins_methods c q us r d f =
@@ -77,20 +77,20 @@ begins_methods c q us r d f =
     (each_turns (method (Some c)) (Is closing) EndsFields (λ m us r d. inl (begins_method (Some c) m us r d)) (λ o i. inr i) q.0 d.front (d.back ++ r) d.first (begins_mark closing tt d.back r d.second))
 
 unique_methods : (c : ℕ) → Unique (methods_form c) Always
-unique_methods c = unique_both (each (method (Some c))) (Mark closing) (Is closing) Always (λ x us r d f. begins_mark closing x us r d)
+unique_methods c = unique_both (one_by_one (method (Some c))) (TokenMark closing) (Is closing) Always (λ x us r d f. begins_mark closing x us r d)
     (unique_each (method (Some c)) (Is closing) Always (λ m us r d. tt) (λ o i. tt) (apart_by (method (Some c)) (Is (tok.Word word.Method)) (Is closing) (not_both (tok.Word word.Method) closing (λ e. cc)) (begins_method (Some c))) (unique_method (Some c))) (unique_mark closing)
 
 unique_inside : (c : ℕ) → Unique (inside_form c) Always
-unique_inside c = unique_then (Mark (tok.Sign sign.OpenBrace)) (Both (each field) (methods_form c)) Always (unique_mark (tok.Sign sign.OpenBrace))
-    (unique_both (each field) (methods_form c) EndsFields Always (begins_methods c)
+unique_inside c = unique_then (TokenMark (tok.Sign sign.OpenBrace)) (Both (one_by_one field) (methods_form c)) Always (unique_mark (tok.Sign sign.OpenBrace))
+    (unique_both (one_by_one field) (methods_form c) EndsFields Always (begins_methods c)
     (unique_each field EndsFields Always (λ m us r d. tt) (λ o i. tt) (apart_by field IsType EndsFields no_field begins_field) unique_field) (unique_methods c))
 
 inside_isnt : (c : ℕ) → Links (inside_form c) Always (Isnt (tok.Sign sign.Less))
 inside_isnt c = links_by (inside_form c) (Is (tok.Sign sign.OpenBrace)) (Isnt (tok.Sign sign.Less)) (of_other (tok.Sign sign.OpenBrace) (tok.Sign sign.Less) (λ e. cc))
-    (begins_both (Mark (tok.Sign sign.OpenBrace)) (λ k. Both (each field) (methods_form c)) (Is (tok.Sign sign.OpenBrace)) (begins_mark (tok.Sign sign.OpenBrace))) Always
+    (begins_both (TokenMark (tok.Sign sign.OpenBrace)) (λ k. Both (one_by_one field) (methods_form c)) (Is (tok.Sign sign.OpenBrace)) (begins_mark (tok.Sign sign.OpenBrace))) Always
 
 unique_class : (c : ℕ) → Unique (class_form c) Always
-unique_class c = unique_then (Mark (tok.Word word.Class)) (Both name (Both groups (inside_form c))) Always (unique_mark (tok.Word word.Class))
+unique_class c = unique_then (TokenMark (tok.Word word.Class)) (Both name (Both groups (inside_form c))) Always (unique_mark (tok.Word word.Class))
     (unique_then name (Both groups (inside_form c)) Always unique_name
     (unique_both groups (inside_form c) (Isnt (tok.Sign sign.Less)) Always (inside_isnt c) unique_groups (unique_inside c)))
 
@@ -135,7 +135,7 @@ form_of None = None
 form_of (Some t) = kind_form t.kind
 
 form_first : (c : ℕ) (t : Form) (q : Parts t) (us r : Tokens) → form c t q us → form_of (head (us ++ r)) ≡ Some t
-form_first c AsClass q us r d = of_kind (tok.Word word.Class) (λ o. form_of o ≡ Some AsClass) (λ at. refl) (head (us ++ r)) (begins_both (Mark (tok.Word word.Class)) (λ k. Both name (Both groups (inside_form c))) (Is (tok.Word word.Class)) (begins_mark (tok.Word word.Class)) q us r d)
+form_first c AsClass q us r d = of_kind (tok.Word word.Class) (λ o. form_of o ≡ Some AsClass) (λ at. refl) (head (us ++ r)) (begins_both (TokenMark (tok.Word word.Class)) (λ k. Both name (Both groups (inside_form c))) (Is (tok.Word word.Class)) (begins_mark (tok.Word word.Class)) q us r d)
 form_first c AsMethod q us r d = of_kind (tok.Word word.Method) (λ o. form_of o ≡ Some AsMethod) (λ at. refl) (head (us ++ r)) (begins_method None q us r d)
 
 unique_form : (c : ℕ) (t : Form) → Unique (form c t) Always
@@ -160,10 +160,10 @@ unique_declarations c m = unique_as (declarations c m) (chain one_of counted (c,
 -- ---- programs
 
 abbrev pub ended : Lang (List Declaration × Unit {0})
-ended = Both (declarations 0 0) (Mark tok.End)
+ended = Both (declarations 0 0) (TokenMark tok.End)
 
 unique_ended : Unique ended Always
-unique_ended = unique_both (declarations 0 0) (Mark tok.End) (Is tok.End) Always (λ x us r d f. begins_mark tok.End x us r d) (unique_declarations 0 0) (unique_mark tok.End)
+unique_ended = unique_both (declarations 0 0) (TokenMark tok.End) (Is tok.End) Always (λ x us r d f. begins_mark tok.End x us r d) (unique_declarations 0 0) (unique_mark tok.End)
 
 list_derives : (p : Code) (tokens : List SourceToken) (d : Derives tokens p) → ended (d.list, tt) (numbered (names_of tokens) tokens)
 list_derives p tokens d = let P : List (List ℕ) → Type 0 = λ n. ended (d.list, tt) (numbered n tokens) in subst P d.names d.derives

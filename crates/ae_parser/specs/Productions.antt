@@ -36,13 +36,13 @@ abbrev pub NoType : Option Lexeme → Type 0
 NoType o = BeginsType o → ⊥
 
 -- `>> none` that is written
-abbrev pub given_away : Option Spot → Tokens → Type 0
-given_away a ts = (at : Spot) × (a ≡ Some at) × (one_at (tok.Sign sign.Away) at ⨾ a_word word.None) ts
+abbrev pub away_mark : Option Spot → Tokens → Type 0
+away_mark a ts = (at : Spot) × (a ≡ Some at) × (one_at (tok.Sign sign.Away) at ⨾ a_word word.None) ts
 
 -- as many parameters as may be
-abbrev pub AtMost : ℕ → Limit → List Param → Type 0
-AtMost n limit.Params ps = length ps ≤ n
-AtMost n l ps = Unit {0}
+abbrev pub AtMostParams : ℕ → Limit → List Param → Type 0
+AtMostParams n limit.Params ps = length ps ≤ n
+AtMostParams n l ps = Unit {0}
 
 -- why no further parameter is taken: one may begin here and is over the limit, or none does
 abbrev pub ParamNext : Tokens → Why → Type 0
@@ -55,8 +55,8 @@ HasMe None m = m ≡ None
 HasMe (Some c) m = m ≢ None
 
 -- what a method of this class, or one at the top, is given
-abbrev pub given : Option ℕ → Given → Tokens → Type 0
-given c g ts = HasMe c g.me × grammar.parameters g.me g.params ts
+abbrev pub given_to_method : Option ℕ → Given → Tokens → Type 0
+given_to_method c g ts = HasMe c g.me × grammar.parameters g.me g.params ts
 
 -- at most 16 parameters, with the receiver
 abbrev pub FewGiven : Limit → Given → Type 0
@@ -75,23 +75,23 @@ some_needs ns = a_word word.With ⨾ separated grammar.need ns
 
 -- ---- classes
 
-abbrev pub AllKeep : Limit → List Definition → Type 0
-AllKeep l = All (KeepsMethod l)
+abbrev pub AllMethodsKeep : Limit → List Definition → Type 0
+AllMethodsKeep l = All (KeepsMethod l)
 
 -- a class with its methods, as a declaration
 abbrev pub shown_class : WithMethods → Declaration
 shown_class w = OfClass w.class (map shown.definition w.methods)
 
 -- a class behind c classes and m methods
-abbrev pub class_at : ℕ → ℕ → Declaration → Tokens → Type 0
-class_at c m x ts = (k : Class) × (ms : List Definition) × (x ≡ OfClass k ms) × declaration c m (OfClass k ms) ts
+abbrev pub class_behind : ℕ → ℕ → Declaration → Tokens → Type 0
+class_behind c m x ts = (k : Class) × (ms : List Definition) × (x ≡ OfClass k ms) × declaration c m (OfClass k ms) ts
 
 abbrev pub KeepsOne : Limit → Declaration → Type 0
-KeepsOne l x = AllKeep l (methods_in x)
+KeepsOne l x = AllMethodsKeep l (methods_in x)
 
 -- a method at the top, as a declaration
-abbrev pub method_at : ℕ → ℕ → Declaration → Tokens → Type 0
-method_at c m x ts = (d : Definition) × (x ≡ OfMethod d) × grammar.method None d ts
+abbrev pub method_behind : ℕ → ℕ → Declaration → Tokens → Type 0
+method_behind c m x ts = (d : Definition) × (x ≡ OfMethod d) × grammar.method None d ts
 
 -- ---- declarations
 

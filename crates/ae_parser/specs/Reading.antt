@@ -13,12 +13,12 @@ use Rattle.ae_reading.specs.declared.fail.Why.{Why}
 use Rattle.ae_reading.specs.declared.fail.Why.TheVariants.{Unexpected, Over}
 use Rattle.ae_reading.specs.declared.fail.Fail.{Fail}
 use Rattle.ae_reading.specs.declared.fail.Fail.TheVariants.{Refused, Memory}
-use Rattle.ae_reading.specs.Reads.{head, Always, Is, Mark, Took, Stopped, Failed}
+use Rattle.ae_reading.specs.Reads.{head, Always, Is, TokenMark, Took, Stopped, Failed}
 use Rattle.ae_parser.specs.declared.declarations.Parts.{Parts}
 
 -- all declarations, and the end
 abbrev pub whole_program : List Declaration × Unit {0} → Tokens → Type 0
-whole_program q = declarations 0 0 q.0 ⨾ Mark tok.End q.1
+whole_program q = declarations 0 0 q.0 ⨾ TokenMark tok.End q.1
 
 abbrev pub KeepsAll : Limit → List Declaration → Type 0
 KeepsAll l list = All (KeepsMethod l) (methods_of list)
@@ -54,9 +54,9 @@ pub record Refuses (ts : Tokens) (why : Why) (left : ℕ) : Type 0 where
   pub placed : Stands why stopped.before back
 
 -- why there is no program, with the place of the refused token
-abbrev pub Placed : Tokens → Fail → Type 0
-Placed ts (Refused why left) = Refuses ts why left
-Placed ts Memory = Unit {0}
+abbrev pub PlacedFailure : Tokens → Fail → Type 0
+PlacedFailure ts (Refused why left) = Refuses ts why left
+PlacedFailure ts Memory = Unit {0}
 
 -- the rule that is broken
 abbrev pub rule_of : Why → Rule

@@ -2,5 +2,5 @@
 use Rattle.std.specs.Prelude.{ℕ, List, map}
 use Rattle.std.specs.Borrow.{Bor}
 
-abbrev pub bytes_of : List (Bor (List ℕ)) → List (List ℕ)
-bytes_of = map (λ slice. slice.now)
+abbrev pub slices_bytes : List (Bor (List ℕ)) → List (List ℕ)
+slices_bytes = map (λ slice. slice.now)

@@ -5,7 +5,7 @@ ghost use Rattle.ae_tree.specs.declared.lexeme.Lexical.TheVariants as tok;
 ghost use Rattle.ae_tree.specs.Shown as shown;
 ghost use Rattle.ae_tree.specs.Grammar as grammar;
 ghost use Rattle.ae_reading.specs.Reads.{Reads, itself, Always, Free, Isnt};
-ghost use Rattle.ae_parser.specs.Productions.{NoType, AllKeep, KeepsOne, shown_class, class_at};
+ghost use Rattle.ae_parser.specs.Productions.{NoType, AllMethodsKeep, KeepsOne, shown_class, class_behind};
 
 use crate::methods::method;
 use crate::params::is_type_next;
@@ -31,7 +31,7 @@ fn field<'a>(alloc: Global, ts: &'a [Lexeme]) -> Result<(Field, &'a [Lexeme]), F
 }
 
 fn fields<'a>(alloc: Global, ts: &'a [Lexeme]) -> Result<(Items<Field>, &'a [Lexeme]), Fail>
-    ensures { Reads itself (grammar.each grammar.field) Free NoType ts.now result }
+    ensures { Reads itself (grammar.one_by_one grammar.field) Free NoType ts.now result }
 {
     let mut fields = Items::new(alloc);
     let mut rest = ts;
@@ -49,7 +49,7 @@ fn class_methods<'a>(
     ts: &'a [Lexeme],
 ) -> Result<(Items<Method>, &'a [Lexeme]), Fail>
     requires { length ts.now ≤ 1048577 }
-    ensures { Reads (map shown.definition) (grammar.each (grammar.method (Some class))) AllKeep (Isnt (tok.Word word.Method)) ts.now result }
+    ensures { Reads (map shown.definition) (grammar.one_by_one (grammar.method (Some class))) AllMethodsKeep (Isnt (tok.Word word.Method)) ts.now result }
 {
     let mut methods = Items::new(alloc);
     let mut rest = ts;
@@ -86,7 +86,7 @@ pub(crate) fn class<'a>(
 ) -> Result<(WithMethods, &'a [Lexeme]), Fail>
     requires short { length ts.now ≤ 1048577 }
     requires numbers { first + length ts.now ≤ 4294967295 }
-    ensures { Reads shown_class (class_at number first) KeepsOne Always ts.now result }
+    ensures { Reads shown_class (class_behind number first) KeepsOne Always ts.now result }
 {
     let (_, rest) = expect_word(ts, Keyword::Class)?;
     let (name, rest) = name(rest)?;

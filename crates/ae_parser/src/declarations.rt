@@ -2,7 +2,7 @@
 ghost use Rattle.std.specs.Prelude.{◌≡◌, ◌≤◌, ◌+◌, length};
 ghost use Rattle.ae_tree.specs.Grammar as grammar;
 ghost use Rattle.ae_parser.specs.Reading.{ReadsAll};
-ghost use Rattle.ae_parser.specs.Productions.{ReadsOne, class_at, method_at};
+ghost use Rattle.ae_parser.specs.Productions.{ReadsOne, class_behind, method_behind};
 
 use crate::classes::{WithMethods, class};
 use crate::methods::method;
@@ -22,7 +22,7 @@ pub(crate) struct Parts {
 fn add_class<'a>(alloc: Global, parts: &mut Parts, ts: &'a [Lexeme]) -> Result<&'a [Lexeme], Fail>
     requires classes { length parts.old.classes + length ts.now ≤ 1048577 }
     requires methods { length parts.old.methods + length ts.now ≤ 1048577 }
-    ensures { ReadsOne class_at parts.old parts.new ts.now result }
+    ensures { ReadsOne class_behind parts.old parts.new ts.now result }
 {
     let number = parts.classes.len() as u32;
     let first = parts.methods.len() as u32;
@@ -37,7 +37,7 @@ fn add_class<'a>(alloc: Global, parts: &mut Parts, ts: &'a [Lexeme]) -> Result<&
 fn add_method<'a>(alloc: Global, parts: &mut Parts, ts: &'a [Lexeme]) -> Result<&'a [Lexeme], Fail>
     requires classes { length parts.old.classes + length ts.now ≤ 1048577 }
     requires methods { length parts.old.methods + length ts.now ≤ 1048577 }
-    ensures { ReadsOne method_at parts.old parts.new ts.now result }
+    ensures { ReadsOne method_behind parts.old parts.new ts.now result }
 {
     let number = parts.methods.len() as u32;
     let (method, rest) = method(alloc, None, ts)?;

@@ -47,7 +47,7 @@ fn further_needs<'a>(
     alloc: Global,
     ts: &'a [Lexeme],
 ) -> Result<(Items<GroupNeed>, &'a [Lexeme]), Fail>
-    ensures { Reads itself (grammar.each (grammar.further grammar.need)) Free (Is (tok.Sign sign.OpenBrace)) ts.now result }
+    ensures { Reads itself (grammar.one_by_one (grammar.further grammar.need)) Free (Is (tok.Sign sign.OpenBrace)) ts.now result }
 {
     let mut needs = Items::new(alloc);
     let mut rest = ts;

@@ -2,8 +2,8 @@
 ghost use Rattle.std.specs.Prelude.{◌≡◌, ◌≤◌, ◌+◌, length, [], ◌∷◌, IfOk, OnOk};
 ghost use Rattle.std.specs.Str.{bytes_eq};
 ghost use Rattle.indexmap.specs.IndexSet.{insert_all};
-ghost use Rattle.ae_tree.specs.Names.{names_of, numbered, spelled, number_of, lexical, first_names};
-ghost use Rattle.ae_parser.specs.Slices.{bytes_of};
+ghost use Rattle.ae_tree.specs.Names.{names_of, numbered, spelled_before, name_number, lexical, first_names};
+ghost use Rattle.ae_parser.specs.Slices.{slices_bytes};
 
 use ae_tree::{Lexeme, Lexical};
 use ae_text::{Items, Token, TokenKind};
@@ -12,7 +12,7 @@ use std::alloc::{AllocError, Global};
 
 /// Adds the spelling of a token that is a name.
 fn insert_spelling<'a>(names: &mut IndexSet<&'a [u8]>, token: &'a Token) -> Result<(), AllocError>
-    ensures names { OnOk result (bytes_of names.new.keys ≡ insert_all bytes_eq (bytes_of names.old.keys) (spelled token.now.kind [])) }
+    ensures names { OnOk result (slices_bytes names.new.keys ≡ insert_all bytes_eq (slices_bytes names.old.keys) (spelled_before token.now.kind [])) }
     ensures few { OnOk result (length names.new.keys ≤ length names.old.keys + 1) }
 {
     if let TokenKind::Name(spelling) = &token.kind {
@@ -23,7 +23,7 @@ fn insert_spelling<'a>(names: &mut IndexSet<&'a [u8]>, token: &'a Token) -> Resu
 
 /// `io`, `main` and `this`.
 fn first(alloc: Global) -> Result<IndexSet<&'static [u8]>, AllocError>
-    ensures { IfOk result (λ s. bytes_of s.keys ≡ first_names) }
+    ensures { IfOk result (λ s. slices_bytes s.keys ≡ first_names) }
 {
     let mut names = IndexSet::new(alloc);
     names.insert(b"io".as_slice())?;
@@ -34,7 +34,7 @@ fn first(alloc: Global) -> Result<IndexSet<&'static [u8]>, AllocError>
 
 /// The spellings of all names, each once, in order of first use.
 fn spellings<'a>(alloc: Global, tokens: &'a [Token]) -> Result<IndexSet<&'a [u8]>, AllocError>
-    ensures names { IfOk result (λ s. bytes_of s.keys ≡ names_of tokens.now) }
+    ensures names { IfOk result (λ s. slices_bytes s.keys ≡ names_of tokens.now) }
     ensures few { IfOk result (λ s. length s.keys ≤ length tokens.now + 3) }
 {
     let mut names = first(alloc)?;
@@ -47,14 +47,14 @@ fn spellings<'a>(alloc: Global, tokens: &'a [Token]) -> Result<IndexSet<&'a [u8]
 /// The number of a spelling, which is among the names.
 fn number(names: &IndexSet<&[u8]>, spelling: &[u8]) -> u32
     requires { length names.now.keys ≤ 1048580 }
-    ensures { result ≡ number_of (bytes_of names.now.keys) spelling.now }
+    ensures { result ≡ name_number (slices_bytes names.now.keys) spelling.now }
 {
     names.get_index_of(spelling).unwrap_or(names.len()) as u32
 }
 
 fn lexical(alloc: Global, names: &IndexSet<&[u8]>, kind: &TokenKind) -> Result<Lexical, AllocError>
     requires { length names.now.keys ≤ 1048580 }
-    ensures { IfOk result (λ k. k ≡ lexical (bytes_of names.now.keys) kind.now) }
+    ensures { IfOk result (λ k. k ≡ lexical (slices_bytes names.now.keys) kind.now) }
 {
     Ok(match kind {
         TokenKind::Name(spelling) => Lexical::Name(number(names, spelling.as_slice())),
@@ -72,7 +72,7 @@ fn lexemes(
     tokens: &[Token],
 ) -> Result<Items<Lexeme>, AllocError>
     requires { length names.now.keys ≤ 1048580 }
-    ensures { IfOk result (λ ts. ts ≡ numbered (bytes_of names.now.keys) tokens.now) }
+    ensures { IfOk result (λ ts. ts ≡ numbered (slices_bytes names.now.keys) tokens.now) }
 {
     let mut lexemes = Items::new(alloc);
     for token in tokens {
@@ -85,7 +85,7 @@ fn lexemes(
 }
 
 fn copied(alloc: Global, names: &[&[u8]]) -> Result<Items<Items<u8>>, AllocError>
-    ensures { IfOk result (λ copies. copies ≡ bytes_of names.now) }
+    ensures { IfOk result (λ copies. copies ≡ slices_bytes names.now) }
 {
     let mut copies = Items::new(alloc);
     for name in names {

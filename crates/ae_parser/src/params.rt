@@ -5,7 +5,7 @@ ghost use Rattle.ae_tree.specs.declared.lexeme.Lexical.TheVariants as tok;
 ghost use Rattle.ae_tree.specs.Grammar as grammar;
 ghost use Rattle.ae_reading.specs.Reads.{Reads, itself, Always, Free, Is, Isnt, head};
 ghost use Rattle.ae_parser.specs.Productions as productions;
-ghost use Rattle.ae_parser.specs.Productions.{BeginsType, NoType, AtMost, FewGiven, ParamNext};
+ghost use Rattle.ae_parser.specs.Productions.{BeginsType, NoType, AtMostParams, FewGiven, ParamNext};
 
 use ae_tree::{Lexeme, Limit, Me, Param};
 use ae_reading::{expect_sign, expect_word, Fail, in_front, is_sign_next, is_word_next, name, permission, type_, Why};
@@ -45,7 +45,7 @@ pub(crate) fn is_type_next(ts: &[Lexeme]) -> bool
 }
 
 fn given_away<'a>(ts: &'a [Lexeme]) -> Result<(Option<Spot>, &'a [Lexeme]), Fail>
-    ensures { Reads itself productions.given_away Free Always ts.now result }
+    ensures { Reads itself productions.away_mark Free Always ts.now result }
 {
     let (at, rest) = expect_sign(ts, Sign::Away)?;
     let (_, rest) = expect_word(rest, Keyword::None)?;
@@ -93,7 +93,7 @@ fn no_param(ts: &[Lexeme]) -> Why
 }
 
 fn further_params<'a>(alloc: Global, ts: &'a [Lexeme]) -> Result<(Items<Param>, &'a [Lexeme]), Fail>
-    ensures { Reads itself (grammar.each (grammar.further grammar.param)) (AtMost 15) (Is (tok.Sign sign.CloseParen)) ts.now result }
+    ensures { Reads itself (grammar.one_by_one (grammar.further grammar.param)) (AtMostParams 15) (Is (tok.Sign sign.CloseParen)) ts.now result }
 {
     let mut params = Items::new(alloc);
     let mut rest = ts;
@@ -110,7 +110,7 @@ fn further_params<'a>(alloc: Global, ts: &'a [Lexeme]) -> Result<(Items<Param>, 
 }
 
 fn some_params<'a>(alloc: Global, ts: &'a [Lexeme]) -> Result<(Items<Param>, &'a [Lexeme]), Fail>
-    ensures { Reads itself (grammar.separated grammar.param) (AtMost 16) (Is (tok.Sign sign.CloseParen)) ts.now result }
+    ensures { Reads itself (grammar.separated grammar.param) (AtMostParams 16) (Is (tok.Sign sign.CloseParen)) ts.now result }
 {
     let (first, rest) = param(alloc, ts)?;
     let (more, rest) = further_params(alloc, rest)?;
@@ -118,7 +118,7 @@ fn some_params<'a>(alloc: Global, ts: &'a [Lexeme]) -> Result<(Items<Param>, &'a
 }
 
 fn listed_params<'a>(alloc: Global, ts: &'a [Lexeme]) -> Result<(Items<Param>, &'a [Lexeme]), Fail>
-    ensures { Reads itself (grammar.listed grammar.param) (AtMost 16) (Is (tok.Sign sign.CloseParen)) ts.now result }
+    ensures { Reads itself (grammar.comma_list grammar.param) (AtMostParams 16) (Is (tok.Sign sign.CloseParen)) ts.now result }
 {
     if is_sign_next(ts, Sign::CloseParen) {
         Ok((Items::new(alloc), ts))
@@ -135,7 +135,7 @@ pub(crate) fn read_given<'a>(
     class: Option<u32>,
     ts: &'a [Lexeme],
 ) -> Result<(Given, &'a [Lexeme]), Fail>
-    ensures { Reads itself (productions.given class) FewGiven (Is (tok.Sign sign.CloseParen)) ts.now result }
+    ensures { Reads itself (productions.given_to_method class) FewGiven (Is (tok.Sign sign.CloseParen)) ts.now result }
 {
     match class {
         Some(_) => {

@@ -4,7 +4,7 @@ ghost use Rattle.ae_tree.specs.Refused as refused;
 ghost use Rattle.ae_tree.specs.Refused.{IsPlaced};
 ghost use Rattle.ae_reading.specs.Reads.{Always, Stopped, Failed};
 ghost use Rattle.ae_parser.specs.Sides.{Describes, Grows, IsOpenMark};
-ghost use Rattle.ae_parser.specs.Reading.{whole_program, KeepsAllWhole, Stands, Refuses, Placed};
+ghost use Rattle.ae_parser.specs.Reading.{whole_program, KeepsAllWhole, Stands, Refuses, PlacedFailure};
 
 use ae_tree::{Lexeme, Lexical, Limit};
 use ae_reading::{Fail, Why};
@@ -137,7 +137,7 @@ fn left_from_refused(lexemes: &[Lexeme], why: Why, left: usize) -> usize
 /// The failure of a program, with the place of the refused token for the one at which the parser stops.
 pub(crate) fn placed(lexemes: &[Lexeme], fail: Fail) -> Fail
     requires { Failed whole_program KeepsAllWhole Always lexemes.now fail }
-    ensures placed { Placed lexemes.now result }
+    ensures placed { PlacedFailure lexemes.now result }
     ensures memory { fail ≡ Fail.Memory → result ≡ Fail.Memory }
 {
     match fail {

@@ -6,8 +6,8 @@ ghost use Rattle.ae_tree.specs.Names.{names_of, numbered};
 ghost use Rattle.ae_tree.specs.Shown.{code};
 ghost use Rattle.ae_tree.specs.Grammar.{Derives};
 ghost use Rattle.ae_tree.specs.Limits.{Within};
-ghost use Rattle.ae_tree.specs.Refused.{IsRefused, IsDenied};
-ghost use Rattle.ae_parser.specs.Reading.{Refuses, Placed, rule_of};
+ghost use Rattle.ae_tree.specs.Refused.{IsRefused, IsTokenDenied};
+ghost use Rattle.ae_parser.specs.Reading.{Refuses, PlacedFailure, rule_of};
 
 use crate::declarations::{Parts, read_all_declarations};
 use crate::numbers::{Numbered, number_names};
@@ -23,7 +23,7 @@ fn program(alloc: Global, tokens: &[Token]) -> Result<Program, Fail>
     ensures ok { IfOk result (λ p. Derives tokens.now (code p)) }
     ensures within { IfOk result (λ p. Within (code p)) }
     ensures only { (p : Code) → Derives tokens.now p → Within p → MatchResult result (λ q. code q ≡ p) (λ e. e ≡ Fail.Memory) }
-    ensures fails { IfErr result (Placed (numbered (names_of tokens.now) tokens.now)) }
+    ensures fails { IfErr result (PlacedFailure (numbered (names_of tokens.now) tokens.now)) }
 {
     let Numbered { names, lexemes } = number_names(alloc, tokens)?;
     let Parts {
@@ -77,8 +77,8 @@ fn refusal(tokens: &[Token], why: Why, left: usize) -> Refusal
 
 fn deny(tokens: &[Token], fail: Fail) -> Deny
     requires whole { IsWhole tokens.now }
-    requires placed { Placed (numbered (names_of tokens.now) tokens.now) fail }
-    ensures denied { IsDenied tokens.now result }
+    requires placed { PlacedFailure (numbered (names_of tokens.now) tokens.now) fail }
+    ensures denied { IsTokenDenied tokens.now result }
     ensures memory { fail ≡ Fail.Memory → result ≡ Deny.Memory }
 {
     match fail {
@@ -100,7 +100,7 @@ pub fn parse(alloc: Global, tokens: &[Token]) -> Result<Program, Deny>
     ensures ok { IfOk result (λ p. Derives tokens.now (code p)) }
     ensures within { IfOk result (λ p. Within (code p)) }
     ensures only { (p : Code) → Derives tokens.now p → Within p → MatchResult result (λ q. code q ≡ p) (λ e. e ≡ Deny.Memory) }
-    ensures refused { IfErr result (IsDenied tokens.now) }
+    ensures refused { IfErr result (IsTokenDenied tokens.now) }
 {
     match program(alloc, tokens) {
         Ok(program) => Ok(program),

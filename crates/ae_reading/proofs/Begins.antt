@@ -4,8 +4,8 @@ use Rattle.ae_text.specs.declared.refusal.Spot.{Spot}
 use Rattle.ae_tree.specs.declared.lexeme.Lexeme.{Lexeme}
 use Rattle.ae_tree.specs.declared.lexeme.Lexical.{Lexical}
 use Rattle.ae_tree.specs.declared.lexeme.Lexical.TheVariants.{Name}
-use Rattle.ae_tree.specs.Grammar.{Tokens, ◌⨾◌, Then, one_at, one, name}
-use Rattle.ae_reading.specs.Reads.{head, Is, Isnt, IsName, Token, Mark}
+use Rattle.ae_tree.specs.Grammar.{Tokens, ◌⨾◌, Then, one_at, one_token, name}
+use Rattle.ae_reading.specs.Reads.{head, Is, Isnt, IsName, Token, TokenMark}
 use Rattle.ae_reading.proofs.ReadsLemmas.{Lang, Follow, Links, NoneAt}
 
 -- ---- the next token
@@ -51,7 +51,7 @@ begins_as D P Q f b x us r d = f (head (us ++ r)) (b x us r d)
 pub begins_token : (k : Lexical) → Begins (Token k) (Is k)
 begins_token k at us r d = let P : Tokens → Type 0 = λ l. Is k (head (l ++ r)) in subst P (sym d) refl
 
-pub begins_mark : (k : Lexical) → Begins (Mark k) (Is k)
+pub begins_mark : (k : Lexical) → Begins (TokenMark k) (Is k)
 begins_mark k x us r d = begins_token k d.0 us r d.1
 
 pub begins_name : Begins name IsName
@@ -92,7 +92,7 @@ opens_first {k} us r d b = record { token = b.token; front = ap head (ap (λ l. 
 pub opens_at : {k : Lexical} {at : Spot} {q : Tokens → Type 0} (us r : Tokens) → Then (one_at k at) q us → Opens us r k
 opens_at us r d = opens_first us r d (opens_one d.front (d.back ++ r) d.first)
 
-pub opens_mark : {k : Lexical} {q : Tokens → Type 0} (us r : Tokens) → Then (one k) q us → Opens us r k
+pub opens_mark : {k : Lexical} {q : Tokens → Type 0} (us r : Tokens) → Then (one_token k) q us → Opens us r k
 opens_mark us r d = opens_first us r d (opens_one d.front (d.back ++ r) d.first.1)
 
 -- the kind of the next token, where a tree begins with it

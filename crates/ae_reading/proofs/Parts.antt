@@ -5,10 +5,10 @@ use Rattle.ae_tree.specs.declared.lexeme.Lexeme.{Lexeme}
 use Rattle.ae_tree.specs.declared.lexeme.Lexical.{Lexical}
 use Rattle.ae_tree.specs.declared.lexeme.Lexical.TheVariants as tok
 use Rattle.ae_tree.specs.declared.limits.Limit.{Limit}
-use Rattle.ae_tree.specs.Grammar.{Tokens, nothing, each, further, separated, listed}
+use Rattle.ae_tree.specs.Grammar.{Tokens, no_tokens, one_by_one, further, separated, comma_list}
 use Rattle.ae_reading.specs.declared.fail.Fail.{Fail}
 use Rattle.ae_reading.specs.declared.fail.Why.{Why}
-use Rattle.ae_reading.specs.Reads.{head, Always, Is, Isnt, Free, IsWithin, Took, Stopped, Failed, Mark}
+use Rattle.ae_reading.specs.Reads.{head, Always, Is, Isnt, Free, IsWithinAll, Took, Stopped, Failed, TokenMark}
 use Rattle.ae_reading.proofs.ReadsLemmas.{Lang, Bound, Follow, Links, Both, Limits, Pair, Has, Along, When, NoneAt, took_as, stopped_as, took_when, stopped_when, took_nothing, took_then, stopped_second, stopped_first_with, failed_by, first, second, both, free}
 use Rattle.ae_reading.proofs.Runs.{each-one, each_turns}
 use Rattle.ae_reading.proofs.Begins.{Begins, is_isnt, is_by, begins_as, begins_not, opens_so, opens_mark}
@@ -17,7 +17,7 @@ use Rattle.ae_reading.proofs.Begins.{Begins, is_isnt, is_by, begins_as, begins_n
 
 -- a tree of D, or none
 abbrev pub optional : {A : Type 0} → Lang A → Lang (Option A)
-optional D None = nothing
+optional D None = no_tokens
 optional D (Some x) = D x
 
 -- The trees of D are `none`, which stands for no token, and those that are built from the trees of E.
@@ -25,7 +25,7 @@ pub record Optional {A B : Type 0} (D : Lang A) (E : Lang B) (W : Bound A) (V : 
   pub absent : D none []
   pub present : (q : B) (us : Tokens) → E q us → D (some q) us
   pub cases : (y : A) (us : Tokens) → D y us → ((y ≡ none) × (us ≡ [])) ⊎ ((q : B) × (y ≡ some q) × E q us)
-  pub none_within : IsWithin W none
+  pub none_within : IsWithinAll W none
   pub to : (q : B) (us : Tokens) → E q us → (l : Limit) → V l q → W l (some q)
   pub from : (q : B) (us : Tokens) → E q us → (l : Limit) → W l (some q) → V l q
 
@@ -85,7 +85,7 @@ pub stopped_optional : {A : Type 0} {D : Lang A} {V : Bound (Option A)} {W : Bou
 stopped_optional {D = D} {F = F} {G = G} begins less fits back u = stopped_when (optional D) D Some (optional_when {F = F} {G = G} begins less fits back) u
 
 -- no tree of D begins here
-pub left_out : {A : Type 0} {D : Lang A} {V : Bound (Option A)} {F : Follow} {ts : Tokens} → NoneAt D ts → IsWithin V None → Took (optional D) V F ts None ts
+pub left_out : {A : Type 0} {D : Lang A} {V : Bound (Option A)} {F : Follow} {ts : Tokens} → NoneAt D ts → IsWithinAll V None → Took (optional D) V F ts None ts
 left_out {A} {D} {V} {F} {ts} none v = took_nothing (optional D) V F ts None refl v there
   where
     there : (y : Option A) (us r : Tokens) → optional D y us → head (us ++ r) ≡ head ts → F (head r) → (y ≡ None) × (us ≡ [])
@@ -97,7 +97,7 @@ left_out {A} {D} {V} {F} {ts} none v = took_nothing (optional D) V F ts None ref
 abbrev pub Comma : Lexical
 Comma = tok.Sign sign.Comma
 
-pub further_along : {A : Type 0} (D : Lang A) (W : Bound A) (ts : Tokens) → Along (further D) (Both (Mark Comma) D) W (Pair Free W) ts (λ p. p.1)
+pub further_along : {A : Type 0} (D : Lang A) (W : Bound A) (ts : Tokens) → Along (further D) (Both (TokenMark Comma) D) W (Pair Free W) ts (λ p. p.1)
 further_along D W ts = record {
   intro = λ q us d. d;
   cases = λ y us r d h. ((tt, y), refl, d);
@@ -106,20 +106,20 @@ further_along D W ts = record {
 }
 
 pub took_further : {A : Type 0} {D : Lang A} {W : Bound A} {F : Follow} {ts rest rest' : Tokens} {x : A} →
-    Took (Mark Comma) Free Always ts tt rest → Took D W F rest x rest' → Took (further D) W F ts x rest'
-took_further {A} {D} {W} {F} {ts} c t = took_as (further D) (Both (Mark Comma) D) (λ p. p.1) (further_along D W ts) (both (free D F) c t)
+    Took (TokenMark Comma) Free Always ts tt rest → Took D W F rest x rest' → Took (further D) W F ts x rest'
+took_further {A} {D} {W} {F} {ts} c t = took_as (further D) (Both (TokenMark Comma) D) (λ p. p.1) (further_along D W ts) (both (free D F) c t)
 
 -- there is no comma
 pub further_first : {A : Type 0} {D : Lang A} {W : Bound A} {F : Follow} {ts : Tokens} {e : Fail} →
-    Has D W → Failed (Mark Comma) Free Always ts e → Failed (further D) W F ts e
+    Has D W → Failed (TokenMark Comma) Free Always ts e → Failed (further D) W F ts e
 further_first {A} {D} {W} {F} {ts} has f =
-    failed_by (λ why left s. stopped_as (further D) (Both (Mark Comma) D) (λ p. p.1) (further_along D W ts) s) (first {F = Always} {G = F} (free D F) has f)
+    failed_by (λ why left s. stopped_as (further D) (Both (TokenMark Comma) D) (λ p. p.1) (further_along D W ts) s) (first {F = Always} {G = F} (free D F) has f)
 
 -- the item behind the comma fails
 pub further_second : {A : Type 0} {D : Lang A} {W : Bound A} {F : Follow} {ts rest : Tokens} {e : Fail} →
-    Took (Mark Comma) Free Always ts tt rest → Failed D W F rest e → Failed (further D) W F ts e
+    Took (TokenMark Comma) Free Always ts tt rest → Failed D W F rest e → Failed (further D) W F ts e
 further_second {A} {D} {W} {F} {ts} c f =
-    failed_by (λ why left s. stopped_as (further D) (Both (Mark Comma) D) (λ p. p.1) (further_along D W ts) s) (second (free D F) c f)
+    failed_by (λ why left s. stopped_as (further D) (Both (TokenMark Comma) D) (λ p. p.1) (further_along D W ts) s) (second (free D F) c f)
 
 -- ---- lists with commas
 
@@ -132,7 +132,7 @@ pub record Commas (F G : Follow) : Type 0 where
 pub begins_further : {A : Type 0} (D : Lang A) → Begins (further D) (Is Comma)
 begins_further D x us r d = opens_so us r (opens_mark us r d)
 
-pub commas_link : {A : Type 0} (D : Lang A) {F G : Follow} → Commas F G → Links (each (further D)) G F
+pub commas_link : {A : Type 0} (D : Lang A) {F G : Follow} → Commas F G → Links (one_by_one (further D)) G F
 commas_link D {F} {G} c = each_turns (further D) G F (begins_as (further D) (Is Comma) F (is_by Comma F c.comma) (begins_further D)) c.ends
 
 -- with a comma the list goes on
@@ -150,7 +150,7 @@ pub record Parted {A : Type 0} (W : Bound A) (V : Limit → A → List A → Typ
 
 -- at least one, as its first and the others
 abbrev pub Whole : {A : Type 0} → Lang A → Lang (A × List A)
-Whole D = Both D (each (further D))
+Whole D = Both D (one_by_one (further D))
 
 abbrev pub joined : {A : Type 0} → A × List A → List A
 joined p = p.0 ∷ p.1
@@ -168,7 +168,7 @@ separated_along D ts p = record {
 }
 
 pub took_separated : {A : Type 0} {D : Lang A} {W : Bound A} (V : Limit → A → List A → Type 0) {U : Bound (List A)} {F G : Follow} {ts mid rest : Tokens} {x : A} {xs : List A} →
-    Parted W V U → Commas F G → Took D W F ts x mid → Took (each (further D)) (λ l. V l x) G mid xs rest → Took (separated D) U G ts (x ∷ xs) rest
+    Parted W V U → Commas F G → Took D W F ts x mid → Took (one_by_one (further D)) (λ l. V l x) G mid xs rest → Took (separated D) U G ts (x ∷ xs) rest
 took_separated {A} {D} {W} V {U} {F} {G} {ts} p c t u =
     took_as (separated D) (Whole D) joined (separated_along D {V = V} ts p) (took_then V (commas_link D {F = F} {G = G} c) t u)
 
@@ -180,7 +180,7 @@ separated_first {A} {D} {W} V {U} {F} {G} {ts} p c alone f = failed_by (λ why l
 
 -- those behind the first one stop
 pub separated_more : {A : Type 0} {D : Lang A} {W : Bound A} (V : Limit → A → List A → Type 0) {U : Bound (List A)} {F G : Follow} {ts mid : Tokens} {x : A} {e : Fail} →
-    Parted W V U → Commas F G → Took D W F ts x mid → Failed (each (further D)) (λ l. V l x) G mid e → Failed (separated D) U G ts e
+    Parted W V U → Commas F G → Took D W F ts x mid → Failed (one_by_one (further D)) (λ l. V l x) G mid e → Failed (separated D) U G ts e
 separated_more {A} {D} {W} V {U} {F} {G} {ts} p c t f = failed_by (λ why left s.
     stopped_as (separated D) (Whole D) joined (separated_along D {V = V} ts p) (stopped_second V (commas_link D {F = F} {G = G} c) t s)) f
 
@@ -196,16 +196,16 @@ has_separated D a = record { tree = a.tree ∷ []; tokens = a.tokens; is = each-
 
 -- ---- lists that may be empty
 
-listed_cases : {A : Type 0} (D : Lang A) (ys : List A) (us : Tokens) → listed D ys us → ((ys ≡ []) × (us ≡ [])) ⊎ ((q : List A) × (ys ≡ q) × separated D q us)
+listed_cases : {A : Type 0} (D : Lang A) (ys : List A) (us : Tokens) → comma_list D ys us → ((ys ≡ []) × (us ≡ [])) ⊎ ((q : List A) × (ys ≡ q) × separated D q us)
 listed_cases D [] us d = inl (refl, d)
 listed_cases D (y ∷ ys) us d = inr (y ∷ ys, refl, d)
 
-listed_some : {A : Type 0} (D : Lang A) (ys : List A) (us : Tokens) → separated D ys us → listed D ys us
+listed_some : {A : Type 0} (D : Lang A) (ys : List A) (us : Tokens) → separated D ys us → comma_list D ys us
 listed_some D [] us d = absurd d
 listed_some D (y ∷ ys) us d = d
 
 -- a list of none or some is one that may be absent
-pub listed_optional : {A : Type 0} (D : Lang A) (U : Bound (List A)) → IsWithin U [] → Optional (listed D) (separated D) U U [] (λ xs. xs)
+pub listed_optional : {A : Type 0} (D : Lang A) (U : Bound (List A)) → IsWithinAll U [] → Optional (comma_list D) (separated D) U U [] (λ xs. xs)
 listed_optional D U u = record {
   absent = refl;
   present = listed_some D;
@@ -220,12 +220,12 @@ separated_head D ts none [] us r d h = d
 separated_head D ts none (y ∷ ys) us r d h = none y d.front (d.back ++ r) d.first (ap head (sym (append_assoc d.front d.back r) ∙ ap (λ l. l ++ r) (sym d.parts)) ∙ h)
 
 -- no item begins with the next token
-pub took_none : {A : Type 0} (D : Lang A) (U : Bound (List A)) (F : Follow) {ts : Tokens} → IsWithin U [] → NoneAt D ts → Took (listed D) U F ts [] ts
+pub took_none : {A : Type 0} (D : Lang A) (U : Bound (List A)) (F : Follow) {ts : Tokens} → IsWithinAll U [] → NoneAt D ts → Took (comma_list D) U F ts [] ts
 took_none D U F {ts} u none = took_absent F (listed_optional D U u) (separated_head D ts none)
 
 -- the next token cannot follow the list
-pub took_some : {A : Type 0} (D : Lang A) (U : Bound (List A)) {F : Follow} {ts rest : Tokens} {xs : List A} → IsWithin U [] → (F (head ts) → ⊥) → Took (separated D) U F ts xs rest → Took (listed D) U F ts xs rest
+pub took_some : {A : Type 0} (D : Lang A) (U : Bound (List A)) {F : Follow} {ts rest : Tokens} {xs : List A} → IsWithinAll U [] → (F (head ts) → ⊥) → Took (separated D) U F ts xs rest → Took (comma_list D) U F ts xs rest
 took_some D U u begins t = took_present (listed_optional D U u) begins t
 
-pub failed_some : {A : Type 0} (D : Lang A) (U : Bound (List A)) {F : Follow} {ts : Tokens} {e : Fail} → IsWithin U [] → (F (head ts) → ⊥) → Failed (separated D) U F ts e → Failed (listed D) U F ts e
+pub failed_some : {A : Type 0} (D : Lang A) (U : Bound (List A)) {F : Follow} {ts : Tokens} {e : Fail} → IsWithinAll U [] → (F (head ts) → ⊥) → Failed (separated D) U F ts e → Failed (comma_list D) U F ts e
 failed_some D U u begins f = failed_present (listed_optional D U u) begins f

@@ -7,10 +7,10 @@ use Rattle.ae_tree.specs.declared.lexeme.Lexical.{Lexical}
 use Rattle.ae_tree.specs.declared.lexeme.Lexical.TheVariants as tok
 use Rattle.ae_tree.specs.declared.tree.NameAt.{NameAt}
 use Rattle.ae_tree.specs.declared.tree.Path.{Path}
-use Rattle.ae_tree.specs.Grammar.{Tokens, each, name, root, step, path}
+use Rattle.ae_tree.specs.Grammar.{Tokens, one_by_one, name, root, path_step, path}
 use Rattle.ae_tree.specs.Names.{this}
 use Rattle.ae_reading.specs.declared.fail.Fail.{Fail}
-use Rattle.ae_reading.specs.Reads.{head, Always, Is, Isnt, Free, IsWithin, Took, Failed, Token, Mark}
+use Rattle.ae_reading.specs.Reads.{head, Always, Is, Isnt, Free, IsWithinAll, Took, Failed, Token, TokenMark}
 use Rattle.ae_reading.proofs.ReadsLemmas.{Lang, Bound, Both, Pair, Along, NoneAt, took_as, failed_as, first, second, both, free, took_mark, failed_mark, has_name}
 use Rattle.ae_reading.proofs.Begins.{opens_one, opens_mark, opens_is, opens_other}
 use Rattle.ae_reading.proofs.Runs.{has_none}
@@ -52,28 +52,28 @@ abbrev pub dot : Lexical
 dot = tok.Sign sign.Dot
 
 abbrev dotted : Lang (Unit {0} × NameAt)
-dotted = Both (Mark dot) name
+dotted = Both (TokenMark dot) name
 
 -- what is no dot begins no step
-pub no_step : (ts : Tokens) → (Is dot (head ts) → ⊥) → NoneAt step ts
+pub no_step : (ts : Tokens) → (Is dot (head ts) → ⊥) → NoneAt path_step ts
 no_step ts other y us r d h = opens_other us r ts (opens_mark us r d) h other
 
-step_along : (ts : Tokens) → Along step dotted Free (Pair Free Free) ts (λ q. q.1)
+step_along : (ts : Tokens) → Along path_step dotted Free (Pair Free Free) ts (λ q. q.1)
 step_along ts = record { intro = λ q us d. d; cases = λ y us r d h. ((tt, y), refl, d); to = λ q us d l v. tt; from = λ q us d l v. (tt, tt) }
 
-pub step_took : (ts middle rest : Tokens) (at : Spot) (x : NameAt) → Took (Token dot) Free Always ts at middle → Took name Free Always middle x rest → Took step Free Always ts x rest
-step_took ts middle rest at x t u = took_as step dotted (λ q. q.1) (step_along ts) (both (free name Always) (took_mark t) u)
+pub step_took : (ts middle rest : Tokens) (at : Spot) (x : NameAt) → Took (Token dot) Free Always ts at middle → Took name Free Always middle x rest → Took path_step Free Always ts x rest
+step_took ts middle rest at x t u = took_as path_step dotted (λ q. q.1) (step_along ts) (both (free name Always) (took_mark t) u)
 
-pub step_failed_dot : (ts : Tokens) (e : Fail) → Failed (Token dot) Free Always ts e → Failed step Free Always ts e
-step_failed_dot ts e f = failed_as step dotted (λ q. q.1) (step_along ts) (first (free name Always) has_name (failed_mark f))
+pub step_failed_dot : (ts : Tokens) (e : Fail) → Failed (Token dot) Free Always ts e → Failed path_step Free Always ts e
+step_failed_dot ts e f = failed_as path_step dotted (λ q. q.1) (step_along ts) (first (free name Always) has_name (failed_mark f))
 
-pub step_failed_name : (ts middle : Tokens) (at : Spot) (e : Fail) → Took (Token dot) Free Always ts at middle → Failed name Free Always middle e → Failed step Free Always ts e
-step_failed_name ts middle at e t f = failed_as step dotted (λ q. q.1) (step_along ts) (second (free name Always) (took_mark t) f)
+pub step_failed_name : (ts middle : Tokens) (at : Spot) (e : Fail) → Took (Token dot) Free Always ts at middle → Failed name Free Always middle e → Failed path_step Free Always ts e
+step_failed_name ts middle at e t f = failed_as path_step dotted (λ q. q.1) (step_along ts) (second (free name Always) (took_mark t) f)
 
 -- ---- a path, where the limit is one of its steps
 
 abbrev pub stepped : Lang (NameAt × List NameAt)
-stepped = Both root (each step)
+stepped = Both root (one_by_one path_step)
 
 abbrev pub path_of : NameAt × List NameAt → Path
 path_of q = record { root = q.0; steps = q.1 }
@@ -82,11 +82,11 @@ pub path_along : (U : Bound (List NameAt)) (ts : Tokens) → Along path stepped 
 path_along U ts = record { intro = λ q us d. d; cases = λ y us r d h. ((y.root, y.steps), refl, d); to = λ q us d l v. v.1; from = λ q us d l v. (tt, v) }
 
 pub path_took : (U : Bound (List NameAt)) (ts middle rest : Tokens) (x : NameAt) (xs : List NameAt) →
-    Took root Free Always ts x middle → Took (each step) U (Isnt dot) middle xs rest → Took path (λ l p. U l p.steps) (Isnt dot) ts (path_of (x, xs)) rest
-path_took U ts middle rest x xs t u = took_as path stepped path_of (path_along U ts) (both (free (each step) (Isnt dot)) t u)
+    Took root Free Always ts x middle → Took (one_by_one path_step) U (Isnt dot) middle xs rest → Took path (λ l p. U l p.steps) (Isnt dot) ts (path_of (x, xs)) rest
+path_took U ts middle rest x xs t u = took_as path stepped path_of (path_along U ts) (both (free (one_by_one path_step) (Isnt dot)) t u)
 
-pub path_failed_root : (U : Bound (List NameAt)) (ts : Tokens) (e : Fail) → IsWithin U [] → Failed root Free Always ts e → Failed path (λ l p. U l p.steps) (Isnt dot) ts e
-path_failed_root U ts e none f = failed_as path stepped path_of (path_along U ts) (first (free (each step) (Isnt dot)) (has_none step U none) f)
+pub path_failed_root : (U : Bound (List NameAt)) (ts : Tokens) (e : Fail) → IsWithinAll U [] → Failed root Free Always ts e → Failed path (λ l p. U l p.steps) (Isnt dot) ts e
+path_failed_root U ts e none f = failed_as path stepped path_of (path_along U ts) (first (free (one_by_one path_step) (Isnt dot)) (has_none path_step U none) f)
 
-pub path_failed_steps : (U : Bound (List NameAt)) (ts middle : Tokens) (x : NameAt) (e : Fail) → Took root Free Always ts x middle → Failed (each step) U (Isnt dot) middle e → Failed path (λ l p. U l p.steps) (Isnt dot) ts e
-path_failed_steps U ts middle x e t f = failed_as path stepped path_of (path_along U ts) (second (free (each step) (Isnt dot)) t f)
+pub path_failed_steps : (U : Bound (List NameAt)) (ts middle : Tokens) (x : NameAt) (e : Fail) → Took root Free Always ts x middle → Failed (one_by_one path_step) U (Isnt dot) middle e → Failed path (λ l p. U l p.steps) (Isnt dot) ts e
+path_failed_steps U ts middle x e t f = failed_as path stepped path_of (path_along U ts) (second (free (one_by_one path_step) (Isnt dot)) t f)

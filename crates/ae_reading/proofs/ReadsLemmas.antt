@@ -5,16 +5,16 @@ use Rattle.ae_tree.specs.declared.lexeme.Lexeme.{Lexeme}
 use Rattle.ae_tree.specs.declared.lexeme.Lexical.{Lexical}
 use Rattle.ae_tree.specs.declared.lexeme.Lexical.TheVariants.{Name, End}
 use Rattle.ae_tree.specs.declared.limits.Limit.{Limit}
-use Rattle.ae_tree.specs.Grammar.{Tokens, ◌⨾◌, one, name}
+use Rattle.ae_tree.specs.Grammar.{Tokens, ◌⨾◌, one_token, name}
 use Rattle.ae_tree.specs.Limits.{early}
 use Rattle.ae_tree.specs.Names.{io}
 use Rattle.ae_tree.specs.declared.tree.NameAt.{NameAt}
-use Rattle.ae_tree.specs.Refused.{IsKnown, AreKnown}
+use Rattle.ae_tree.specs.Refused.{IsKnown, AreSpellable}
 use Rattle.ae_reading.specs.declared.fail.Fail.{Fail}
 use Rattle.ae_reading.specs.declared.fail.Fail.TheVariants.{Refused, Memory}
 use Rattle.ae_reading.specs.declared.fail.Why.{Why}
 use Rattle.ae_reading.specs.declared.fail.Why.TheVariants.{Unexpected, Over}
-use Rattle.ae_reading.specs.Reads.{head, Always, NoEnd, Free, IsWithin, Took, Lead, Stopped, Counts, Beyond, Fails, Failed, Reads, Token, Mark}
+use Rattle.ae_reading.specs.Reads.{head, Always, EndIsNone, Free, IsWithinAll, Took, Lead, Stopped, Counts, Beyond, Fails, Failed, Reads, Token, TokenMark}
 
 abbrev pub Lang : Type 0 → Type 1
 Lang A = A → Tokens → Type 0
@@ -30,11 +30,11 @@ pub head-append : (a b c : Tokens) → head b ≡ head c → head (a ++ b) ≡ h
 head-append [] b c e = e
 head-append (x ∷ a) b c e = refl
 
-pub NoEnd-append : (a b : Tokens) → NoEnd a → NoEnd b → NoEnd (a ++ b)
+pub NoEnd-append : (a b : Tokens) → EndIsNone a → EndIsNone b → EndIsNone (a ++ b)
 NoEnd-append [] b m n = n
 NoEnd-append (t ∷ a) b m n = (m.0, NoEnd-append a b m.1 n)
 
-pub AreKnown-append : (a b : Tokens) → AreKnown a → AreKnown b → AreKnown (a ++ b)
+pub AreKnown-append : (a b : Tokens) → AreSpellable a → AreSpellable b → AreSpellable (a ++ b)
 AreKnown-append [] b m n = n
 AreKnown-append (t ∷ a) b m n = (m.0, AreKnown-append a b m.1 n)
 
@@ -78,14 +78,14 @@ took_after {A} {B} {D} {E} {F} {G} {W} V {ts} {rest} {rest'} {x} {y} link t u = 
   only = λ p us r other d e h f.
       let e1 : d.front ++ (d.back ++ r) ≡ t.taken ++ (u.taken ++ other) = sym (append_assoc d.front d.back r) ∙ ap (λ l. l ++ r) (sym d.parts) ∙ e ∙ append_assoc t.taken u.taken other in
       let h1 : head (u.taken ++ other) ≡ head rest = head-append u.taken other rest' h ∙ ap head (sym u.whole) in
-      let one = t.only p.0 d.front (d.back ++ r) (u.taken ++ other) d.first e1 h1 (link p.0 p.1 d.back r d.second f) in
+      let one_token = t.only p.0 d.front (d.back ++ r) (u.taken ++ other) d.first e1 h1 (link p.0 p.1 d.back r d.second f) in
       let P : A → Type 0 = λ a. E a p.1 d.back in
-      let two = u.only p.1 d.back r other (subst P one.0 d.second) one.1 h f in
-      (ap (λ a. (a, p.1)) one.0 ∙ ap (λ b. (x, b)) two.0, two.1);
+      let two = u.only p.1 d.back r other (subst P one_token.0 d.second) one_token.1 h f in
+      (ap (λ a. (a, p.1)) one_token.0 ∙ ap (λ b. (x, b)) two.0, two.1);
 }
 
 beyond_second : {A B : Type 0} (D : Lang A) (E : A → Lang B) (W : Bound A) (V : Limit → A → B → Type 0) (why : Why) (x : A) (taken before rest : Tokens) →
-    D x taken → IsWithin W x → Beyond (E x) (λ l. V l x) before rest why → Beyond (After D E) (Limits W V) (taken ++ before) rest why
+    D x taken → IsWithinAll W x → Beyond (E x) (λ l. V l x) before rest why → Beyond (After D E) (Limits W V) (taken ++ before) rest why
 beyond_second D E W V Unexpected x taken before rest d w b = tt
 beyond_second D E W V (Over l) x taken before rest d w b = record {
   others = λ m n. (w m, b.others m n);
@@ -100,7 +100,7 @@ beyond_second D E W V (Over l) x taken before rest d w b = record {
 }
 
 lead_second : {A B : Type 0} (D : Lang A) (E : A → Lang B) (W : Bound A) (V : Limit → A → B → Type 0) {x : A} (taken before : Tokens) →
-    D x taken → IsWithin W x → Lead (E x) (λ l. V l x) before → Lead (After D E) (Limits W V) (taken ++ before)
+    D x taken → IsWithinAll W x → Lead (E x) (λ l. V l x) before → Lead (After D E) (Limits W V) (taken ++ before)
 lead_second D E W V {x} taken before d w u = record {
   start = taken ++ u.start;
   ahead = u.ahead;
@@ -131,9 +131,9 @@ after_second {A} {B} {D} {E} {F} {G} {W} V {ts} {rest} {x} {why} {left} link t u
   stuck = λ p us r other d e h f w.
       let e1 : d.front ++ (d.back ++ r) ≡ t.taken ++ (u.before ++ other) = sym (append_assoc d.front d.back r) ∙ ap (λ l. l ++ r) (sym d.parts) ∙ e ∙ append_assoc t.taken u.before other in
       let h1 : head (u.before ++ other) ≡ head rest = head-append u.before other u.rest h ∙ ap head (sym u.whole) in
-      let one = t.only p.0 d.front (d.back ++ r) (u.before ++ other) d.first e1 h1 (link p.0 p.1 d.back r d.second f) in
+      let one_token = t.only p.0 d.front (d.back ++ r) (u.before ++ other) d.first e1 h1 (link p.0 p.1 d.back r d.second f) in
       let Q : A → Type 0 = λ a. E a p.1 d.back in
-      u.stuck p.1 d.back r other (subst Q one.0 d.second) one.1 h f (counts_by why (λ l v. let P : A → Type 0 = λ a. V l a p.1 in subst P one.0 v.1) w);
+      u.stuck p.1 d.back r other (subst Q one_token.0 d.second) one_token.1 h f (counts_by why (λ l v. let P : A → Type 0 = λ a. V l a p.1 in subst P one_token.0 v.1) w);
   beyond = beyond_second D E W V why x t.taken u.before u.rest t.derives t.within u.beyond;
 }
 
@@ -142,7 +142,7 @@ pub record HasEach {A B : Type 0} (E : A → Lang B) (W : Bound A) (V : Limit �
   pub tree : A → B
   pub tokens : A → Tokens
   pub is : (x : A) → E x (tree x) (tokens x)
-  pub known : (x : A) → AreKnown (tokens x)
+  pub known : (x : A) → AreSpellable (tokens x)
   pub within : (l : Limit) (x : A) → W l x → V l x (tree x)
 
 beyond_first : {A B : Type 0} (D : Lang A) (E : A → Lang B) (W : Bound A) (V : Limit → A → B → Type 0) (why : Why) (before rest : Tokens) → HasEach E W V → Beyond D W before rest why → Beyond (After D E) (Limits W V) before rest why
@@ -203,7 +203,7 @@ stopped_second {D = D} {E = E} {F = F} {G = G} V link t u = after_second {D = D}
 
 -- behind a first part that stops, the second may be any that is within the limits behind each first part
 pub stopped_first_with : {A B : Type 0} {D : Lang A} {E : Lang B} {F G : Follow} {W : Bound A} (V : Limit → A → B → Type 0) {ts : Tokens} {why : Why} {left : ℕ} →
-    Links E G F → (y : B) (us : Tokens) → E y us → AreKnown us → ((l : Limit) (x : A) → W l x → V l x y) → Stopped D W F ts why left → Stopped (Both D E) (Limits W V) G ts why left
+    Links E G F → (y : B) (us : Tokens) → E y us → AreSpellable us → ((l : Limit) (x : A) → W l x → V l x y) → Stopped D W F ts why left → Stopped (Both D E) (Limits W V) G ts why left
 stopped_first_with {D = D} {E = E} {F = F} {G = G} V link y us e known fits u =
     after_first {D = D} {E = λ x. E} {F = F} {G = G} V (λ x. link) (record { tree = λ x. y; tokens = λ x. us; is = λ x. e; known = λ x. known; within = fits }) u
 
@@ -212,8 +212,8 @@ pub record Has {A : Type 0} (D : Lang A) (W : Bound A) : Type 0 where
   pub tree : A
   pub tokens : Tokens
   pub is : D tree tokens
-  pub known : AreKnown tokens
-  pub within : IsWithin W tree
+  pub known : AreSpellable tokens
+  pub within : IsWithinAll W tree
 
 pub has_both : {A B : Type 0} {D : Lang A} {E : Lang B} {W : Bound A} {V : Bound B} → Has D W → Has E V → Has (Both D E) (Pair W V)
 has_both a b = record { tree = (a.tree, b.tree); tokens = a.tokens ++ b.tokens; is = record { front = a.tokens; back = b.tokens; parts = refl; first = a.is; second = b.is }; known = AreKnown-append a.tokens b.tokens a.known b.known; within = λ l. (a.within l, b.within l) }
@@ -328,7 +328,7 @@ pub stopped_before : {A : Type 0} {D : Lang A} {W : Bound A} {F G : Follow} {ts 
 stopped_before {D = D} {G = G} less u = stopped_on D D {F = G} (λ y. y) (λ q us d. d) (λ q us d l v. v) (λ q us d l v. v) u (λ y us r other d e h f. (y, refl, d, less (head r) f))
 
 -- all tokens begin a tree within all limits
-pub lead_here : {A : Type 0} {D : Lang A} {W : Bound A} (before : Tokens) (x : A) (more : Tokens) → D x (before ++ more) → AreKnown more → IsWithin W x → Lead D W before
+pub lead_here : {A : Type 0} {D : Lang A} {W : Bound A} (before : Tokens) (x : A) (more : Tokens) → D x (before ++ more) → AreSpellable more → IsWithinAll W x → Lead D W before
 lead_here before x more goes known within = record {
   start = before;
   ahead = [];
@@ -369,7 +369,7 @@ abbrev pub NoneAt : {A : Type 0} → Lang A → Tokens → Type 0
 NoneAt {A} D rest = (y : A) (us r : Tokens) → D y us → head (us ++ r) ≡ head rest → ⊥
 
 -- nothing is taken
-pub took_nothing : {A : Type 0} (D : Lang A) (W : Bound A) (F : Follow) (ts : Tokens) (x : A) → D x [] → IsWithin W x →
+pub took_nothing : {A : Type 0} (D : Lang A) (W : Bound A) (F : Follow) (ts : Tokens) (x : A) → D x [] → IsWithinAll W x →
     ((y : A) (us r : Tokens) → D y us → head (us ++ r) ≡ head ts → F (head r) → (y ≡ x) × (us ≡ [])) → Took D W F ts x ts
 took_nothing D W F ts x d w single = record {
   taken = [];
@@ -401,7 +401,7 @@ no_first k at us r ts d h e = let no : Some (record { kind = k; at = at }) ≡ N
 pub has_token : (k : Lexical) → IsKnown k → Has (Token k) Free
 has_token k known = record { tree = nowhere; tokens = at_once k; is = refl; known = (known, tt); within = λ l. tt }
 
-pub has_mark : (k : Lexical) → IsKnown k → Has (Mark k) Free
+pub has_mark : (k : Lexical) → IsKnown k → Has (TokenMark k) Free
 has_mark k known = record { tree = tt; tokens = at_once k; is = (nowhere, refl); known = (known, tt); within = λ l. tt }
 
 pub token_end : (k : Lexical) → IsKnown k → (F : Follow) (ts : Tokens) → ts ≡ [] → Stopped (Token k) Free F ts Unexpected (length ts)
@@ -430,14 +430,14 @@ took_kind k ts rest t not_end e is =
     let same : t ≡ f t.at = ap (λ k. record { kind = k; at = t.at }) is in
     took_token f (λ x y p. ap (λ (l : Lexeme). l.at) p) ts rest t.at not_end (e ∙ ap (λ l. l ∷ rest) same)
 
-pub mark_along : (k : Lexical) (ts : Tokens) → Along (Mark k) (Token k) Free Free ts (λ at. tt)
+pub mark_along : (k : Lexical) (ts : Tokens) → Along (TokenMark k) (Token k) Free Free ts (λ at. tt)
 mark_along k ts = record { intro = λ at us d. (at, d); cases = λ y us r d h. (d.0, refl, d.1); to = λ q us d l v. v; from = λ q us d l v. v }
 
-pub took_mark : {k : Lexical} {F : Follow} {ts rest : Tokens} {at : Spot} → Took (Token k) Free F ts at rest → Took (Mark k) Free F ts tt rest
-took_mark {k} {F} {ts} t = took_as (Mark k) (Token k) (λ at. tt) (mark_along k ts) t
+pub took_mark : {k : Lexical} {F : Follow} {ts rest : Tokens} {at : Spot} → Took (Token k) Free F ts at rest → Took (TokenMark k) Free F ts tt rest
+took_mark {k} {F} {ts} t = took_as (TokenMark k) (Token k) (λ at. tt) (mark_along k ts) t
 
-pub stopped_mark : {k : Lexical} {F : Follow} {ts : Tokens} {why : Why} {left : ℕ} → Stopped (Token k) Free F ts why left → Stopped (Mark k) Free F ts why left
-stopped_mark {k} {F} {ts} t = stopped_as (Mark k) (Token k) (λ at. tt) (mark_along k ts) t
+pub stopped_mark : {k : Lexical} {F : Follow} {ts : Tokens} {why : Why} {left : ℕ} → Stopped (Token k) Free F ts why left → Stopped (TokenMark k) Free F ts why left
+stopped_mark {k} {F} {ts} t = stopped_as (TokenMark k) (Token k) (λ at. tt) (mark_along k ts) t
 
 -- ---- failures
 
@@ -460,7 +460,7 @@ second {V = V} link t f = failed_by (λ why left s. stopped_second (λ l x. V l)
 pub both : {A B : Type 0} {D : Lang A} {E : Lang B} {W : Bound A} {V : Bound B} {F G : Follow} {ts rest rest' : Tokens} {x : A} {y : B} → Links E G F → Took D W F ts x rest → Took E V G rest y rest' → Took (Both D E) (Pair W V) G ts (x, y) rest'
 both {V = V} link t u = took_then (λ l x. V l) link t u
 
-pub failed_mark : {k : Lexical} {F : Follow} {ts : Tokens} {e : Fail} → Failed (Token k) Free F ts e → Failed (Mark k) Free F ts e
+pub failed_mark : {k : Lexical} {F : Follow} {ts : Tokens} {e : Fail} → Failed (Token k) Free F ts e → Failed (TokenMark k) Free F ts e
 failed_mark f = failed_by (λ why left s. stopped_mark s) f
 
 pub failed_as : {A B : Type 0} (D : Lang A) (E : Lang B) {W : Bound A} {V : Bound B} {F : Follow} {ts : Tokens} {e : Fail} (build : B → A) → Along D E W V ts build → Failed E V F ts e → Failed D W F ts e
@@ -501,7 +501,7 @@ pub token_smaller : (k : Lexical) (F : Follow) (ts rest : Tokens) (at : Spot) �
 token_smaller k F ts rest at s = omega (arith, ap length s.whole, length-append s.taken rest, ap length s.derives)
 
 -- so is the mark that a part begins with
-pub mark_smaller : {A : Type 0} (k : Lexical) (E : Lang A) (W : Bound A) (F : Follow) (ts rest : Tokens) (x : A) → Took (λ y. one k ⨾ E y) W F ts x rest → length rest < length ts
+pub mark_smaller : {A : Type 0} (k : Lexical) (E : Lang A) (W : Bound A) (F : Follow) (ts rest : Tokens) (x : A) → Took (λ y. one_token k ⨾ E y) W F ts x rest → length rest < length ts
 mark_smaller k E W F ts rest x s = omega (arith, ap length s.whole, length-append s.taken rest, ap length s.derives.parts, length-append s.derives.front s.derives.back, ap length s.derives.first.1)
 
 -- the next token is refused

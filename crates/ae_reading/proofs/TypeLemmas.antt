@@ -16,11 +16,11 @@ use Rattle.ae_tree.specs.declared.tree.Ty.TheVariants as ty
 use Rattle.ae_tree.specs.declared.limits.Limit.{Limit}
 use Rattle.ae_tree.specs.Grammar.{Tokens, separated, name, groups, permission, kind, type_}
 use Rattle.ae_reading.specs.declared.fail.Fail.{Fail}
-use Rattle.ae_reading.specs.Reads.{head, Always, Is, Isnt, Free, Took, Failed, Token, Mark}
+use Rattle.ae_reading.specs.Reads.{head, Always, Is, Isnt, Free, Took, Failed, Token, TokenMark}
 use Rattle.ae_reading.proofs.ReadsLemmas.{Lang, Follow, Both, Pair, Has, Along, Links, took_as, failed_as, has_mark, has_both, has_name, nowhere, at_once, When, took_nothing}
 use Rattle.ae_reading.proofs.Parts.{has_separated}
 use Rattle.ae_reading.proofs.Begins.{Opens, opens_one, opens_at, opens_mark, opens_first, opens_is, opens_other, opens_isnt, is_isnt}
-use Rattle.ae_reading.specs.Parts.{angled, shared, class, object}
+use Rattle.ae_reading.specs.Parts.{angled, shared_permission, class, object}
 
 -- ---- groups
 
@@ -28,10 +28,10 @@ abbrev pub NoLess : Follow
 NoLess = Isnt (tok.Sign sign.Less)
 
 abbrev pub greater : Lang (Unit {0})
-greater = Mark (tok.Sign sign.Greater)
+greater = TokenMark (tok.Sign sign.Greater)
 
 abbrev pub less : Lang (Unit {0})
-less = Mark (tok.Sign sign.Less)
+less = TokenMark (tok.Sign sign.Less)
 
 abbrev pub Angled : Type 0
 Angled = Unit {0} × (List NameAt × Unit {0})
@@ -128,17 +128,17 @@ lent_cases (perm_at.Shared at g) us e d = absurd cc
 pub lent_along : (ts : Tokens) → Is (tok.Word word.Lent) (head ts) → Along permission (Token (tok.Word word.Lent)) Free Free ts perm_at.Lent
 lent_along ts is = record { intro = λ q us d. d; cases = λ y us r d h. lent_cases y us (perm_is word.Lent ts is y us r d h) d; to = λ q us d l v. tt; from = λ q us d l v. tt }
 
-shared_intro : (q : PermAt) (us : Tokens) → shared q us → permission q us
+shared_intro : (q : PermAt) (us : Tokens) → shared_permission q us → permission q us
 shared_intro q us d = let P : PermAt → Type 0 = λ p. permission p us in subst P (sym d.2) d.3
 
 shared_cases : (ts : Tokens) → (Is (tok.Word word.Unique) (head ts) → ⊥) → (Is (tok.Word word.Immutable) (head ts) → ⊥) → (Is (tok.Word word.Lent) (head ts) → ⊥) →
-    (p : PermAt) (us r : Tokens) → permission p us → head (us ++ r) ≡ head ts → (q : PermAt) × (p ≡ q) × shared q us
+    (p : PermAt) (us r : Tokens) → permission p us → head (us ++ r) ≡ head ts → (q : PermAt) × (p ≡ q) × shared_permission q us
 shared_cases ts u i n (perm_at.Unique at) us r d h = absurd (opens_other us r ts (opens_one us r d) h u)
 shared_cases ts u i n (perm_at.Immutable at) us r d h = absurd (opens_other us r ts (opens_one us r d) h i)
 shared_cases ts u i n (perm_at.Lent at) us r d h = absurd (opens_other us r ts (opens_one us r d) h n)
 shared_cases ts u i n (perm_at.Shared at g) us r d h = (perm_at.Shared at g, refl, (at, g, refl, d))
 
-pub shared_along : (ts : Tokens) → (Is (tok.Word word.Unique) (head ts) → ⊥) → (Is (tok.Word word.Immutable) (head ts) → ⊥) → (Is (tok.Word word.Lent) (head ts) → ⊥) → Along permission shared Free Free ts (λ q. q)
+pub shared_along : (ts : Tokens) → (Is (tok.Word word.Unique) (head ts) → ⊥) → (Is (tok.Word word.Immutable) (head ts) → ⊥) → (Is (tok.Word word.Lent) (head ts) → ⊥) → Along permission shared_permission Free Free ts (λ q. q)
 shared_along ts u i n = record { intro = shared_intro; cases = shared_cases ts u i n; to = λ q us d l v. tt; from = λ q us d l v. tt }
 
 abbrev pub Sharing : Type 0
@@ -153,14 +153,14 @@ shared_limit = Pair Free (Pair Free (Pair Free Free))
 abbrev pub shared_tree : Sharing → PermAt
 shared_tree q = perm_at.Shared q.0 q.1.1.0
 
-shared_body_along : (ts : Tokens) → Along shared shared_body Free shared_limit ts shared_tree
+shared_body_along : (ts : Tokens) → Along shared_permission shared_body Free shared_limit ts shared_tree
 shared_body_along ts = record { intro = λ q us d. (q.0, q.1.1.0, refl, d); cases = λ y us r d h. ((d.0, (tt, (d.1, tt))), d.2, d.3); to = λ q us d l v. tt; from = λ q us d l v. (tt, (tt, (tt, tt))) }
 
-pub shared_took : (ts rest : Tokens) (at : Spot) (g : NameAt) → Took shared_body shared_limit Always ts (at, (tt, (g, tt))) rest → Took shared Free Always ts (perm_at.Shared at g) rest
-shared_took ts rest at g t = took_as shared shared_body shared_tree (shared_body_along ts) t
+pub shared_took : (ts rest : Tokens) (at : Spot) (g : NameAt) → Took shared_body shared_limit Always ts (at, (tt, (g, tt))) rest → Took shared_permission Free Always ts (perm_at.Shared at g) rest
+shared_took ts rest at g t = took_as shared_permission shared_body shared_tree (shared_body_along ts) t
 
-pub shared_failed : (ts : Tokens) (e : Fail) → Failed shared_body shared_limit Always ts e → Failed shared Free Always ts e
-shared_failed ts e f = failed_as shared shared_body shared_tree (shared_body_along ts) f
+pub shared_failed : (ts : Tokens) (e : Fail) → Failed shared_body shared_limit Always ts e → Failed shared_permission Free Always ts e
+shared_failed ts e f = failed_as shared_permission shared_body shared_tree (shared_body_along ts) f
 
 pub has_grouped : Has (Both name greater) (Pair Free Free)
 has_grouped = has_both has_name (has_mark (tok.Sign sign.Greater) tt)

@@ -3,8 +3,8 @@ use Rattle.std.proofs.Common.{◌≡◌, ◌++◌, List, [], ◌∷◌, Option, 
 use Rattle.ae_text.specs.declared.refusal.Spot.{Spot}
 use Rattle.ae_tree.specs.declared.lexeme.Lexeme.{Lexeme}
 use Rattle.ae_tree.specs.declared.lexeme.Lexical.{Lexical}
-use Rattle.ae_tree.specs.Grammar.{Tokens, each, further, separated, listed, name}
-use Rattle.ae_reading.specs.Reads.{head, Always, Is, Isnt, Token, Mark, chain}
+use Rattle.ae_tree.specs.Grammar.{Tokens, one_by_one, further, separated, comma_list, name}
+use Rattle.ae_reading.specs.Reads.{head, Always, Is, Isnt, Token, TokenMark, chain}
 use Rattle.ae_reading.proofs.ReadsLemmas.{Lang, Follow, Both, After, Links, name_token, name_of_token}
 use Rattle.ae_reading.proofs.Begins.{Begins, begins_as, begins_mark, links_by, of_kind, is_isnt}
 use Rattle.ae_reading.proofs.Chains.{chain_turns}
@@ -35,7 +35,7 @@ unique_token f inj x y us vs r s d e same t u =
 pub unique_at : (k : Lexical) → Unique (Token k) Always
 unique_at k = unique_token (λ at. record { kind = k; at = at }) (λ x y e. ap (λ (l : Lexeme). l.at) e)
 
-pub unique_mark : (k : Lexical) → Unique (Mark k) Always
+pub unique_mark : (k : Lexical) → Unique (TokenMark k) Always
 unique_mark k x y us vs r s d e same t u = (refl, (unique_at k d.0 e.0 us vs r s d.1 e.1 same t u).1)
 
 pub unique_name : Unique name Always
@@ -128,21 +128,21 @@ unique_chain {S} {A} D next F G begin inside apart one n (x ∷ xs) (y ∷ ys) u
     let b = unique_chain D next F G begin inside apart one (next n y) xs ys d.back e.back r s (subst P a.0 d.second) e.second a.1 t u in
     (ap (λ p. p ∷ xs) a.0 ∙ ap (λ q. y ∷ q) b.0, b.1)
 
-pub unique_each : {A : Type 0} (D : Lang A) (F G : Follow) → Begins D G → ((o : Option Lexeme) → F o → G o) → Apart D F → Unique D G → Unique (each D) F
-unique_each D F G begin inside apart one = unique_as (each D) (Items D tt) F (λ q. q) (λ y us d. (y, refl, each_chain D tt y us d))
+pub unique_each : {A : Type 0} (D : Lang A) (F G : Follow) → Begins D G → ((o : Option Lexeme) → F o → G o) → Apart D F → Unique D G → Unique (one_by_one D) F
+unique_each D F G begin inside apart one = unique_as (one_by_one D) (Items D tt) F (λ q. q) (λ y us d. (y, refl, each_chain D tt y us d))
     (unique_chain (λ s. D) (λ s x. s) F G (λ s. begin) inside (λ s. apart) (λ s. one) tt)
 
 -- ---- lists with commas
 
 pub unique_further : {A : Type 0} (D : Lang A) (G : Follow) → Unique D G → Unique (further D) G
-unique_further D G one = unique_as (further D) (Both (Mark Comma) D) G (λ q. q.1) (λ y us d. ((tt, y), refl, d)) (unique_then (Mark Comma) D G (unique_mark Comma) one)
+unique_further D G one = unique_as (further D) (Both (TokenMark Comma) D) G (λ q. q.1) (λ y us d. ((tt, y), refl, d)) (unique_then (TokenMark Comma) D G (unique_mark Comma) one)
 
-pub unique_furthers : {A : Type 0} (D : Lang A) (F G : Follow) → ((o : Option Lexeme) → Is Comma o → G o) → ((o : Option Lexeme) → F o → G o) → ((o : Option Lexeme) → F o → Isnt Comma o) → Unique D G → Unique (each (further D)) F
+pub unique_furthers : {A : Type 0} (D : Lang A) (F G : Follow) → ((o : Option Lexeme) → Is Comma o → G o) → ((o : Option Lexeme) → F o → G o) → ((o : Option Lexeme) → F o → Isnt Comma o) → Unique D G → Unique (one_by_one (further D)) F
 unique_furthers D F G goes inside ends one = unique_each (further D) F G (begins_as (further D) (Is Comma) G goes (begins_further D)) inside
     (apart_by (further D) (Is Comma) F (λ o i f. is_isnt Comma o i (ends o f)) (begins_further D)) (unique_further D G one)
 
 pub unique_some : {A : Type 0} (D : Lang A) (F G : Follow) → ((o : Option Lexeme) → Is Comma o → G o) → ((o : Option Lexeme) → F o → G o) → ((o : Option Lexeme) → F o → Isnt Comma o) → Unique D G → Unique (Whole D) F
-unique_some D F G goes inside ends one = unique_both D (each (further D)) G F (each_turns (further D) F G (begins_as (further D) (Is Comma) G goes (begins_further D)) inside) one (unique_furthers D F G goes inside ends one)
+unique_some D F G goes inside ends one = unique_both D (one_by_one (further D)) G F (each_turns (further D) F G (begins_as (further D) (Is Comma) G goes (begins_further D)) inside) one (unique_furthers D F G goes inside ends one)
 
 pub unique_separated : {A : Type 0} (D : Lang A) (F G : Follow) → ((o : Option Lexeme) → Is Comma o → G o) → ((o : Option Lexeme) → F o → G o) → ((o : Option Lexeme) → F o → Isnt Comma o) → Unique D G → Unique (separated D) F
 unique_separated D F G goes inside ends one = unique_as (separated D) (Whole D) F joined (separated_cases D) (unique_some D F G goes inside ends one)
@@ -152,12 +152,12 @@ abbrev pub list_of : {A : Type 0} → Option (A × List A) → List A
 list_of None = []
 list_of (Some q) = q.0 ∷ q.1
 
-listed_cases : {A : Type 0} (D : Lang A) (y : List A) (us : Tokens) → listed D y us → (q : Option (A × List A)) × (y ≡ list_of q) × optional (Whole D) q us
+listed_cases : {A : Type 0} (D : Lang A) (y : List A) (us : Tokens) → comma_list D y us → (q : Option (A × List A)) × (y ≡ list_of q) × optional (Whole D) q us
 listed_cases D [] us d = (None, refl, d)
 listed_cases D (x ∷ xs) us d = (Some (x, xs), refl, d)
 
-pub unique_listed : {A : Type 0} (D : Lang A) (F G : Follow) → ((o : Option Lexeme) → Is Comma o → G o) → ((o : Option Lexeme) → F o → G o) → ((o : Option Lexeme) → F o → Isnt Comma o) → Apart D F → Unique D G → Unique (listed D) F
-unique_listed D F G goes inside ends apart one = unique_as (listed D) (optional (Whole D)) F list_of (listed_cases D)
+pub unique_listed : {A : Type 0} (D : Lang A) (F G : Follow) → ((o : Option Lexeme) → Is Comma o → G o) → ((o : Option Lexeme) → F o → G o) → ((o : Option Lexeme) → F o → Isnt Comma o) → Apart D F → Unique D G → Unique (comma_list D) F
+unique_listed D F G goes inside ends apart one = unique_as (comma_list D) (optional (Whole D)) F list_of (listed_cases D)
     (unique_optional (Whole D) F (λ x us r d f. let P : Follow = F in
     apart x.0 d.front (d.back ++ r) d.first (subst P (ap head (ap (λ l. l ++ r) d.parts ∙ append_assoc d.front d.back r)) f))
     (unique_some D F G goes inside ends one))
@@ -174,5 +174,5 @@ isnt_at form_of k none (Some t) s = λ e. none_at form_of k none (Some t) s e
 
 -- ---- a closing token
 
-pub unique_closing : {A : Type 0} (D : Lang A) (F : Follow) (k : Lexical) → ((o : Option Lexeme) → Is k o → F o) → Unique D F → Unique (Both D (Mark k)) Always
-unique_closing D F k f one = unique_both D (Mark k) F Always (links_by (Mark k) (Is k) F f (begins_mark k) Always) one (unique_mark k)
+pub unique_closing : {A : Type 0} (D : Lang A) (F : Follow) (k : Lexical) → ((o : Option Lexeme) → Is k o → F o) → Unique D F → Unique (Both D (TokenMark k)) Always
+unique_closing D F k f one = unique_both D (TokenMark k) F Always (links_by (TokenMark k) (Is k) F f (begins_mark k) Always) one (unique_mark k)

@@ -15,7 +15,7 @@ use Rattle.ae_tree.specs.declared.tree.KindAt.TheVariants as kind_at
 use Rattle.ae_tree.specs.declared.tree.Ty.{Ty}
 use Rattle.ae_tree.specs.declared.tree.Ty.TheVariants as ty
 use Rattle.ae_tree.specs.Grammar.{Tokens, name, groups, permission, kind, type_}
-use Rattle.ae_reading.specs.Reads.{head, Always, Is, Isnt, IsName, Token, Mark}
+use Rattle.ae_reading.specs.Reads.{head, Always, Is, Isnt, IsName, Token, TokenMark}
 use Rattle.ae_reading.proofs.ReadsLemmas.{Lang, Follow, Both}
 use Rattle.ae_reading.proofs.UniqueLemmas.{Unique, apart_by, unique_at, unique_mark, unique_name, unique_then, unique_both, unique_as, unique_always, unique_choice, by_first, unique_optional, unique_some}
 use Rattle.ae_reading.proofs.Begins.{Begins, begins_token, begins_mark, begins_name, begins_both, of_kind, of_other, is_isnt}
@@ -27,7 +27,7 @@ abbrev pub Listed : Type 0
 Listed = Unit {0} × ((NameAt × List NameAt) × Unit {0})
 
 abbrev pub angled : Lang Listed
-angled = Both (Mark (tok.Sign sign.Less)) (Both (Whole name) (Mark (tok.Sign sign.Greater)))
+angled = Both (TokenMark (tok.Sign sign.Less)) (Both (Whole name) (TokenMark (tok.Sign sign.Greater)))
 
 abbrev pub groups_of : Option Listed → List NameAt
 groups_of None = []
@@ -38,14 +38,14 @@ groups_cases [] us d = (None, refl, d)
 groups_cases (g ∷ gs) us d = (Some (tt, ((g, gs), tt)), refl, d)
 
 begins_angled : Begins angled (Is (tok.Sign sign.Less))
-begins_angled = begins_both (Mark (tok.Sign sign.Less)) (λ c. Both (Whole name) (Mark (tok.Sign sign.Greater))) (Is (tok.Sign sign.Less)) (begins_mark (tok.Sign sign.Less))
+begins_angled = begins_both (TokenMark (tok.Sign sign.Less)) (λ c. Both (Whole name) (TokenMark (tok.Sign sign.Greater))) (Is (tok.Sign sign.Less)) (begins_mark (tok.Sign sign.Less))
 
-unique_names_closed : Unique (Both (Whole name) (Mark (tok.Sign sign.Greater))) Always
-unique_names_closed = unique_both (Whole name) (Mark (tok.Sign sign.Greater)) (Is (tok.Sign sign.Greater)) Always (λ x us r d f. begins_mark (tok.Sign sign.Greater) x us r d)
+unique_names_closed : Unique (Both (Whole name) (TokenMark (tok.Sign sign.Greater))) Always
+unique_names_closed = unique_both (Whole name) (TokenMark (tok.Sign sign.Greater)) (Is (tok.Sign sign.Greater)) Always (λ x us r d f. begins_mark (tok.Sign sign.Greater) x us r d)
     (unique_some name (Is (tok.Sign sign.Greater)) Always (λ o i. tt) (λ o i. tt) (of_other (tok.Sign sign.Greater) (tok.Sign sign.Comma) (λ e. cc)) unique_name) (unique_mark (tok.Sign sign.Greater))
 
 unique_angled : Unique angled Always
-unique_angled = unique_then (Mark (tok.Sign sign.Less)) (Both (Whole name) (Mark (tok.Sign sign.Greater))) Always (unique_mark (tok.Sign sign.Less)) unique_names_closed
+unique_angled = unique_then (TokenMark (tok.Sign sign.Less)) (Both (Whole name) (TokenMark (tok.Sign sign.Greater))) Always (unique_mark (tok.Sign sign.Less)) unique_names_closed
 
 pub unique_groups : Unique groups (Isnt (tok.Sign sign.Less))
 unique_groups = unique_as groups (optional angled) (Isnt (tok.Sign sign.Less)) groups_of groups_cases
@@ -75,7 +75,7 @@ permission_word OfLent = word.Lent
 permission_word OfShared = word.Shared
 
 abbrev pub group_named : Lang (Unit {0} × (NameAt × Unit {0}))
-group_named = Both (Mark (tok.Sign sign.Less)) (Both name (Mark (tok.Sign sign.Greater)))
+group_named = Both (TokenMark (tok.Sign sign.Less)) (Both name (TokenMark (tok.Sign sign.Greater)))
 
 abbrev pub permission_form : (t : Permission) → Lang (PermissionParts t)
 permission_form OfUnique q us = Token (tok.Word word.Unique) q us
@@ -125,7 +125,7 @@ unique_permission_form OfUnique = unique_at (tok.Word word.Unique)
 unique_permission_form OfImmutable = unique_at (tok.Word word.Immutable)
 unique_permission_form OfLent = unique_at (tok.Word word.Lent)
 unique_permission_form OfShared = unique_then (Token (tok.Word word.Shared)) group_named Always (unique_at (tok.Word word.Shared))
-    (unique_then (Mark (tok.Sign sign.Less)) (Both name (Mark (tok.Sign sign.Greater))) Always (unique_mark (tok.Sign sign.Less)) (unique_then name (Mark (tok.Sign sign.Greater)) Always unique_name (unique_mark (tok.Sign sign.Greater))))
+    (unique_then (TokenMark (tok.Sign sign.Less)) (Both name (TokenMark (tok.Sign sign.Greater))) Always (unique_mark (tok.Sign sign.Less)) (unique_then name (TokenMark (tok.Sign sign.Greater)) Always unique_name (unique_mark (tok.Sign sign.Greater))))
 
 pub unique_permission : Unique permission Always
 unique_permission = unique_choice PermissionParts permission_form permission_tree permission Always permission_cases

@@ -18,8 +18,8 @@ abbrev pub angled : List NameAt → Tokens → Type 0
 angled gs = a_sign sign.Less ⨾ separated name gs ⨾ a_sign sign.Greater
 
 -- the permission of a group's objects
-abbrev pub shared : PermAt → Tokens → Type 0
-shared p ts = (at : Spot) × (g : NameAt) × (p ≡ perm_at.Shared at g) × (one_at (tok.Word word.Shared) at ⨾ a_sign sign.Less ⨾ name g ⨾ a_sign sign.Greater) ts
+abbrev pub shared_permission : PermAt → Tokens → Type 0
+shared_permission p ts = (at : Spot) × (g : NameAt) × (p ≡ perm_at.Shared at g) × (one_at (tok.Word word.Shared) at ⨾ a_sign sign.Less ⨾ name g ⨾ a_sign sign.Greater) ts
 
 -- a class with its groups
 abbrev pub class : KindAt → Tokens → Type 0

@@ -7,9 +7,9 @@ use Rattle.ae_tree.specs.declared.lexeme.Lexeme.{Lexeme}
 use Rattle.ae_tree.specs.declared.lexeme.Lexical.{Lexical}
 use Rattle.ae_tree.specs.declared.lexeme.Lexical.TheVariants.{Name, End}
 use Rattle.ae_tree.specs.declared.limits.Limit.{Limit}
-use Rattle.ae_tree.specs.Grammar.{Tokens, ◌⨾◌, nothing, one_at, one}
+use Rattle.ae_tree.specs.Grammar.{Tokens, ◌⨾◌, no_tokens, one_at, one_token}
 use Rattle.ae_tree.specs.Limits.{early, rank}
-use Rattle.ae_tree.specs.Refused.{AreKnown, IsHead, CanPass}
+use Rattle.ae_tree.specs.Refused.{AreSpellable, IsHead, CanPass}
 use Rattle.ae_reading.specs.declared.fail.Fail.{Fail}
 use Rattle.ae_reading.specs.declared.fail.Fail.TheVariants.{Refused, Memory}
 use Rattle.ae_reading.specs.declared.fail.Why.{Why}
@@ -41,9 +41,9 @@ IsName None = ⊥
 IsName (Some t) = (n : ℕ) × (t.kind ≡ Name n)
 
 -- the end is none of these
-abbrev pub NoEnd : Tokens → Type 0
-NoEnd [] = Unit {0}
-NoEnd (t ∷ ts) = (t.kind ≡ End → ⊥) × NoEnd ts
+abbrev pub EndIsNone : Tokens → Type 0
+EndIsNone [] = Unit {0}
+EndIsNone (t ∷ ts) = (t.kind ≡ End → ⊥) × EndIsNone ts
 
 -- ---- single tokens
 
@@ -52,20 +52,20 @@ abbrev pub Token : Lexical → Spot → Tokens → Type 0
 Token k = one_at k
 
 -- a token of this kind, whose place is not kept
-abbrev pub Mark : Lexical → Unit {0} → Tokens → Type 0
-Mark k x = one k
+abbrev pub TokenMark : Lexical → Unit {0} → Tokens → Type 0
+TokenMark k x = one_token k
 
 -- ---- one after another, where what an item is depends on those before it
 
 -- items that begin in the state s, with the state behind each
 abbrev pub chain : {S A : Type 0} → (S → A → Tokens → Type 0) → (S → A → S) → S → List A → Tokens → Type 0
-chain D next s [] = nothing
+chain D next s [] = no_tokens
 chain D next s (x ∷ xs) = D s x ⨾ chain D next (next s x) xs
 
 -- the state behind items
-abbrev pub after : {S A : Type 0} → (S → A → S) → S → List A → S
-after next s [] = s
-after next s (x ∷ xs) = after next (next s x) xs
+abbrev pub state_after : {S A : Type 0} → (S → A → S) → S → List A → S
+state_after next s [] = s
+state_after next s (x ∷ xs) = state_after next (next s x) xs
 
 -- ---- what a step answers
 
@@ -74,20 +74,20 @@ abbrev pub Free : {A : Type 0} → Limit → A → Type 0
 Free l x = Unit {0}
 
 -- within all limits
-abbrev pub IsWithin : {A : Type 0} → (Limit → A → Type 0) → A → Type 0
-IsWithin W x = (l : Limit) → W l x
+abbrev pub IsWithinAll : {A : Type 0} → (Limit → A → Type 0) → A → Type 0
+IsWithinAll W x = (l : Limit) → W l x
 
 -- within all limits, but for blocks that are too deep
-abbrev pub IsNearly : {A : Type 0} → (Limit → A → Type 0) → A → Type 0
-IsNearly W x = (l : Limit) → W (early l) x
+abbrev pub IsNearlyWithin : {A : Type 0} → (Limit → A → Type 0) → A → Type 0
+IsNearlyWithin W x = (l : Limit) → W (early l) x
 
 -- x was read, and rest is left. All that begins with the same tokens, the next one counted, begins with x.
 pub record Took {A : Type 0} (D : A → Tokens → Type 0) (W : Limit → A → Type 0) (F : Option Lexeme → Type 0) (ts : Tokens) (x : A) (rest : Tokens) : Type 0 where
   pub taken : Tokens
   pub whole : ts ≡ taken ++ rest
   pub derives : D x taken
-  pub within : IsWithin W x
-  pub no_end : NoEnd taken
+  pub within : IsWithinAll W x
+  pub no_end : EndIsNone taken
   pub only : (y : A) (us r other : Tokens) → D y us → us ++ r ≡ taken ++ other → head other ≡ head rest → F (head r) → (y ≡ x) × (r ≡ other)
 
 -- where a token is unexpected, trees of any size count, and where it is over a limit, those that keep to it
@@ -102,8 +102,8 @@ pub record Larger {A : Type 0} (l : Limit) (D : A → Tokens → Type 0) (W : Li
   pub rest_is : rest ≡ next ∷ later
   pub tree : A
   pub after : Tokens
-  pub goes_on : D tree (before ++ (next ∷ after))
-  pub known : AreKnown after
+  pub goes_on : D tree (before ++ (next ∷ state_after))
+  pub known : AreSpellable state_after
   pub passes : CanPass l next.kind
   pub others : (m : Limit) → rank m < rank l → W m tree
 
@@ -120,8 +120,8 @@ pub record Lead {A : Type 0} (D : A → Tokens → Type 0) (W : Limit → A → 
   pub tree : A
   pub more : Tokens
   pub goes : D tree (start ++ more)
-  pub known : AreKnown more
-  pub within : IsWithin W tree
+  pub known : AreSpellable more
+  pub within : IsWithinAll W tree
 
 -- The tokens before `rest` begin a tree within the limits, but for those that are decided early. With the next token no tree goes on;
 -- where a limit is the cause, one within the limits named before it does, and none that keeps to it. From the next token on, `left` tokens are left.
@@ -133,10 +133,10 @@ pub record Stopped {A : Type 0} (D : A → Tokens → Type 0) (W : Limit → A �
   pub tree : A
   pub more : Tokens
   pub goes : D tree (before ++ more)
-  pub known : AreKnown more
-  pub within : IsNearly W tree
+  pub known : AreSpellable more
+  pub within : IsNearlyWithin W tree
   pub lead : Lead D W before
-  pub no_end : NoEnd before
+  pub no_end : EndIsNone before
   pub stuck : (y : A) (us r other : Tokens) → D y us → us ++ r ≡ before ++ other → head other ≡ head rest → F (head r) → Counts why (λ l. W l y) → ⊥
   pub beyond : Beyond D W before rest why
 

@@ -32,7 +32,7 @@ fn further_name<'a>(ts: &'a [Lexeme]) -> Result<(NameAt, &'a [Lexeme]), Fail>
 }
 
 fn further_names<'a>(alloc: Global, ts: &'a [Lexeme]) -> Result<(Items<NameAt>, &'a [Lexeme]), Fail>
-    ensures { Reads itself (grammar.each (grammar.further grammar.name)) Free (Isnt (tok.Sign sign.Comma)) ts.now result }
+    ensures { Reads itself (grammar.one_by_one (grammar.further grammar.name)) Free (Isnt (tok.Sign sign.Comma)) ts.now result }
 {
     let mut names = Items::new(alloc);
     let mut rest = ts;

@@ -24,14 +24,14 @@ fn root<'a>(ts: &'a [Lexeme]) -> Result<(NameAt, &'a [Lexeme]), Fail>
 }
 
 fn step<'a>(ts: &'a [Lexeme]) -> Result<(NameAt, &'a [Lexeme]), Fail>
-    ensures { Reads itself grammar.step Free Always ts.now result }
+    ensures { Reads itself grammar.path_step Free Always ts.now result }
 {
     let (_, rest) = expect_sign(ts, Sign::Dot)?;
     name(rest)
 }
 
 fn steps<'a>(alloc: Global, ts: &'a [Lexeme]) -> Result<(Items<NameAt>, &'a [Lexeme]), Fail>
-    ensures { Reads itself (grammar.each grammar.step) Free (Isnt (tok.Sign sign.Dot)) ts.now result }
+    ensures { Reads itself (grammar.one_by_one grammar.path_step) Free (Isnt (tok.Sign sign.Dot)) ts.now result }
 {
     let mut steps = Items::new(alloc);
     let mut rest = ts;

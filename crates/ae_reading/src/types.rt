@@ -13,7 +13,7 @@ use ae_text::{Keyword, Sign};
 use std::alloc::Global;
 
 fn shared<'a>(ts: &'a [Lexeme]) -> Result<(PermAt, &'a [Lexeme]), Fail>
-    ensures { Reads itself parts.shared Free Always ts.now result }
+    ensures { Reads itself parts.shared_permission Free Always ts.now result }
 {
     let (at, rest) = expect_word(ts, Keyword::Shared)?;
     let (_, rest) = expect_sign(rest, Sign::Less)?;

@@ -1,7 +1,7 @@
 -- A round worked out: two tasks with an edge from the first to the second, one cell, and two seats.
 use Rattle.std.proofs.Common.{◌≡◌, refl, ap, sym, arith, ℕ, zero, suc, true, false, List, [], ◌∷◌, None, Some}
 use Rattle.ae_text.specs.declared.refusal.Edge.{Edge}
-use Rattle.ae_rounds.specs.Rounds.{Round, IsEdge, IsShape, Waiting, Running, Finished, Configuration, first, Event, Begin, Finish, Take, Leave, Needs, Course, changed}
+use Rattle.ae_rounds.specs.Rounds.{Round, IsEdge, IsShape, Waiting, Running, Finished, Configuration, first, RoundEvent, Begin, Finish, Take, Leave, Needs, Course, changed}
 
 -- all tasks may run
 abbrev two : Round
@@ -9,14 +9,14 @@ two = record { tasks = 2; may = λ t. true; edges = record { from = 0; to = 1 } 
 
 -- ---- the events of one run, and where they lead
 
-abbrev after : Configuration → List Event → Configuration
+abbrev after : Configuration → List RoundEvent → Configuration
 after c [] = c
 after c (e ∷ es) = after (changed c e) es
 
-abbrev half : List Event
+abbrev half : List RoundEvent
 half = Begin 0 0 ∷ Take 0 0 ∷ Leave 0 0 ∷ Finish 0 false ∷ []
 
-abbrev whole : List Event
+abbrev whole : List RoundEvent
 whole = Begin 0 0 ∷ Take 0 0 ∷ Leave 0 0 ∷ Finish 0 false ∷ Begin 1 1 ∷ Finish 1 false ∷ []
 
 -- in between, seat 0 runs task 0 and holds the cell

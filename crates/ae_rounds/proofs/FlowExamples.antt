@@ -2,7 +2,8 @@
 use Rattle.std.proofs.Common.{◌≡◌, ◌≤◌, ◌⊎◌, inl, inr, refl, sym, ◌∙◌, subst, arith, ℕ, zero, suc, true, false, List, [], ◌∷◌, None, Some, Contains}
 use Rattle.std.specs.Prelude.{slice_get}
 use Rattle.ae_rounds.specs.Rounds.{IsEdge, MayRun}
-use Rattle.ae_rounds.specs.Flow.{Work, Plan, TaskEnd, Never, Finished, Stopped, Aside, Result, round_of, IsInput, IsEnd, IsOutput, IsGiven, HasAdded, HasDrawn, stamps_in, entries_in, times, GoesOn, Flow}
+use Rattle.ae_rounds.specs.Flow.{Work, Plan, TaskEnd, Never, Finished, Stopped, Aside, Result, round_of, IsInput, IsEnd, IsOutput, IsGiven, HasAdded, HasDrawn, stamps_in, entries_in, GoesOn, Flow}
+use Rattle.ae_text.specs.Numbers.{times}
 
 -- An output is the number of times that the task went to its cell, and it draws the stamps 5, 6 and 7.
 abbrev work : Work ℕ ℕ ℕ ℕ ℕ

@@ -2,7 +2,7 @@
 use Rattle.std.proofs.Common.{◌≡◌, ◌≢◌, ◌<◌, ◌≤◌, ◌⊎◌, inl, inr, refl, sym, ap, ◌∙◌, subst, arith, ℕ, zero, suc, nat_eq, if◌then◌else◌, Bool, true, false, List, [], ◌∷◌, Option, None, Some}
 use Rattle.std.proofs.lemmas.Bool.{cases_eq}
 use Rattle.std.proofs.lemmas.Bool.Decides.{nat_tests}
-use Rattle.ae_rounds.specs.Rounds.{Round, IsShape, IsWay, MayRun, Stage, Waiting, Running, Finished, Aside, Configuration, ArePassed, Event, Begin, Finish, Take, Leave, SetAside, HasHandsFree, Needs, put, released, ended_as, changed, Happens, Course, Lawful, IsSound, IsCalm}
+use Rattle.ae_rounds.specs.Rounds.{Round, IsShape, IsWay, MayRun, Stage, Waiting, Running, Finished, Aside, Configuration, ArePassed, RoundEvent, Begin, Finish, Take, Leave, SetAside, HasHandsFree, Needs, put, released, ended_as, changed, Happens, Course, Lawful, IsSound, IsCalm}
 use Rattle.ae_rounds.specs.Laws.{ChainsRise, EventsKeep, LawfulIsFree, ReachedIsFree, SoundIsCalm, BegunStays, begins, BeginsOnce}
 
 -- ---- functions changed at one number
@@ -233,7 +233,7 @@ leave_keeps r c s k l n =
     idle x e (inl q) = ap (put s None c.holds) q ∙ put_here s None c.holds
     idle x e (inr d) = put_past s x None c.holds d ∙ l.idle_holds_none x e
 
-step_keeps : (r : Round) (c : Configuration) (e : Event) → Lawful r c → Needs r c e → Lawful r (changed c e)
+step_keeps : (r : Round) (c : Configuration) (e : RoundEvent) → Lawful r c → Needs r c e → Lawful r (changed c e)
 step_keeps r c (Begin s t) l n = begin_keeps r c s t l n
 step_keeps r c (Finish s stopped) l n = released_keeps r c s (ended_as stopped) (end_runs_not stopped) l n
 step_keeps r c (Take s k) l n = take_keeps r c s k l n
@@ -273,7 +273,7 @@ lawful_is_free r c l =
 
 -- ---- courses
 
-course_keeps : (r : Round) (c d : Configuration) (es : List Event) → Lawful r c → Course r c es d → Lawful r d
+course_keeps : (r : Round) (c d : Configuration) (es : List RoundEvent) → Lawful r c → Course r c es d → Lawful r d
 course_keeps r c d [] l h = subst (Lawful r) (sym h) l
 course_keeps r c d (e ∷ es) l (m, h, k) = course_keeps r m d es (events_keep r c m e l h) k
 
@@ -328,7 +328,7 @@ end_waits_not false e = cc
 aside_waits_not : Aside ≢ Waiting
 aside_waits_not e = cc
 
-step_begun : (c : Configuration) (e : Event) (u : ℕ) → c.stage u ≢ Waiting → (changed c e).stage u ≢ Waiting
+step_begun : (c : Configuration) (e : RoundEvent) (u : ℕ) → c.stage u ≢ Waiting → (changed c e).stage u ≢ Waiting
 step_begun c (Begin s t) u b = put_begun t u Running c.stage running_is_no_wait b
 step_begun c (Finish s stopped) u b = released_begun c s u (c.runs s) (ended_as stopped) (end_waits_not stopped) b
 step_begun c (Take s k) u b = b
@@ -342,14 +342,14 @@ begun_stays r c d (e ∷ es) t (m, h, k) b =
 
 -- ---- how often a task begins
 
-step_on : (r : Round) (c m : Configuration) (e : Event) (t : ℕ) → Happens r c e m → c.stage t ≢ Waiting → m.stage t ≢ Waiting
+step_on : (r : Round) (c m : Configuration) (e : RoundEvent) (t : ℕ) → Happens r c e m → c.stage t ≢ Waiting → m.stage t ≢ Waiting
 step_on r c m e t h b = subst (λ (n : Configuration). n.stage t ≢ Waiting) (sym h.1) (step_begun c e t b)
 
 none_more : (b : Bool) (n : ℕ) → b ≡ false → n ≡ 0 → (if b then suc n else n) ≡ 0
 none_more true n e z = cc
 none_more false n e z = z
 
-begins_no_more : (r : Round) (c d : Configuration) (es : List Event) (t : ℕ) → Course r c es d → c.stage t ≢ Waiting → begins t es ≡ 0
+begins_no_more : (r : Round) (c d : Configuration) (es : List RoundEvent) (t : ℕ) → Course r c es d → c.stage t ≢ Waiting → begins t es ≡ 0
 begins_no_more r c d [] t h b = refl
 begins_no_more r c d (Begin s u ∷ es) t (m, h, k) b =
     none_more (nat_eq u t) (begins t es) (other u t (λ (q : u ≡ t). b (ap c.stage (sym q) ∙ h.0.2))) (begins_no_more r m d es t k (step_on r c m (Begin s u) t h b))

@@ -2,6 +2,7 @@
 use Rattle.std.specs.Prelude.{◌≡◌, ◌≤◌, ◌<◌, ◌+◌, ◌++◌, ◌↔◌, ◌⊎◌, ℕ, nat_eq, if◌then◌else◌, Bool, true, false, List, [], ◌∷◌, length, map, slice_get, count_by, Contains, Option, None, Some, option_map}
 use Rattle.ae_text.specs.declared.refusal.Edge.{Edge}
 use Rattle.ae_rounds.specs.Rounds.{Round, IsEdge, MayRun}
+use Rattle.ae_text.specs.Numbers.{times}
 
 -- ---- the work of a round
 
@@ -87,14 +88,10 @@ entering n [] t = []
 entering n (e ∷ es) t = if nat_eq e.to t then (n, e.from) ∷ entering (n + 1) es t else entering (n + 1) es t
 
 -- each number is above the one before
-abbrev pub IsRising : List ℕ → Type 0
-IsRising [] = Unit {0}
-IsRising (x ∷ []) = Unit {0}
-IsRising (x ∷ y ∷ xs) = (x < y) × IsRising (y ∷ xs)
-
--- how often the number stands in the list
-abbrev pub times : ℕ → List ℕ → ℕ
-times s xs = count_by (λ x. nat_eq x s) xs
+abbrev pub AreRising : List ℕ → Type 0
+AreRising [] = Unit {0}
+AreRising (x ∷ []) = Unit {0}
+AreRising (x ∷ y ∷ xs) = (x < y) × AreRising (y ∷ xs)
 
 -- ---- what a task was given, and what it added
 
@@ -137,7 +134,7 @@ HasDrawn {I} {C} {O} {B} {E} w p r t s =
 pub record GoesOn {I C O B E : Type 0} (w : Work I C O B E) (p : Plan I E) (r : Result I O B E) (k : ℕ) (old new : List E) : Type 0 where
   pub added : List E
   pub whole : new ≡ old ++ added
-  pub rising : IsRising (map w.stamp added)
+  pub rising : AreRising (map w.stamp added)
   pub exact : (e : E) → Contains added e ↔ ((t : ℕ) × (es : List E) × HasAdded w p r t k es × Contains es e)
   pub once : (t u i j : ℕ) (es fs : List E) (e : E) → HasAdded w p r t k es → HasAdded w p r u k fs → slice_get es i ≡ Some e → slice_get fs j ≡ Some e → (t ≡ u) × (i ≡ j)
 

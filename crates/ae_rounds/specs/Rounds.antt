@@ -59,19 +59,19 @@ ArePassed r c u = (t : ℕ) → IsEdge r t u → c.stage t ≡ Finished
 -- ---- events
 
 -- Of a seat: it begins a task; it ends its task, which went through or stopped; it takes a cell; it leaves a cell; it sets its task aside.
-pub data Event : Type 0 where
-  Begin : (seat : ℕ) → (task : ℕ) → Event
-  Finish : (seat : ℕ) → (stopped : Bool) → Event
-  Take : (seat : ℕ) → (cell : ℕ) → Event
-  Leave : (seat : ℕ) → (cell : ℕ) → Event
-  SetAside : (seat : ℕ) → Event
+pub data RoundEvent : Type 0 where
+  Begin : (seat : ℕ) → (task : ℕ) → RoundEvent
+  Finish : (seat : ℕ) → (stopped : Bool) → RoundEvent
+  Take : (seat : ℕ) → (cell : ℕ) → RoundEvent
+  Leave : (seat : ℕ) → (cell : ℕ) → RoundEvent
+  SetAside : (seat : ℕ) → RoundEvent
 
 -- the seat runs a task and holds no cell
 abbrev pub HasHandsFree : Configuration → ℕ → Type 0
 HasHandsFree c s = ((t : ℕ) × (c.runs s ≡ Some t)) × (c.holds s ≡ None)
 
 -- the event may happen
-abbrev pub Needs : Round → Configuration → Event → Type 0
+abbrev pub Needs : Round → Configuration → RoundEvent → Type 0
 Needs r c (Begin s t) = (c.runs s ≡ None) × MayRun r t × (c.stage t ≡ Waiting) × ArePassed r c t
 Needs r c (Finish s stopped) = HasHandsFree c s
 Needs r c (Take s k) = HasHandsFree c s × (k < r.cells) × (c.held k ≡ false)
@@ -91,7 +91,7 @@ abbrev pub ended_as : Bool → Stage
 ended_as stopped = if stopped then Stopped else Finished
 
 -- what the event makes of a configuration
-abbrev pub changed : Configuration → Event → Configuration
+abbrev pub changed : Configuration → RoundEvent → Configuration
 changed c (Begin s t) = record { stage = put t Running c.stage; held = c.held; runs = put s (Some t) c.runs; holds = c.holds }
 changed c (Finish s stopped) = released c s (c.runs s) (ended_as stopped)
 changed c (Take s k) = record { stage = c.stage; held = put k true c.held; runs = c.runs; holds = put s (Some k) c.holds }
@@ -99,11 +99,11 @@ changed c (Leave s k) = record { stage = c.stage; held = put k false c.held; run
 changed c (SetAside s) = released c s (c.runs s) Aside
 
 -- the event leads from one configuration to the other
-abbrev pub Happens : Round → Configuration → Event → Configuration → Type 0
+abbrev pub Happens : Round → Configuration → RoundEvent → Configuration → Type 0
 Happens r c e d = Needs r c e × (d ≡ changed c e)
 
 -- the events, in turn, lead from one configuration to the other
-abbrev pub Course : Round → Configuration → List Event → Configuration → Type 0
+abbrev pub Course : Round → Configuration → List RoundEvent → Configuration → Type 0
 Course r c [] d = d ≡ c
 Course r c (e ∷ es) d = (m : Configuration) × Happens r c e m × Course r m es d
 

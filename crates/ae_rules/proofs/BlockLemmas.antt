@@ -5,7 +5,7 @@ use Rattle.std.specs.List.{All}
 use Rattle.std.proofs.lemmas.List.{map-append}
 use Rattle.std.proofs.lemmas.List.Elements.{All-append, All-nil, All-cons}
 use Rattle.ae_text.specs.declared.refusal.Spot.{Spot}
-use Rattle.ae_tree.specs.Limits.{count}
+use Rattle.ae_tree.specs.Limits.{statement_count}
 use Rattle.ae_tree.specs.Plain.{Lines, End, Next, Definition, Code}
 use Rattle.ae_tree.specs.Plain.{Action, Declares, Assigns, Stores, StoresAt, Calls, Chooses, ChoosesElse, Repeats, Groups, Splits, Locks, Freezes, Shares, Prints, PrintsText, Asserts, Returns}
 use Rattle.ae_tree.specs.declared.form.Form.TheVariants as f
@@ -21,11 +21,11 @@ use Rattle.ae_rules.specs.BlockLaws.{as_text, IsReached, BlocksAreReached}
 use Rattle.ae_rules.proofs.PathLemmas.{first_holds, JudgedLines, lines_then_end, method_judged}
 
 -- each statement of judged lines has a context before it
-all_contexts : (p : Code) (m : Definition) (b : Lines) (c d : Context) → judge_lines p m b c ≡ Holds d → length (contexts p m b c) ≡ count b
+all_contexts : (p : Code) (m : Definition) (b : Lines) (c d : Context) → judge_lines p m b c ≡ Holds d → length (contexts p m b c) ≡ statement_count b
 all_contexts p m End c d h = refl
 all_contexts p m (Next at a rest) c d h =
     let r = first_holds (judge_statement p m at a c) (judge_lines p m rest) d h in
-    let later : length (judged (judge_statement p m at a c) [] (contexts p m rest)) ≡ count rest = ap (λ v. length (judged v [] (contexts p m rest))) r.1 ∙ all_contexts p m rest r.0 d r.2 in
+    let later : length (judged (judge_statement p m at a c) [] (contexts p m rest)) ≡ statement_count rest = ap (λ v. length (judged v [] (contexts p m rest))) r.1 ∙ all_contexts p m rest r.0 d r.2 in
     omega (arith, later)
 
 -- these blocks are those of the text, and are reached

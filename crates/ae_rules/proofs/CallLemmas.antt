@@ -8,7 +8,7 @@ use Rattle.ae_rules.specs.declared.held.Held.TheVariants as held
 use Rattle.ae_rules.specs.Verdict.{given}
 use Rattle.ae_rules.specs.Shares.{Share, splits, joins}
 use Rattle.ae_rules.specs.Context.{Local, Context, held_in, with_held}
-use Rattle.ae_rules.specs.Calls.{Part, given_back, after_call}
+use Rattle.ae_rules.specs.Calls.{LentPart, given_back, after_call}
 use Rattle.ae_rules.specs.Laws.{none_away, CallsGiveBack, none_of, GivenAwayIsGone}
 use Rattle.ae_rules.proofs.LawLemmas.{taken_is_given_back}
 
@@ -72,48 +72,48 @@ stays true true e h = cc
 stays true false e h = refl
 stays false away e h = absurd (cc)
 
-given_back_elsewhere : (x : Part) (share : Share) (d : Context) (y : ℕ) → nat_eq x.root y ≡ false → (given_back x share d).local y ≡ d.local y
+given_back_elsewhere : (x : LentPart) (share : Share) (d : Context) (y : ℕ) → nat_eq x.root y ≡ false → (given_back x share d).local y ≡ d.local y
 given_back_elsewhere x share d y e = by_away x.away
   where
     by_away : (b : Bool) → (if b then d else joined share x.root d).local y ≡ d.local y
     by_away true = refl
     by_away false = joined_elsewhere (joins (held_in d x.root) share.0) x.root y d e
 
-given_back_here : (x : Part) (share : Share) (d : Context) → x.away ≡ false → given_back x share d ≡ joined share x.root d
+given_back_here : (x : LentPart) (share : Share) (d : Context) → x.away ≡ false → given_back x share d ≡ joined share x.root d
 given_back_here x share d e = passed x.away d (joined share x.root d) e
 
 -- ---- calls
 
-abbrev Restores : List Part → ℕ → Type 0
+abbrev Restores : List LentPart → ℕ → Type 0
 Restores xs y = (c : Context) → (after_call xs c).local y ≡ c.local y
 
-abbrev taken_back : Part → List Part → Share → Context → Context
+abbrev taken_back : LentPart → List LentPart → Share → Context → Context
 taken_back x xs share c = given_back x share (after_call xs (with_held x.root share.1 c))
 
-back_elsewhere : (x : Part) (xs : List Part) (share : Share) (c : Context) (y : ℕ) → Restores xs y → nat_eq x.root y ≡ false → (taken_back x xs share c).local y ≡ c.local y
+back_elsewhere : (x : LentPart) (xs : List LentPart) (share : Share) (c : Context) (y : ℕ) → Restores xs y → nat_eq x.root y ≡ false → (taken_back x xs share c).local y ≡ c.local y
 back_elsewhere x xs share c y ih e =
     let c' : Context = with_held x.root share.1 c in
     given_back_elsewhere x share (after_call xs c') y e ∙ ih c' ∙ held_elsewhere x.root y share.1 c e
 
-back_here : (x : Part) (xs : List Part) (share : Share) (c : Context) → Restores xs x.root → x.away ≡ false → splits (held_in c x.root) x.need ≡ Some share → (taken_back x xs share c).local x.root ≡ c.local x.root
+back_here : (x : LentPart) (xs : List LentPart) (share : Share) (c : Context) → Restores xs x.root → x.away ≡ false → splits (held_in c x.root) x.need ≡ Some share → (taken_back x xs share c).local x.root ≡ c.local x.root
 back_here x xs share c ih a e =
     let c' : Context = with_held x.root share.1 c in
     let d : Context = after_call xs c' in
     ap (λ (z : Context). z.local x.root) (given_back_here x share d a)
     ∙ restored x.need share x.root d (c.local x.root) e (ih c' ∙ held_at x.root share.1 c)
 
-back_at : (x : Part) (xs : List Part) (share : Share) (c : Context) (y : ℕ) (b : Bool) → nat_eq x.root y ≡ b → not (b && x.away) ≡ true → Restores xs y → splits (held_in c x.root) x.need ≡ Some share → (taken_back x xs share c).local y ≡ c.local y
+back_at : (x : LentPart) (xs : List LentPart) (share : Share) (c : Context) (y : ℕ) (b : Bool) → nat_eq x.root y ≡ b → not (b && x.away) ≡ true → Restores xs y → splits (held_in c x.root) x.need ≡ Some share → (taken_back x xs share c).local y ≡ c.local y
 back_at x xs share c y false n a ih e = back_elsewhere x xs share c y ih n
 back_at x xs share c y true n a ih e =
     let r : x.root ≡ y = eqb-true x.root y n in
     subst (λ z. Restores xs z → (taken_back x xs share c).local z ≡ c.local z) r (λ i. back_here x xs share c i (stays true x.away a refl) e) ih
 
-one_back : (x : Part) (xs : List Part) (c : Context) (y : ℕ) → not (nat_eq x.root y && x.away) ≡ true → Restores xs y → (o : Option Share) → splits (held_in c x.root) x.need ≡ o
+one_back : (x : LentPart) (xs : List LentPart) (c : Context) (y : ℕ) → not (nat_eq x.root y && x.away) ≡ true → Restores xs y → (o : Option Share) → splits (held_in c x.root) x.need ≡ o
     → (given o (after_call xs c) (λ share. taken_back x xs share c)).local y ≡ c.local y
 one_back x xs c y a ih None e = ih c
 one_back x xs c y a ih (Some share) e = back_at x xs share c y (nat_eq x.root y) refl a ih e
 
-restores : (xs : List Part) (y : ℕ) → none_away xs y ≡ true → Restores xs y
+restores : (xs : List LentPart) (y : ℕ) → none_away xs y ≡ true → Restores xs y
 restores [] y a c = refl
 restores (x ∷ xs) y a c =
     one_back x xs c y (and_left _ _ a) (restores xs y (and_right _ _ a)) (splits (held_in c x.root) x.need) refl
@@ -131,7 +131,7 @@ held_then_none None = refl
 held_then_none (Some l) = refl
 
 -- a part of another local changes nothing of what is held here
-gone_elsewhere : (x : Part) (xs : List Part) (r : ℕ) {h : Held} → nat_eq x.root r ≡ false → ((c : Context) → held_in c r ≡ h → held_in (after_call xs c) r ≡ held.None)
+gone_elsewhere : (x : LentPart) (xs : List LentPart) (r : ℕ) {h : Held} → nat_eq x.root r ≡ false → ((c : Context) → held_in c r ≡ h → held_in (after_call xs c) r ≡ held.None)
     → (c : Context) → held_in c r ≡ h → (o : Option Share) → held_in (given o (after_call xs c) (λ share. taken_back x xs share c)) r ≡ held.None
 gone_elsewhere x xs r e ih c k None = ih c k
 gone_elsewhere x xs r e ih c k (Some share) =
@@ -139,21 +139,21 @@ gone_elsewhere x xs r e ih c k (Some share) =
     held_as (taken_back x xs share c) (after_call xs c') r (given_back_elsewhere x share (after_call xs c') r e)
     ∙ ih c' (held_as c' c r (held_elsewhere x.root r share.1 c e) ∙ k)
 
-untaken : (x : Part) (xs : List Part) (c : Context) → held_in c x.root ≡ held.None → after_call (x ∷ xs) c ≡ after_call xs c
+untaken : (x : LentPart) (xs : List LentPart) (c : Context) → held_in c x.root ≡ held.None → after_call (x ∷ xs) c ≡ after_call xs c
 untaken x xs c k = ap (λ h. given (splits h x.need) (after_call xs c) (λ share. taken_back x xs share c)) k
 
-nothing_at : (x : Part) (xs : List Part) (r : ℕ) (b : Bool) → nat_eq x.root r ≡ b → ((c : Context) → held_in c r ≡ held.None → held_in (after_call xs c) r ≡ held.None)
+nothing_at : (x : LentPart) (xs : List LentPart) (r : ℕ) (b : Bool) → nat_eq x.root r ≡ b → ((c : Context) → held_in c r ≡ held.None → held_in (after_call xs c) r ≡ held.None)
     → (c : Context) → held_in c r ≡ held.None → held_in (after_call (x ∷ xs) c) r ≡ held.None
 nothing_at x xs r false e ih c k = gone_elsewhere x xs r e ih c k (splits (held_in c x.root) x.need)
 nothing_at x xs r true e ih c k =
     let i : x.root ≡ r = eqb-true x.root r e in
     ap (λ (z : Context). held_in z r) (untaken x xs c (ap (λ y. held_in c y) i ∙ k)) ∙ ih c k
 
-nothing_stays : (xs : List Part) (r : ℕ) (c : Context) → held_in c r ≡ held.None → held_in (after_call xs c) r ≡ held.None
+nothing_stays : (xs : List LentPart) (r : ℕ) (c : Context) → held_in c r ≡ held.None → held_in (after_call xs c) r ≡ held.None
 nothing_stays [] r c k = k
 nothing_stays (x ∷ xs) r c k = nothing_at x xs r (nat_eq x.root r) refl (nothing_stays xs r) c k
 
-away_first : (x : Part) (ys : List Part) (c : Context) → x.need ≡ need.Unique → x.away ≡ true → held_in c x.root ≡ held.Unique → held_in (after_call (x ∷ ys) c) x.root ≡ held.None
+away_first : (x : LentPart) (ys : List LentPart) (c : Context) → x.need ≡ need.Unique → x.away ≡ true → held_in c x.root ≡ held.Unique → held_in (after_call (x ∷ ys) c) x.root ≡ held.None
 away_first x ys c n a k =
     let r : ℕ = x.root in
     let share : Share = (held.Unique, held.None) in
@@ -169,7 +169,7 @@ not_true true e = cc
 not_true false e = refl
 
 -- parts of other locals come before it
-gone_after : (xs ys : List Part) (x : Part) → none_of xs x.root ≡ true → x.need ≡ need.Unique → x.away ≡ true
+gone_after : (xs ys : List LentPart) (x : LentPart) → none_of xs x.root ≡ true → x.need ≡ need.Unique → x.away ≡ true
     → (c : Context) → held_in c x.root ≡ held.Unique → held_in (after_call (xs ++ x ∷ ys) c) x.root ≡ held.None
 gone_after [] ys x e n a c k = away_first x ys c n a k
 gone_after (w ∷ xs) ys x e n a c k =

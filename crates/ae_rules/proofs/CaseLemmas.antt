@@ -17,7 +17,7 @@ use Rattle.ae_tree.specs.Grammar.{level, Declaration, OfClass, OfMethod, classes
 use Rattle.ae_tree.specs.Plain.{Expression, Number, Truth, Nothing, Read, Item, Length, Grouped, Negated, Minus, Binary, RightSide, Value, Taken, Zeros, Made, Returned, Lines, End, Next, Definition, Code}
 use Rattle.ae_tree.specs.Plain.{Action, Declares, Assigns, Stores, StoresAt, Calls, Chooses, ChoosesElse, Repeats, Groups, Splits, Locks, Freezes, Shares, Prints, PrintsText, Asserts, Returns}
 use Rattle.ae_tree.specs.Built.{IsBuiltExpression, IsBuiltRight, IsBuiltAction, AreBuilt, IsMain, Built}
-use Rattle.ae_tree.specs.Judgement.{Scope, nobody, and_also, then_judge, visible, free, judge_expression, judge_right as judge_right_small, judge_action, judge, judge_methods, IsHeld}
+use Rattle.ae_tree.specs.Judgement.{Scope, nobody, visible_also, then_judge, visible, free, judge_expression, today_judge_right as judge_right_small, judge_action, judge, judge_methods, IsHeld}
 use Rattle.ae_tree.specs.Judgement.{Verdict as Small, Holds as Fits, Broken as Fails}
 use Rattle.ae_rules.specs.declared.held.Held.TheVariants as held
 use Rattle.ae_rules.specs.declared.held.GroupPerm.{GroupPerm}
@@ -25,12 +25,12 @@ use Rattle.ae_rules.specs.declared.held.GroupPerm.TheVariants as group
 use Rattle.ae_rules.specs.Verdict.{Verdict, Holds, Broken, ◌>>=◌, ◌>>◌, fine, require, found, in_turn, given}
 use Rattle.ae_rules.specs.Forms.{is_object}
 use Rattle.ae_rules.specs.Groups.{same_group_perm, known}
-use Rattle.ae_rules.specs.Context.{Local, Context, held_of, is_visible, with_local, with_held, moved, closed}
+use Rattle.ae_rules.specs.Context.{Local, Context, held_of, is_visible, with_local, with_held, with_name_moved, closed}
 use Rattle.ae_rules.specs.Walks.{step}
-use Rattle.ae_rules.specs.Expressions.{place, Numbers, operands, result_form, has_form, both_have, judge_operands, judge_value, is_value}
+use Rattle.ae_rules.specs.Expressions.{expression_spot, Numbers, operands, result_form, has_form, both_have, judge_operands, judge_value, is_value}
 use Rattle.ae_rules.specs.Statements.{judge_right, judge_let, judge_assign, prints, groups_stay, end_block, judge_statement, judge_lines}
 use Rattle.ae_rules.specs.Judges.{start, end_method, judge_method, verdict}
-use Rattle.ae_rules.specs.Cases.{DeclaresOne, TodayIsACase, BuiltDeclaresOne}
+use Rattle.ae_rules.specs.Cases.{DeclaresOne, TodaysJudgementIsACase, BuiltDeclaresOne}
 
 -- ---- verdicts of both
 
@@ -161,7 +161,7 @@ binary_agrees p c scope o a b h left right =
     let both : Small = then_judge (judge_expression a scope) (judge_expression b) in
     form_agrees scope both _ (result_form o) kind.1
     (subst (λ k. Agrees (Stays scope) both (judge_operands p c k a b (judge_value p c a) (judge_value p c b))) (sym kind.0)
-    (operands_agree scope _ (judge_expression b) _ _ (place a) (place b) left right))
+    (operands_agree scope _ (judge_expression b) _ _ (expression_spot a) (expression_spot b) left right))
 
 expression_agrees : (p : Code) (c : Context) (scope : Scope) → Alike scope c → (e : Expression) → IsBuiltExpression e
     → Integer scope (judge_expression e scope) (judge_value p c e)
@@ -175,7 +175,7 @@ expression_agrees p c scope k (Length path at) h = absurd h
 expression_agrees p c scope k (Grouped e at) h = expression_agrees p c scope k e h
 expression_agrees p c scope k (Negated e at) h = absurd h
 expression_agrees p c scope k (Minus e at) h =
-    form_agrees scope _ _ f.Int refl (is_int scope _ _ (place e) (expression_agrees p c scope k e h))
+    form_agrees scope _ _ f.Int refl (is_int scope _ _ (expression_spot e) (expression_agrees p c scope k e h))
 expression_agrees p c scope k (Binary o a b) h =
     binary_agrees p c scope o a b h.0 (expression_agrees p c scope k a h.1) (expression_agrees p c scope k b h.2)
 
@@ -193,10 +193,10 @@ Unmoved scope c s d = (s ≡ scope) × (d ≡ c)
 value_agrees : (p : Code) (c : Context) (scope : Scope) → Alike scope c → (e : Expression) → IsBuiltExpression e
     → Agrees (Unmoved scope c) (judge_expression e scope) (judge_right p c f.Int (Value e))
 value_agrees p c scope k e h =
-    let int : Agrees (Stays scope) (judge_expression e scope) (is_value p c f.Int e) = is_int scope _ _ (place e) (expression_agrees p c scope k e h) in
+    let int : Agrees (Stays scope) (judge_expression e scope) (is_value p c f.Int e) = is_int scope _ _ (expression_spot e) (expression_agrees p c scope k e h) in
     let into : Agrees (λ s name. (s ≡ scope) × (name ≡ None)) (judge_expression e scope) (is_value p c f.Int e >> Holds None) =
     whole_then _ _ (λ _. Holds None) int (λ s _ q. holds_both s None (q, refl)) in
-    whole_then _ _ (λ name. Holds (moved name c)) into (λ s name q. holds_both s (moved name c) (q.0, ap (λ n. moved n c) q.1))
+    whole_then _ _ (λ name. Holds (with_name_moved name c)) into (λ s name q. holds_both s (with_name_moved name c) (q.0, ap (λ n. with_name_moved n c) q.1))
 
 right_agrees : (p : Code) (c : Context) (scope : Scope) → Alike scope c → (e : RightSide) → IsBuiltRight e
     → Agrees (Unmoved scope c) (judge_right_small e scope) (judge_right p c f.Int e)
@@ -228,13 +228,13 @@ declared_if : (b r : Bool) (o : Option Local) → o ≡ seen r → (if b then So
 declared_if true r o e = refl
 declared_if false r o e = e
 
-declared_alike : (x : ℕ) (scope : Scope) (c : Context) → Alike scope c → Alike (and_also x scope) (with_local x f.Int c)
+declared_alike : (x : ℕ) (scope : Scope) (c : Context) → Alike scope c → Alike (visible_also x scope) (with_local x f.Int c)
 declared_alike x scope c k = record { locals = λ y. declared_if (nat_eq x y) (scope y) (c.local y) (k.locals y); groups = k.groups; prints = k.prints }
 
 let_agrees : (p : Code) (c : Context) (scope : Scope) → Alike scope c → (at : Spot) (x : NameAt) (e : RightSide) → IsBuiltRight e
     → After (judge_action (Declares (ty.Int at) x e) scope) (judge_let p c (ty.Int at) x e)
 let_agrees p c scope k at x e h =
-    let rest : Scope → Small = λ s. then_judge (judge_right_small e s) (λ t. Fits (and_also x.name t)) in
+    let rest : Scope → Small = λ s. then_judge (judge_right_small e s) (λ t. Fits (visible_also x.name t)) in
     let whole : Verdict Context = judge_right p c f.Int e >>= λ d. Holds (with_local x.name f.Int d) in
     let right : After (rest scope) whole = both_then _ _ _ _ (right_agrees p c scope k e h)
     (λ s d q. holds_both _ _ (declared_alike x.name s d (still_alike scope s c d k q))) in
@@ -405,13 +405,13 @@ judged_alike (Fails rule at) (Holds x) a = absurd a.same
 judged_alike (Fails r at) (Broken s spot) a =
     let r_is : r ≡ s = a.same.0 in
     let at_is : at ≡ spot = a.same.1 in
-    (λ h. absurd h, λ h. absurd (cc), λ rule place e. cc, λ rule place e. cc)
+    (λ h. absurd h, λ h. absurd (cc), λ rule expression_spot e. cc, λ rule expression_spot e. cc)
 
 program_agrees : (p : Code) → Built p → DeclaresOne p → Alone (judge_methods p.methods) (verdict p)
 program_agrees p b d =
     subst (λ q. Alone (judge_methods q.methods) (verdict q)) (sym (is_with_main p b d)) (verdict_agrees p.names b.method.name.at b.is_main.at b.method.body b.body)
 
-pub today_is_a_case : TodayIsACase
+pub today_is_a_case : TodaysJudgementIsACase
 today_is_a_case p b d =
     let same : JudgedAlike (judge_methods p.methods) (verdict p) = judged_alike _ _ (program_agrees p b d) in
     (λ accepted. same.0 accepted.1, λ accepts. (b, same.1 accepts), same.2, same.3)

@@ -17,14 +17,14 @@ use Rattle.ae_tree.specs.Names.{io}
 use Rattle.ae_tree.specs.Plain.{Expression, Number, Truth, Nothing, Read, Item, Length, Grouped, Negated, Minus, Binary, RightSide, Value, Taken, Zeros, Made, Returned, Lines, End, Next, Definition, Code}
 use Rattle.ae_tree.specs.Plain.{Action, Declares, Assigns, Stores, StoresAt, Calls, Chooses, ChoosesElse, Repeats, Groups, Splits, Locks, Freezes, Shares, Prints, PrintsText, Asserts, Returns}
 use Rattle.ae_tree.specs.Built.{IsBuiltExpression, IsBuiltRight, IsBuiltAction, AreBuilt, Built}
-use Rattle.ae_tree.specs.Judgement.{Accepted, Scope, nobody, then_judge, judge_right as judge_right_small, judge_action, judge, judge_methods, IsHeld}
+use Rattle.ae_tree.specs.Judgement.{Accepted, Scope, nobody, then_judge, today_judge_right as judge_right_small, judge_action, judge, judge_methods, IsHeld}
 use Rattle.ae_tree.specs.Judgement.{Verdict as Small, Holds as Fits, Broken as Fails}
-use Rattle.ae_rules.specs.BuiltUses.{reads as reads_name, reads_right, read_if, use_of, statement_at, use_at}
+use Rattle.ae_rules.specs.BuiltUses.{reads_local as reads_name, reads_right, read_if, use_of, statement_at, use_at}
 use Rattle.ae_rules.specs.Verdict.{Verdict, Holds, Broken, judged}
 use Rattle.ae_rules.specs.Context.{Local, Context}
 use Rattle.ae_rules.specs.Statements.{judge_statement}
 use Rattle.ae_rules.specs.Judges.{start}
-use Rattle.ae_rules.specs.Uses.{nothing, writes, whole, ◌∪◌, stronger, of_found, steps_use, value_uses, right_uses, statement_uses, contexts, block_uses}
+use Rattle.ae_rules.specs.Uses.{nothing, write_use, whole_group, ◌∪◌, stronger, of_found, steps_use, value_uses, right_uses, statement_uses, contexts, block_uses}
 use Rattle.ae_rules.specs.Blocks.{Scene, scene, scenes_among, scene_numbered, scene_uses}
 use Rattle.ae_rules.specs.Cases.{DeclaresOne, TodaysUsesAreACase}
 use Rattle.ae_rules.proofs.CaseLemmas.{number, seen, Alike, After, action_agrees, main_method, with_main, same_main, is_with_main, starts_alike}
@@ -101,7 +101,7 @@ written_first false b = refl
 
 -- a local is written, and what the right side reads is read
 written_and_read : (x : ℕ) (e : RightSide) (u : Uses) → ((r : Resource) → u r ≡ read_where (reads_right e) r)
-    → (r : Resource) → (writes x ∪ u) r ≡ written_or_read x e r
+    → (r : Resource) → (write_use x ∪ u) r ≡ written_or_read x e r
 written_and_read x e u h (resource.Local y) = ap (stronger (if nat_eq x y then Some mode.Write else None)) (h (resource.Local y)) ∙ written_first (nat_eq x y) (reads_right e y)
 written_and_read x e u h (resource.Group g) = h (resource.Group g)
 
@@ -113,9 +113,9 @@ assign_used : (x : NameAt) (e : RightSide) (r : Resource) → written_or_read x.
 assign_used x e (resource.Local y) = refl
 assign_used x e (resource.Group g) = refl
 
-print_used : (e : Expression) (u : Uses) → ((r : Resource) → u r ≡ read_where (reads_name e) r) → (r : Resource) → (u ∪ whole io) r ≡ use_of (Prints e) r
+print_used : (e : Expression) (u : Uses) → ((r : Resource) → u r ≡ read_where (reads_name e) r) → (r : Resource) → (u ∪ whole_group io) r ≡ use_of (Prints e) r
 print_used e u h (resource.Local y) = ap (λ o. stronger o None) (h (resource.Local y)) ∙ read_alone (reads_name e y)
-print_used e u h (resource.Group g) = ap (λ o. stronger o (whole io (resource.Group g))) (h (resource.Group g))
+print_used e u h (resource.Group g) = ap (λ o. stronger o (whole_group io (resource.Group g))) (h (resource.Group g))
 
 -- an assigned name is visible
 seen_held : (b : Bool) (at : Spot) (scope : Scope) (next : Scope → Small) → IsHeld (then_judge (if b then Fits scope else Fails rule.UnknownName at) next) → b ≡ true

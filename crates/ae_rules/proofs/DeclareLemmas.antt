@@ -19,7 +19,7 @@ use Rattle.ae_rules.specs.Groups.{known, declare}
 use Rattle.ae_rules.specs.Lookups.{has_name, class_called}
 use Rattle.ae_rules.specs.Into.{name_into}
 use Rattle.ae_rules.specs.Calls.{Callee}
-use Rattle.ae_rules.specs.Context.{Local, Context, is_visible, held_of, with_held, moved, closed}
+use Rattle.ae_rules.specs.Context.{Local, Context, is_visible, held_of, with_held, with_name_moved, closed}
 use Rattle.ae_rules.specs.Statements.{judge_right, judge_let, judge_group, while_split, while_locked, judge_statement, judge_lines}
 use Rattle.ae_rules.specs.Effects.{all_moved, callee_for, form_at, call_effect, right_effect, effect, lines_effect}
 use Rattle.ae_rules.specs.BlockLaws.{Shape, shape_of, with_let, with_lets, group_in_line, groups_in_lines, LinesDeclare}
@@ -48,7 +48,7 @@ mapped_if false g o e = e
 held_more : (x : ℕ) (h : Held) (c : Context) → NoMore c (with_held x h c)
 held_more x h c = record { local = λ y e. mapped_if (nat_eq x y) (λ (l : Local). record l { held = h }) (c.local y) e; group = refl }
 
-moved_more : (o : Option ℕ) (c : Context) → NoMore c (moved o c)
+moved_more : (o : Option ℕ) (c : Context) → NoMore c (with_name_moved o c)
 moved_more None c = itself c
 moved_more (Some x) c = held_more x held.None c
 

@@ -22,12 +22,12 @@ use Rattle.ae_rules.specs.Forms.{is_object, is_ints}
 use Rattle.ae_rules.specs.Lookups.{has_name, class_called, field_form, field_of}
 use Rattle.ae_rules.specs.Types.{forms_type, groups_fit, is_group}
 use Rattle.ae_rules.specs.Groups.{Groups as GroupsKnown}
-use Rattle.ae_rules.specs.Groups.{known, wanted, needs_met, group_access, with_group, declare, may_split_all, may_lock}
-use Rattle.ae_rules.specs.Context.{Local, Context, is_visible, held_of, with_local, with_held, moved, closed, hold_alike, access}
+use Rattle.ae_rules.specs.Groups.{known, wanted_need, needs_met, group_access, with_group, declare, may_split_all, may_lock}
+use Rattle.ae_rules.specs.Context.{Local, Context, is_visible, held_of, with_local, with_held, with_name_moved, closed, hold_alike, access}
 use Rattle.ae_rules.specs.Walks.{Place, step, walk, write_access, owner_write_access}
-use Rattle.ae_rules.specs.Expressions.{place, judge_value, is_value}
+use Rattle.ae_rules.specs.Expressions.{expression_spot, judge_value, is_value}
 use Rattle.ae_rules.specs.Into.{name_into, into, made_into, unique_of}
-use Rattle.ae_rules.specs.Calls.{Filled, Outcome, no_roots, apart, fills, judge_new, Callee, callee_of, top_callee, judge_callee, judge_call, Called, Slot, group_in, slots, givens, to_slot}
+use Rattle.ae_rules.specs.Calls.{Filled, MadeValue, no_roots, apart, fills, judge_new, Callee, callee_of, top_callee, judge_callee, judge_call, Called, ParamSlot, group_in, slots, givens, to_slot}
 use Rattle.ae_rules.specs.Statements.{judge_take, result_into, judge_right, judge_let, judge_assign, is_moved, judge_store, judge_store_at, judge_group, holds_alone, judge_share, prints, judge_return, groups_stay, end_block, while_split, while_locked, judge_statement, judge_lines}
 use Rattle.ae_rules.specs.Effects.{all_moved, form_along, form_at, callee_for, gone_name, call_effect, made_effect, right_effect, assign_effect, store_effect, return_effect, effect, lines_effect}
 use Rattle.ae_rules.specs.BlockLaws.{EffectsAreExact}
@@ -87,9 +87,9 @@ call_is p c i =
     next (judge_callee p c i.on i.method) λ (m : Callee) e.
     next (groups_fit (known c.group) (length m.method.groups) i.method.at i.groups) λ _ _.
     asks (nat_eq (length i.args) (length m.method.params)) _ _ λ _.
-    let pairs : List (Slot × Expression) = zip (slots p (group_in m i.groups) m.method) (givens i) in
+    let pairs : List (ParamSlot × Expression) = zip (slots p (group_in m i.groups) m.method) (givens i) in
     next (in_turn (to_slot p c) pairs no_roots) λ roots h.
-    next (needs_met c.group i.method.at (map (wanted (group_in m i.groups)) m.method.needs)) λ _ _.
+    next (needs_met c.group i.method.at (map (wanted_need (group_in m i.groups)) m.method.needs)) λ _ _.
     gives (call_takes p c pairs roots h
     ∙ sym (ap (λ (o : Option Callee). given o c (λ (k : Callee). all_moved (filter_map gone_name (zip (slots p (group_in k i.groups) k.method) (givens i))) c)) ((callee_is p c i.on i.method).value m e)))
 
@@ -102,18 +102,18 @@ twice true true (Some l) = refl
 twice true false o = refl
 twice false b o = refl
 
-moved_first : (o : Option ℕ) (xs : List ℕ) (c : Context) → all_moved xs (moved o c) ≡ all_moved (cons_option o xs) c
+moved_first : (o : Option ℕ) (xs : List ℕ) (c : Context) → all_moved xs (with_name_moved o c) ≡ all_moved (cons_option o xs) c
 moved_first None xs c = refl
 moved_first (Some x) xs c = same_context _ _ (λ y. twice (nat_eq x y) (has_name xs y) (c.local y)) refl
 
 abbrev field_moves : Form × Expression → Option ℕ
 field_moves y = name_into y.0 y.1
 
-fill_is : (p : Code) (c : Context) (x : Form × Expression) (s : Filled) → Yields (λ (d : Filled). d.after ≡ moved (field_moves x) s.after) (fills p c x s)
+fill_is : (p : Code) (c : Context) (x : Form × Expression) (s : Filled) → Yields (λ (d : Filled). d.after ≡ with_name_moved (field_moves x) s.after) (fills p c x s)
 fill_is p c x s =
     next (apart x.0 x.1 s.roots) λ _ _.
     next (into p c x.0 x.1) λ name e.
-    gives (ap (λ o. moved o s.after) (moves_by_its_text p c x.0 x.1 name e))
+    gives (ap (λ o. with_name_moved o s.after) (moves_by_its_text p c x.0 x.1 name e))
 
 fills_are : (p : Code) (c : Context) (xs : List (Form × Expression)) (s : Filled) → Yields (λ (d : Filled). d.after ≡ all_moved (filter_map field_moves xs) s.after) (in_turn (fills p c) xs s)
 fills_are p c [] s = gives refl
@@ -123,7 +123,7 @@ fills_are p c (x ∷ xs) s =
       value = λ d h. (fills_are p c xs t).value d h ∙ ap (all_moved (filter_map field_moves xs)) ((fill_is p c x s).value t e) ∙ moved_first (field_moves x) (filter_map field_moves xs) s.after;
     }
 
-new_is : (p : Code) (c : Context) (x : NameAt) (gs : List NameAt) (args : List Expression) → Yields (λ (d : Outcome). d.after ≡ made_effect p c x gs args) (judge_new p c x gs args)
+new_is : (p : Code) (c : Context) (x : NameAt) (gs : List NameAt) (args : List Expression) → Yields (λ (d : MadeValue). d.after ≡ made_effect p c x gs args) (judge_new p c x gs args)
 new_is p c x gs args =
     next (found (class_called p x.name) rule.UnknownClass x.at) λ (k : Class) e.
     next (groups_fit (known c.group) (length k.groups) x.at gs) λ _ _.
@@ -135,7 +135,7 @@ new_is p c x gs args =
     ∙ sym (ap (λ (o : Option Class). given o c (λ (z : Class). all_moved (filter_map field_moves (zip (map (field_form z (bare_names gs)) z.fields) args)) c)) (found_is (class_called p x.name) rule.UnknownClass x.at k e)))
 
 pub right_is : (p : Code) (c : Context) (target : Form) (e : RightSide) → Yields (λ d. d ≡ right_effect p c target e) (judge_right p c target e)
-right_is p c target (Value e) = next (into p c target e) λ name h. gives (ap (λ o. moved o c) (moves_by_its_text p c target e name h))
+right_is p c target (Value e) = next (into p c target e) λ name h. gives (ap (λ o. with_name_moved o c) (moves_by_its_text p c target e name h))
 right_is p c target (Taken path at) =
     next (judge_take p c path at) λ value _.
     next (made_into value target at) λ _ _.
@@ -176,8 +176,8 @@ store_is p c path e at =
     next (owner_write_access p c path) λ _ _.
     next (into p c w.form e) λ name h.
     asks (not (is_moved name path.root.name)) _ _ λ _.
-    gives (ap (λ o. moved o c) (moves_by_its_text p c w.form e name h)
-    ∙ sym (ap (λ (o : Option Form). given o c (λ (t : Form). moved (name_into t e) c)) ((walk_form p c path).value w q)))
+    gives (ap (λ o. with_name_moved o c) (moves_by_its_text p c w.form e name h)
+    ∙ sym (ap (λ (o : Option Form). given o c (λ (t : Form). with_name_moved (name_into t e) c)) ((walk_form p c path).value w q)))
 
 store_at_is : (p : Code) (c : Context) (path : Path) (i e : Expression) → Yields (λ d. d ≡ c) (judge_store_at p c path i e)
 store_at_is p c path i e =
@@ -208,8 +208,8 @@ return_is : (p : Code) (m : Definition) (c : Context) (e : Expression) (at : Spo
 return_is p m c e at =
     next (found m.result rule.TypeMismatch at) λ (t : Ty) q.
     next (into p c (form t) e) λ name h.
-    gives (ap (λ o. moved o c) (moves_by_its_text p c (form t) e name h)
-    ∙ sym (ap (λ (o : Option Ty). given o c (λ (z : Ty). moved (name_into (form z) e) c)) (found_is m.result rule.TypeMismatch at t q)))
+    gives (ap (λ o. with_name_moved o c) (moves_by_its_text p c (form t) e name h)
+    ∙ sym (ap (λ (o : Option Ty). given o c (λ (z : Ty). with_name_moved (name_into (form z) e) c)) (found_is m.result rule.TypeMismatch at t q)))
 
 -- ---- blocks
 
@@ -224,7 +224,7 @@ mutual
   effect_is : (p : Code) (m : Definition) (at : Spot) (a : Action) (c : Context) → Yields (λ d. d ≡ effect p m a c) (judge_statement p m at a c)
   effect_is p m at (Declares t x e) c = let_is p c t x e
   effect_is p m at (Assigns x e) c = assign_is p c x e
-  effect_is p m at (Stores path e) c = store_is p c path e (place e)
+  effect_is p m at (Stores path e) c = store_is p c path e (expression_spot e)
   effect_is p m at (StoresAt path i e) c = store_at_is p c path i e
   effect_is p m at (Calls i) c = next (judge_call p c i) λ d e. gives ((call_is p c i).value d e)
   effect_is p m at (Chooses e n b) c =

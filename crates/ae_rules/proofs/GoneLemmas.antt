@@ -18,13 +18,13 @@ use Rattle.ae_rules.specs.declared.held.Held.{Held}
 use Rattle.ae_rules.specs.declared.held.Held.TheVariants as held
 use Rattle.ae_rules.specs.Verdict.{Holds, ◌>>=◌, found, in_turn, given}
 use Rattle.ae_rules.specs.Shares.{Share, splits, joins}
-use Rattle.ae_rules.specs.Forms.{same_perm, is_of_kind, is_unique}
+use Rattle.ae_rules.specs.Forms.{same_perm, is_object_of, is_unique}
 use Rattle.ae_rules.specs.Lookups.{has_name, is_empty}
 use Rattle.ae_rules.specs.Context.{Local, Context, same_held, held_in, with_held}
 use Rattle.ae_rules.specs.Walks.{Place, walk, step, is_name}
-use Rattle.ae_rules.specs.Expressions.{place, is_value}
+use Rattle.ae_rules.specs.Expressions.{expression_spot, is_value}
 use Rattle.ae_rules.specs.Into.{Source, Null, From, source, moves, source_moves, name_into}
-use Rattle.ae_rules.specs.Calls.{Roots, no_roots, with_root, meets, root_apart, Slot, to_unique, to_param, path_to_param, source_to_param, to_form, to_slot, Part, is_part, part_of, parts, given_back, after_call}
+use Rattle.ae_rules.specs.Calls.{Roots, no_roots, with_root, meets, root_apart, ParamSlot, to_unique, to_param, path_to_param, source_to_param, to_form, to_slot, LentPart, is_part, lent_part_of, argument_parts, given_back, after_call}
 use Rattle.ae_rules.specs.Laws.{none_of, none_away}
 use Rattle.ae_rules.specs.Effects.{all_moved, gone_name}
 use Rattle.ae_rules.proofs.VerdictLemmas.{Yields, gives, next, asks, always}
@@ -39,25 +39,25 @@ same_context c d h k = λ i. record { local = fun_ext h i; group = k i }
 -- ---- one argument
 
 -- this is no part of that local
-abbrev none_at : Option Part → ℕ → Bool
-none_at o y = given o true (λ (x : Part). not (nat_eq x.root y))
+abbrev none_at : Option LentPart → ℕ → Bool
+none_at o y = given o true (λ (x : LentPart). not (nat_eq x.root y))
 
-abbrev gone_part : ℕ → Part
+abbrev gone_part : ℕ → LentPart
 gone_part y = record { root = y; need = perm.Unique; away = true }
 
 -- what a judged argument says of the roots, and of the name that it gives for good
 record Given (c : Context) (t : Form) (away : Bool) (o : Option Source) (name : Option ℕ) (before after : Roots) : Type 0 where
-  used : (y : ℕ) → after.used y ≡ false → (before.used y ≡ false) × (none_at (part_of c t away o) y ≡ true)
-  gone : (n : ℕ) → (if away then name else None) ≡ Some n → (before.used n ≡ false) × (part_of c t away o ≡ Some (gone_part n)) × (held_in c n ≡ held.Unique)
+  used : (y : ℕ) → after.used y ≡ false → (before.used y ≡ false) × (none_at (lent_part_of c t away o) y ≡ true)
+  gone : (n : ℕ) → (if away then name else None) ≡ Some n → (before.used n ≡ false) × (lent_part_of c t away o ≡ Some (gone_part n)) × (held_in c n ≡ held.Unique)
 
 no_name : (b : Bool) (o : Option ℕ) (n : ℕ) → o ≡ None → (if b then o else None) ≡ Some n → ⊥
 no_name true o n e h = cc
 no_name false o n e h = cc
 
 -- an argument without a root
-no_root : (c : Context) (t : Form) (away : Bool) (o : Option Source) (name : Option ℕ) (r : Roots) → part_of c t away o ≡ None → name ≡ None → Given c t away o name r r
+no_root : (c : Context) (t : Form) (away : Bool) (o : Option Source) (name : Option ℕ) (r : Roots) → lent_part_of c t away o ≡ None → name ≡ None → Given c t away o name r r
 no_root c t away o name r e k = record {
-  used = λ y h. (h, ap (λ (x : Option Part). none_at x y) e);
+  used = λ y h. (h, ap (λ (x : Option LentPart). none_at x y) e);
   gone = λ n h. absurd (no_name away name n k h);
 }
 
@@ -69,7 +69,7 @@ or_right : (a b : Bool) → (a || b) ≡ false → b ≡ false
 or_right true b e = absurd (cc)
 or_right false b e = e
 
-no_part_if : (b : Bool) (x : Part) (y : ℕ) → nat_eq x.root y ≡ false → none_at (if b then Some x else None) y ≡ true
+no_part_if : (b : Bool) (x : LentPart) (y : ℕ) → nat_eq x.root y ≡ false → none_at (if b then Some x else None) y ≡ true
 no_part_if true x y e = ap not e
 no_part_if false x y e = refl
 
@@ -115,12 +115,12 @@ no_number = None
 path_gone : (p : Code) (c : Context) (q : Perm) (k : Kind) (away : Bool) (path : Path) (r : Roots) (w : Place) (t : ⊤) (at : Spot)
     → walk p c path ≡ Holds w → meets (is_unique (f.Object q k)) path.root.name r ≡ false → to_param q away (is_name path) w.held at ≡ Holds t
     → (n : ℕ) → (if away then moves q path else None) ≡ Some n
-    → (r.used n ≡ false) × (part_of c (f.Object q k) away (Some (From path)) ≡ Some (gone_part n)) × (held_in c n ≡ held.Unique)
+    → (r.used n ≡ false) × (lent_part_of c (f.Object q k) away (Some (From path)) ≡ Some (gone_part n)) × (held_in c n ≡ held.Unique)
 path_gone p c perm.Unique k true path r w t at e m h n i =
     let g = (gone_held (is_name path) w.held at).value t h in
     let u : held_in c path.root.name ≡ held.Unique = (name_held p c path g.0).value w e ∙ g.1 in
     let s : path.root.name ≡ n = some_name path.root.name n i in
-    subst (λ (x : ℕ). (r.used x ≡ false) × (part_of c (f.Object perm.Unique k) true (Some (From path)) ≡ Some (gone_part x)) × (held_in c x ≡ held.Unique)) s
+    subst (λ (x : ℕ). (r.used x ≡ false) × (lent_part_of c (f.Object perm.Unique k) true (Some (From path)) ≡ Some (gone_part x)) × (held_in c x ≡ held.Unique)) s
     (or_right (r.alone path.root.name) (r.used path.root.name) m, part_is_gone (held_in c path.root.name) path.root.name u, u)
 path_gone p c perm.Immutable k away path r w t at e m h n i = absurd (no_name away no_number n refl i)
 path_gone p c perm.Lent k away path r w t at e m h n i = absurd (no_name away no_number n refl i)
@@ -134,7 +134,7 @@ path_given : (p : Code) (c : Context) (q : Perm) (k : Kind) (away : Bool) (path 
     → Yields (Given c (f.Object q k) away (Some (From path)) (moves q path) r) (path_to_param p c q k away path at r)
 path_given p c q k away path at r =
     next (walk p c path) λ w e.
-    asks (is_of_kind k w.form) _ _ λ _.
+    asks (is_object_of k w.form) _ _ λ _.
     next (root_apart (is_unique (f.Object q k)) path at r) λ s h.
     next (to_param q away (is_name path) w.held at) λ t i.
     let g = (root_given (is_unique (f.Object q k)) path at r).value s h in
@@ -157,14 +157,14 @@ object_given p c q k away (Some s) at r = source_given p c q k away s at r
 form_given : (p : Code) (c : Context) (t : Form) (away : Bool) (e : Expression) (r : Roots) → Yields (Given c t away (source e) (name_into t e) r) (to_form p c t away e r)
 form_given p c f.Int away e r = next (is_value p c f.Int e) λ _ _. gives (no_root c f.Int away (source e) None r refl refl)
 form_given p c f.Bool away e r = next (is_value p c f.Bool e) λ _ _. gives (no_root c f.Bool away (source e) None r refl refl)
-form_given p c (f.Object q k) away e r = object_given p c q k away (source e) (place e) r
+form_given p c (f.Object q k) away e r = object_given p c q k away (source e) (expression_spot e) r
 
 -- ---- all arguments
 
 -- a part that takes this local for good, and no part of it before
-record GoneAt (c : Context) (ps : List Part) (y : ℕ) : Type 0 where
-  before : List Part
-  after : List Part
+record GoneAt (c : Context) (ps : List LentPart) (y : ℕ) : Type 0 where
+  before : List LentPart
+  after : List LentPart
   split : ps ≡ before ++ gone_part y ∷ after
   apart : none_of before y ≡ true
   unique : held_in c y ≡ held.Unique
@@ -173,23 +173,23 @@ both_true : (a b : Bool) → a ≡ true → b ≡ true → (a && b) ≡ true
 both_true true b e h = h
 both_true false b e h = absurd (cc)
 
-gone_later : (c : Context) (o : Option Part) (ps : List Part) (y : ℕ) → none_at o y ≡ true → GoneAt c ps y → GoneAt c (cons_option o ps) y
+gone_later : (c : Context) (o : Option LentPart) (ps : List LentPart) (y : ℕ) → none_at o y ≡ true → GoneAt c ps y → GoneAt c (cons_option o ps) y
 gone_later c None ps y e g = g
 gone_later c (Some x) ps y e g = record {
   before = x ∷ g.before;
   after = g.after;
-  split = ap (λ (zs : List Part). x ∷ zs) g.split;
+  split = ap (λ (zs : List LentPart). x ∷ zs) g.split;
   apart = both_true (not (nat_eq x.root y)) (none_of g.before y) e g.apart;
   unique = g.unique;
 }
 
-abbrev one_part : Context → Slot × Expression → Option Part
-one_part c x = part_of c x.0.form x.0.away (source x.1)
+abbrev one_part : Context → ParamSlot × Expression → Option LentPart
+one_part c x = lent_part_of c x.0.form x.0.away (source x.1)
 
-abbrev IsGone : Context → List (Slot × Expression) → Roots → ℕ → Type 0
-IsGone c xs r y = GoneAt c (parts c xs) y × (r.used y ≡ false)
+abbrev IsGone : Context → List (ParamSlot × Expression) → Roots → ℕ → Type 0
+IsGone c xs r y = GoneAt c (argument_parts c xs) y × (r.used y ≡ false)
 
-find_gone : (p : Code) (c : Context) (xs : List (Slot × Expression)) (r : Roots) (y : ℕ) → has_name (filter_map gone_name xs) y ≡ true
+find_gone : (p : Code) (c : Context) (xs : List (ParamSlot × Expression)) (r : Roots) (y : ℕ) → has_name (filter_map gone_name xs) y ≡ true
     → Yields (λ _. IsGone c xs r y) (in_turn (to_slot p c) xs r)
 find_gone p c [] r y h = absurd (cc)
 find_gone p c (x ∷ xs) r y h =
@@ -199,12 +199,12 @@ find_gone p c (x ∷ xs) r y h =
   where
     later : (s : Roots) → Given c x.0.form x.0.away (source x.1) (name_into x.0.form x.1) r s → Yields (λ _. IsGone c xs s y) (in_turn (to_slot p c) xs s)
         → Yields (λ _. IsGone c (x ∷ xs) r y) (in_turn (to_slot p c) xs s)
-    later s g z = record { value = λ t e. let k = z.value t e in let u = g.used y k.1 in (gone_later c (one_part c x) (parts c xs) y u.1 k.0, u.0) }
+    later s g z = record { value = λ t e. let k = z.value t e in let u = g.used y k.1 in (gone_later c (one_part c x) (argument_parts c xs) y u.1 k.0, u.0) }
 
     here : (s : Roots) → Given c x.0.form x.0.away (source x.1) (name_into x.0.form x.1) r s → (n : ℕ) → gone_name x ≡ Some n → IsGone c (x ∷ xs) r n
     here s g n e =
         let k = g.gone n e in
-        (record { before = []; after = parts c xs; split = ap (λ (o : Option Part). cons_option o (parts c xs)) k.1; apart = refl; unique = k.2 }, k.0)
+        (record { before = []; after = argument_parts c xs; split = ap (λ (o : Option LentPart). cons_option o (argument_parts c xs)) k.1; apart = refl; unique = k.2 }, k.0)
 
     by_name : (s : Roots) → Given c x.0.form x.0.away (source x.1) (name_into x.0.form x.1) r s
         → (has_name (filter_map gone_name xs) y ≡ true → Yields (λ _. IsGone c xs s y) (in_turn (to_slot p c) xs s))
@@ -219,8 +219,8 @@ find_gone p c (x ∷ xs) r y h =
 -- ---- what is not gone
 
 -- this is no part of that local that is gone
-abbrev none_away_at : Option Part → ℕ → Bool
-none_away_at o y = given o true (λ (x : Part). not (nat_eq x.root y && x.away))
+abbrev none_away_at : Option LentPart → ℕ → Bool
+none_away_at o y = given o true (λ (x : LentPart). not (nat_eq x.root y && x.away))
 
 not_named : (o : Option ℕ) (xs : List ℕ) (y : ℕ) → has_name (cons_option o xs) y ≡ false → (given o false (λ n. nat_eq n y) ≡ false) × (has_name xs y ≡ false)
 not_named None xs y e = (refl, e)
@@ -250,27 +250,27 @@ gone_is_named perm.Lent away path y e h k = absurd (cc)
 gone_is_named (perm.Shared g) away path y e h k = absurd (cc)
 
 object_stays : (c : Context) (q : Perm) (k : Kind) (away : Bool) (o : Option Source) (y : ℕ) → given (if away then given o None (source_moves q) else None) false (λ n. nat_eq n y) ≡ false
-    → none_away_at (part_of c (f.Object q k) away o) y ≡ true
+    → none_away_at (lent_part_of c (f.Object q k) away o) y ≡ true
 object_stays c q k away None y e = refl
 object_stays c q k away (Some Null) y e = refl
 object_stays c q k away (Some (From path)) y e =
     stays_if (is_part q && same_held held.Unique (held_in c path.root.name)) away (same_perm perm.Unique q) path.root.name y q (gone_is_named q away path y e)
 
 form_stays : (c : Context) (t : Form) (away : Bool) (e : Expression) (y : ℕ) → given (if away then name_into t e else None) false (λ n. nat_eq n y) ≡ false
-    → none_away_at (part_of c t away (source e)) y ≡ true
+    → none_away_at (lent_part_of c t away (source e)) y ≡ true
 form_stays c f.Int away e y h = refl
 form_stays c f.Bool away e y h = refl
 form_stays c (f.Object q k) away e y h = object_stays c q k away (source e) y h
 
-none_away_both : (o : Option Part) (ps : List Part) (y : ℕ) → none_away_at o y ≡ true → none_away ps y ≡ true → none_away (cons_option o ps) y ≡ true
+none_away_both : (o : Option LentPart) (ps : List LentPart) (y : ℕ) → none_away_at o y ≡ true → none_away ps y ≡ true → none_away (cons_option o ps) y ≡ true
 none_away_both None ps y e h = h
 none_away_both (Some x) ps y e h = both_true (not (nat_eq x.root y && x.away)) (none_away ps y) e h
 
-stays_all : (c : Context) (xs : List (Slot × Expression)) (y : ℕ) → has_name (filter_map gone_name xs) y ≡ false → none_away (parts c xs) y ≡ true
+stays_all : (c : Context) (xs : List (ParamSlot × Expression)) (y : ℕ) → has_name (filter_map gone_name xs) y ≡ false → none_away (argument_parts c xs) y ≡ true
 stays_all c [] y e = refl
 stays_all c (x ∷ xs) y e =
     let k = not_named (gone_name x) (filter_map gone_name xs) y e in
-    none_away_both (one_part c x) (parts c xs) y (form_stays c x.0.form x.0.away x.1 y k.0) (stays_all c xs y k.1)
+    none_away_both (one_part c x) (argument_parts c xs) y (form_stays c x.0.form x.0.away x.1 y k.0) (stays_all c xs y k.1)
 
 -- ---- the context after a call
 
@@ -293,7 +293,7 @@ nothing_after c d y (Some l) e u n k =
     let h : r.0 ≡ held.None = sym (ap (λ (x : Option Local). given x held.None (λ (z : Local). z.held)) r.1) ∙ n in
     r.1 ∙ ap (λ (x : Held). Some (record l { held = x })) h
 
-keeps_groups : (xs : List Part) (c : Context) → (after_call xs c).group ≡ c.group
+keeps_groups : (xs : List LentPart) (c : Context) → (after_call xs c).group ≡ c.group
 keeps_groups [] c = refl
 keeps_groups (x ∷ xs) c = by_share (λ d. keeps_groups xs d) (splits (held_in c x.root) x.need)
   where
@@ -309,17 +309,17 @@ keeps_groups (x ∷ xs) c = by_share (λ d. keeps_groups xs d) (splits (held_in 
     by_share later None = later c
     by_share later (Some share) = by_away x.away share (after_call xs (with_held x.root share.1 c)) ∙ later (with_held x.root share.1 c)
 
-taken_for_good : (c : Context) (ps : List Part) (y : ℕ) → GoneAt c ps y → (after_call ps c).local y ≡ option_map no_more (c.local y)
+taken_for_good : (c : Context) (ps : List LentPart) (y : ℕ) → GoneAt c ps y → (after_call ps c).local y ≡ option_map no_more (c.local y)
 taken_for_good c ps y g =
-    let n : held_in (after_call ps c) y ≡ held.None = subst (λ (zs : List Part). held_in (after_call zs c) y ≡ held.None) (sym g.split)
+    let n : held_in (after_call ps c) y ≡ held.None = subst (λ (zs : List LentPart). held_in (after_call zs c) y ≡ held.None) (sym g.split)
     (given_away_is_gone g.before g.after (gone_part y) c g.apart refl refl g.unique) in
     nothing_after c (after_call ps c) y (c.local y) refl g.unique n ((keeps_after_call ps c).local y)
 
 -- after a judged call the names that were given for good hold nothing, and all else is as before
-pub call_takes : (p : Code) (c : Context) (xs : List (Slot × Expression)) (roots : Roots) → in_turn (to_slot p c) xs no_roots ≡ Holds roots
-    → after_call (parts c xs) c ≡ all_moved (filter_map gone_name xs) c
-call_takes p c xs roots e = same_context (after_call (parts c xs) c) (all_moved (filter_map gone_name xs) c)
-    (λ y. moved_if (has_name (filter_map gone_name xs) y) (c.local y) ((after_call (parts c xs) c).local y)
-    (λ h. taken_for_good c (parts c xs) y ((find_gone p c xs no_roots y h).value roots e).0)
-    (λ h. calls_give_back (parts c xs) c y (stays_all c xs y h)))
-    (keeps_groups (parts c xs) c)
+pub call_takes : (p : Code) (c : Context) (xs : List (ParamSlot × Expression)) (roots : Roots) → in_turn (to_slot p c) xs no_roots ≡ Holds roots
+    → after_call (argument_parts c xs) c ≡ all_moved (filter_map gone_name xs) c
+call_takes p c xs roots e = same_context (after_call (argument_parts c xs) c) (all_moved (filter_map gone_name xs) c)
+    (λ y. moved_if (has_name (filter_map gone_name xs) y) (c.local y) ((after_call (argument_parts c xs) c).local y)
+    (λ h. taken_for_good c (argument_parts c xs) y ((find_gone p c xs no_roots y h).value roots e).0)
+    (λ h. calls_give_back (argument_parts c xs) c y (stays_all c xs y h)))
+    (keeps_groups (argument_parts c xs) c)

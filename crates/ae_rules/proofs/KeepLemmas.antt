@@ -24,13 +24,13 @@ use Rattle.ae_rules.specs.Shares.{Share, splits, joins}
 use Rattle.ae_rules.specs.Forms.{is_ints}
 use Rattle.ae_rules.specs.Lookups.{class_called, field_form}
 use Rattle.ae_rules.specs.Types.{forms_type, groups_fit, is_group}
-use Rattle.ae_rules.specs.Context.{Local, Context, is_visible, held_in, held_of, with_held, with_local, moved, closed, hold_alike}
+use Rattle.ae_rules.specs.Context.{Local, Context, is_visible, held_in, held_of, with_held, with_local, with_name_moved, closed, hold_alike}
 use Rattle.ae_rules.specs.Walks.{walk, write_access, owner_write_access}
-use Rattle.ae_rules.specs.Expressions.{place, judge_value, is_value}
+use Rattle.ae_rules.specs.Expressions.{expression_spot, judge_value, is_value}
 use Rattle.ae_rules.specs.Into.{into, made_into, unique_of}
 use Rattle.ae_rules.specs.Groups.{Groups as GroupsKnown}
-use Rattle.ae_rules.specs.Groups.{opens, known, declare, with_group, wanted, needs_met, may_split_all, may_lock}
-use Rattle.ae_rules.specs.Calls.{Filled, Outcome, no_roots, apart, fills, judge_new, judge_callee, judge_call, Called, Slot, slots, givens, group_in, to_slot, Part, parts, given_back, after_call}
+use Rattle.ae_rules.specs.Groups.{opens, known, declare, with_group, wanted_need, needs_met, may_split_all, may_lock}
+use Rattle.ae_rules.specs.Calls.{Filled, MadeValue, no_roots, apart, fills, judge_new, judge_callee, judge_call, Called, ParamSlot, slots, givens, group_in, to_slot, LentPart, argument_parts, given_back, after_call}
 use Rattle.ae_rules.specs.Statements.{judge_take, result_into, judge_right, judge_let, judge_assign, is_moved, judge_store, judge_store_at, holds_alone, judge_share, prints, judge_return, groups_stay, end_block, while_split, while_locked, judge_statement, judge_lines}
 use Rattle.ae_rules.proofs.GroupLemmas.{declared_is}
 use Rattle.ae_rules.proofs.VerdictLemmas.{Yields, gives, next, asks, turns}
@@ -57,7 +57,7 @@ held_if false h o l e = (l.held, e)
 keeps_held : (x : ℕ) (h : Held) (c : Context) → Keeps c (with_held x h c)
 keeps_held x h c = record { local = λ y l e. held_if (nat_eq x y) h (c.local y) l e; group = λ g q e. e }
 
-keeps_moved : (name : Option ℕ) (c : Context) → Keeps c (moved name c)
+keeps_moved : (name : Option ℕ) (c : Context) → Keeps c (with_name_moved name c)
 keeps_moved None c = keeps_all c
 keeps_moved (Some x) c = keeps_held x held.None c
 
@@ -110,17 +110,17 @@ keeps_away : (b : Bool) (o : Option Held) (r : ℕ) (d : Context) → Keeps d (i
 keeps_away true o r d = keeps_all d
 keeps_away false o r d = keeps_joined o r d
 
-keeps_given_back : (x : Part) (share : Share) (d : Context) → Keeps d (given_back x share d)
+keeps_given_back : (x : LentPart) (share : Share) (d : Context) → Keeps d (given_back x share d)
 keeps_given_back x share d = keeps_away x.away (joins (held_in d x.root) share.0) x.root d
 
-keeps_part : (x : Part) (xs : List Part) → ((c : Context) → Keeps c (after_call xs c)) → (c : Context) (o : Option Share)
+keeps_part : (x : LentPart) (xs : List LentPart) → ((c : Context) → Keeps c (after_call xs c)) → (c : Context) (o : Option Share)
     → Keeps c (given o (after_call xs c) (λ share. given_back x share (after_call xs (with_held x.root share.1 c))))
 keeps_part x xs ih c None = ih c
 keeps_part x xs ih c (Some share) =
     let d : Context = with_held x.root share.1 c in
     keeps_both (keeps_held x.root share.1 c) (keeps_both (ih d) (keeps_given_back x share (after_call xs d)))
 
-pub keeps_after_call : (xs : List Part) (c : Context) → Keeps c (after_call xs c)
+pub keeps_after_call : (xs : List LentPart) (c : Context) → Keeps c (after_call xs c)
 keeps_after_call [] c = keeps_all c
 keeps_after_call (x ∷ xs) c = keeps_part x xs (keeps_after_call xs) c (splits (held_in c x.root) x.need)
 
@@ -129,10 +129,10 @@ call_keeps p c i =
     next (judge_callee p c i.on i.method) λ m _.
     next (groups_fit (known c.group) (length m.method.groups) i.method.at i.groups) λ _ _.
     asks (nat_eq (length i.args) (length m.method.params)) _ _ λ _.
-    let pairs : List (Slot × Expression) = zip (slots p (group_in m i.groups) m.method) (givens i) in
+    let pairs : List (ParamSlot × Expression) = zip (slots p (group_in m i.groups) m.method) (givens i) in
     next (in_turn (to_slot p c) pairs no_roots) λ _ _.
-    next (needs_met c.group i.method.at (map (wanted (group_in m i.groups)) m.method.needs)) λ _ _.
-    gives (keeps_after_call (parts c pairs) c)
+    next (needs_met c.group i.method.at (map (wanted_need (group_in m i.groups)) m.method.needs)) λ _ _.
+    gives (keeps_after_call (argument_parts c pairs) c)
 
 -- ---- new objects and right sides
 
@@ -142,7 +142,7 @@ fill_keeps p c x s k =
     next (into p c x.0 x.1) λ name _.
     gives (keeps_both k (keeps_moved name s.after))
 
-new_keeps : (p : Code) (c : Context) (x : NameAt) (gs : List NameAt) (args : List Expression) → Yields (λ (d : Outcome). Keeps c d.after) (judge_new p c x gs args)
+new_keeps : (p : Code) (c : Context) (x : NameAt) (gs : List NameAt) (args : List Expression) → Yields (λ (d : MadeValue). Keeps c d.after) (judge_new p c x gs args)
 new_keeps p c x gs args =
     next (found (class_called p x.name) rule.UnknownClass x.at) λ (k : Class) _.
     next (groups_fit (known c.group) (length k.groups) x.at gs) λ _ _.
@@ -242,7 +242,7 @@ mutual
   statement_keeps : (p : Code) (m : Definition) (at : Spot) (a : Action) (c : Context) → Yields (Keeps c) (judge_statement p m at a c)
   statement_keeps p m at (Declares t x e) c = let_keeps p c t x e
   statement_keeps p m at (Assigns x e) c = assign_keeps p c x e
-  statement_keeps p m at (Stores path e) c = store_keeps p c path e (place e)
+  statement_keeps p m at (Stores path e) c = store_keeps p c path e (expression_spot e)
   statement_keeps p m at (StoresAt path i e) c = store_at_keeps p c path i e
   statement_keeps p m at (Calls i) c = next (judge_call p c i) λ d e. gives ((call_keeps p c i).value d e)
   statement_keeps p m at (Chooses e n b) c =

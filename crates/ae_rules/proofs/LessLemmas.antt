@@ -10,7 +10,7 @@ use Rattle.ae_rules.specs.declared.held.GroupPerm.{GroupPerm}
 use Rattle.ae_rules.specs.declared.held.GroupPerm.TheVariants as group
 use Rattle.ae_rules.specs.Verdict.{Verdict, Holds, Broken, given}
 use Rattle.ae_rules.specs.Context.{Context}
-use Rattle.ae_rules.specs.Uses.{nothing, same_resource, one, stronger, ◌∪◌, of_each, of_judged, of_found, is_seen, outside, all_but}
+use Rattle.ae_rules.specs.Uses.{nothing, same_resource, use_alone, stronger, ◌∪◌, of_each, of_judged, of_found, is_seen, outside, all_but}
 use Rattle.ae_rules.specs.EdgeLaws.{is_of_local, group_allows, is_allowed}
 use Rattle.ae_rules.specs.Instances.{renamed}
 use Rattle.ae_rules.proofs.SeenLemmas.{Within}
@@ -106,11 +106,11 @@ one_less : (b : Bool) (m n : Mode) → (is_strong m ≡ true → is_strong n ≡
 one_less true m n h = h
 one_less false m n h = tt
 
-pub less_one : (m n : Mode) (r : Resource) → (is_strong m ≡ true → is_strong n ≡ true) → Less (one m r) (one n r)
+pub less_one : (m n : Mode) (r : Resource) → (is_strong m ≡ true → is_strong n ≡ true) → Less (use_alone m r) (use_alone n r)
 less_one m n r h = record { at = λ s. one_less (same_resource r s) m n h }
 
-pub less_renamed : (o : Option Mode) (n : Mode) (r : Resource) → is_strong n ≡ true → Less (renamed o r) (one n r)
-less_renamed None n r h = less_nothing (one n r)
+pub less_renamed : (o : Option Mode) (n : Mode) (r : Resource) → is_strong n ≡ true → Less (renamed o r) (use_alone n r)
+less_renamed None n r h = less_nothing (use_alone n r)
 less_renamed (Some m) n r h = less_one m n r (λ _. h)
 
 pub less_found : {A : Type 0} (o : Option A) (u : A → Uses) (v : Uses) → ((x : A) → o ≡ Some x → Less (u x) v) → Less (of_found o u) v

@@ -9,7 +9,7 @@ use Rattle.ae_tree.specs.declared.form.Form.TheVariants as f
 use Rattle.ae_tree.specs.Plain.{Code}
 use Rattle.ae_rules.specs.Verdict.{Verdict, Holds, Broken, ◌>>=◌, ◌>>◌, found, given}
 use Rattle.ae_rules.specs.Context.{Context}
-use Rattle.ae_rules.specs.Expressions.{place, is_value}
+use Rattle.ae_rules.specs.Expressions.{expression_spot, is_value}
 use Rattle.ae_rules.specs.Into.{Source, Null, From, source, path_into, moves, source_moves, source_into}
 use Rattle.ae_rules.specs.Laws.{MovesByItsText}
 
@@ -30,4 +30,4 @@ found_moves_it p c q k (Some s) at name e = source_moves_it p c q k s at name e
 pub moves_by_its_text : MovesByItsText
 moves_by_its_text p c f.Int e name h = after_it (is_value p c f.Int e) None name h
 moves_by_its_text p c f.Bool e name h = after_it (is_value p c f.Bool e) None name h
-moves_by_its_text p c (f.Object q k) e name h = found_moves_it p c q k (source e) (place e) name h
+moves_by_its_text p c (f.Object q k) e name h = found_moves_it p c q k (source e) (expression_spot e) name h

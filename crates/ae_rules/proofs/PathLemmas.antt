@@ -28,8 +28,8 @@ use Rattle.ae_rules.specs.Calls.{Callee, callee_at, callee_in, callee_of, top_ca
 use Rattle.ae_rules.specs.Groups.{may_split_all, may_lock}
 use Rattle.ae_rules.specs.Statements.{while_split, while_locked, end_block, branches_meet, loop_keeps, judge_statement, judge_lines}
 use Rattle.ae_rules.specs.Judges.{start, judge_method, Accepts}
-use Rattle.ae_rules.specs.Uses.{nothing, writes, together, ◌∪◌, of_judged, of_found, outside, all_but, value_uses, call_uses, right_uses, callee_uses, statement_uses, lines_use, contexts, context_at}
-use Rattle.ae_rules.specs.Blocks.{Scene, body, scene_uses}
+use Rattle.ae_rules.specs.Uses.{nothing, write_use, together, ◌∪◌, of_judged, of_found, outside, all_but, value_uses, call_uses, right_uses, callee_uses, statement_uses, lines_use, contexts, context_at}
+use Rattle.ae_rules.specs.Blocks.{Scene, body_scene, scene_uses}
 use Rattle.ae_rules.specs.Instances.{Point, InBlock, AtChoice, AtLoop, Nowhere, in_statement, inside, first_point, Parting, parting_from, IsFirstAt, body_outside, statement_outside, outside_of, uses_from}
 use Rattle.ae_rules.proofs.SeenLemmas.{found_is}
 use Rattle.ae_rules.proofs.VisibleLemmas.{uses_are_allowed}
@@ -143,7 +143,7 @@ abbrev called_uses : Code → Verdict Callee → Uses
 called_uses p v = of_judged v (λ (k : Callee). body_uses p k.method)
 
 call_good : (p : Code) (locked : Bool) (v : Verdict Callee) → ((k : Callee) → v ≡ Holds k → JudgedLines p k.method k.method.body (start p k.method))
-    → Good p (judged v Nowhere (λ (k : Callee). InBlock locked (body p k.method))) (called_uses p v)
+    → Good p (judged v Nowhere (λ (k : Callee). InBlock locked (body_scene p k.method))) (called_uses p v)
 call_good p locked (Holds k) h = (h k refl, less_itself (body_uses p k.method))
 call_good p locked (Broken rule at) h = tt
 
@@ -172,7 +172,7 @@ let_step : (p : Code) → Accepts p → (locked : Bool) (m : Definition) (t : _)
 let_step p a locked m t x (Returned i) c = record {
   bound = called_uses p (judge_callee p c i.on i.method);
   good = call_good p locked (judge_callee p c i.on i.method) (bodies p a c i);
-  out = λ u h. held_right _ (writes x.name) (call_uses p c i) (call_held p c i u (judge_callee p c i.on i.method) (bodies p a c i) h);
+  out = λ u h. held_right _ (write_use x.name) (call_uses p c i) (call_held p c i u (judge_callee p c i.on i.method) (bodies p a c i) h);
 }
 let_step p a locked m t x (Value e) c = record { bound = nothing; good = tt; out = λ u h. nowhere_out p m (Declares t x (Value e)) c }
 let_step p a locked m t x (Taken path at) c = record { bound = nothing; good = tt; out = λ u h. nowhere_out p m (Declares t x (Taken path at)) c }
@@ -187,7 +187,7 @@ assign_step : (p : Code) → Accepts p → (locked : Bool) (m : Definition) (x :
 assign_step p a locked m x (Returned i) c l q = record {
   bound = called_uses p (judge_callee p c i.on i.method);
   good = call_good p locked (judge_callee p c i.on i.method) (bodies p a c i);
-  out = λ u h. held_right _ (writes x.name) _ (in_target p c i _ (c.local x.name) l q (call_held p c i u (judge_callee p c i.on i.method) (bodies p a c i) h));
+  out = λ u h. held_right _ (write_use x.name) _ (in_target p c i _ (c.local x.name) l q (call_held p c i u (judge_callee p c i.on i.method) (bodies p a c i) h));
 }
 assign_step p a locked m x (Value e) c l q = record { bound = nothing; good = tt; out = λ u h. nowhere_out p m (Assigns x (Value e)) c }
 assign_step p a locked m x (Taken path at) c l q = record { bound = nothing; good = tt; out = λ u h. nowhere_out p m (Assigns x (Taken path at)) c }
@@ -426,9 +426,9 @@ good_parting p acc at (i ∷ q) (j ∷ r) k g e = by_number (λ h. good_parting 
     by_number later false h = subst (λ (x : Parting). IsGoodAt p x.at) (some_parting here k h) g
 
 good_first : (p : Code) → Accepts p → (o : Option Definition) → top_called p main ≡ o → IsGoodAt p (first_point p)
-good_first p acc None e = subst (IsGoodAt p) (sym (ap (λ (o : Option Definition). given o Nowhere (λ m. InBlock false (body p m))) e)) (nothing, tt)
+good_first p acc None e = subst (IsGoodAt p) (sym (ap (λ (o : Option Definition). given o Nowhere (λ m. InBlock false (body_scene p m))) e)) (nothing, tt)
 good_first p acc (Some m) e =
-    subst (IsGoodAt p) (sym (ap (λ (o : Option Definition). given o Nowhere (λ x. InBlock false (body p x))) e))
+    subst (IsGoodAt p) (sym (ap (λ (o : Option Definition). given o Nowhere (λ x. InBlock false (body_scene p x))) e))
     (body_uses p m, (method_judged p m acc (numbered p (top_number p main) m e), less_itself (body_uses p m)))
 
 before_at : (p : Code) → Accepts p → (k : Parting) (locked : Bool) (s : Scene) (r : Resource) → IsGoodAt p (InBlock locked s) → k.left < k.right

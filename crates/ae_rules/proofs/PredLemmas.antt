@@ -12,7 +12,7 @@ use Rattle.ae_rules.specs.declared.uses.Mode.{Mode}
 use Rattle.ae_rules.specs.Edges.{are_compatible, is_strong, IsConflict, IsWeak, IsRising, BlockUses, Edge}
 use Rattle.ae_rules.specs.Context.{all_below}
 use Rattle.ae_rules.specs.EdgeLists.{conflicts, is_weak, edge_on, any_below, is_edge, those_below}
-use Rattle.ae_rules.specs.EdgeLaws.{name_of, NamesBelow, PredsAreEdges}
+use Rattle.ae_rules.specs.EdgeLaws.{name_of_resource, NamesBelow, PredsAreEdges}
 
 -- ---- tests
 
@@ -192,14 +192,14 @@ listed n uses i j l e =
       | inr h ↦ edge_from uses i j (resource.Group x.0) l h
     ]
 
-on_its_name : (uses : BlockUses) (i j : ℕ) (r : Resource) → edge_on uses i j r ≡ true → on_name uses i j (name_of r) ≡ true
+on_its_name : (uses : BlockUses) (i j : ℕ) (r : Resource) → edge_on uses i j r ≡ true → on_name uses i j (name_of_resource r) ≡ true
 on_its_name uses i j (resource.Local x) e = left_of (edge_on uses i j (resource.Local x)) (edge_on uses i j (resource.Group x)) e
 on_its_name uses i j (resource.Group x) e = right_of (edge_on uses i j (resource.Local x)) (edge_on uses i j (resource.Group x)) e
 
 unlisted : (n : ℕ) (uses : BlockUses) → NamesBelow n uses → (i j : ℕ) → Edge uses i j → is_edge n uses i j ≡ true
 unlisted n uses h i j e =
     let u : (m : Mode) × (uses i e.on ≡ Some m) = used_first (uses i e.on) (uses j e.on) e.conflict in
-    any_of n (on_name uses i j) (name_of e.on) (h i e.on u.0 u.1) (on_its_name uses i j e.on (edge_to uses i j e))
+    any_of n (on_name uses i j) (name_of_resource e.on) (h i e.on u.0 u.1) (on_its_name uses i j e.on (edge_to uses i j e))
 
 pub preds_are_edges : PredsAreEdges
 preds_are_edges n uses h j = record {

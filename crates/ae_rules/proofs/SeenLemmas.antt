@@ -25,8 +25,8 @@ use Rattle.ae_rules.specs.Forms.{is_ints}
 use Rattle.ae_rules.specs.Groups.{group_is, same_group_perm, opens}
 use Rattle.ae_rules.specs.Context.{Local, Context, access}
 use Rattle.ae_rules.specs.Walks.{Place, step, walk, owner, write_access, owner_write_access}
-use Rattle.ae_rules.specs.Expressions.{place, Operands, Numbers, Truths, Equals, operands, Compared, path_beside_null, beside_null, has_form, both_have, two_alike, equal_operands, judge_operands, judge_value, is_value}
-use Rattle.ae_rules.specs.Uses.{nothing, same_resource, one, reads, writes, whole, together, stronger, ◌∪◌, of_each, of_judged, of_found, is_seen, outside, all_but, reach, steps_use, walk_uses, path_uses, end_uses, root_written, write_uses, value_uses}
+use Rattle.ae_rules.specs.Expressions.{expression_spot, Operands, Numbers, Truths, Equals, operands, Compared, path_beside_null, beside_null, has_form, both_have, two_alike, equal_operands, judge_operands, judge_value, is_value}
+use Rattle.ae_rules.specs.Uses.{nothing, same_resource, use_alone, read_use, write_use, whole_group, together, stronger, ◌∪◌, of_each, of_judged, of_found, is_seen, outside, all_but, reach_use, steps_use, walk_uses, path_uses, end_uses, root_written, write_uses, value_uses}
 use Rattle.ae_rules.specs.EdgeLaws.{is_of_local, group_allows, is_allowed}
 use Rattle.ae_rules.proofs.VerdictLemmas.{Yields, gives, next, asks, always}
 
@@ -61,7 +61,7 @@ pub one_if : (m n : Mode) (b : Bool) → (if b then Some m else None) ≡ Some n
 one_if m n true e = (refl, cc)
 one_if m n false e = absurd (cc)
 
-pub in_one : (c : Context) (m : Mode) (r : Resource) → is_allowed c r m ≡ true → Within c (one m r)
+pub in_one : (c : Context) (m : Mode) (r : Resource) → is_allowed c r m ≡ true → Within c (use_alone m r)
 in_one c m r seen s n e =
     let q = one_if m n (same_resource r s) e in
     subst (λ (k : Mode). is_allowed c s k ≡ true) q.1 (subst (λ (x : Resource). is_allowed c x m ≡ true) (same_is r s q.0) seen)
@@ -70,13 +70,13 @@ two_true : (a b : Bool) → a ≡ true → b ≡ true → (a && b) ≡ true
 two_true true b e h = h
 two_true false b e h = absurd (cc)
 
-pub in_local : (c : Context) (m : Mode) (x : ℕ) → is_of_local m ≡ true → is_seen c (resource.Local x) ≡ true → Within c (one m (resource.Local x))
+pub in_local : (c : Context) (m : Mode) (x : ℕ) → is_of_local m ≡ true → is_seen c (resource.Local x) ≡ true → Within c (use_alone m (resource.Local x))
 in_local c m x h seen = in_one c m (resource.Local x) (two_true (is_some (c.local x)) (is_of_local m) seen h)
 
-pub in_read : (c : Context) (x : ℕ) → is_seen c (resource.Local x) ≡ true → Within c (reads x)
+pub in_read : (c : Context) (x : ℕ) → is_seen c (resource.Local x) ≡ true → Within c (read_use x)
 in_read c x seen = in_local c mode.Read x refl seen
 
-pub in_changed : (c : Context) (x : ℕ) → is_seen c (resource.Local x) ≡ true → Within c (writes x)
+pub in_changed : (c : Context) (x : ℕ) → is_seen c (resource.Local x) ≡ true → Within c (write_use x)
 in_changed c x seen = in_local c mode.Write x refl seen
 
 of_strong : (b : Bool) (m k n : Mode) → Some (if b then m else k) ≡ Some n → (Some m ≡ Some n) ⊎ (Some k ≡ Some n)
@@ -166,7 +166,7 @@ shared_allows (Some group.Protected) e = absurd (cc)
 shared_allows (Some group.HeldBack) e = absurd (cc)
 shared_allows (Some group.None) e = absurd (cc)
 
-pub in_exclusive : (c : Context) (g : ℕ) → group_is group.Exclusive c.group g ≡ true → Within c (whole g)
+pub in_exclusive : (c : Context) (g : ℕ) → group_is group.Exclusive c.group g ≡ true → Within c (whole_group g)
 in_exclusive c g e = in_one c mode.GroupWhole (resource.Group g) (exclusive_allows (c.group g) e)
 
 pub in_shared : (c : Context) (g : ℕ) → group_is group.Shared c.group g ≡ true → Within c (together g)
@@ -176,12 +176,12 @@ either : (a b : Bool) → (a || b) ≡ true → (a ≡ true) ⊎ (b ≡ true)
 either true b e = inl refl
 either false b e = inr e
 
-pub in_open : (c : Context) (g : ℕ) → opens c.group g ≡ true → Within c (whole g)
+pub in_open : (c : Context) (g : ℕ) → opens c.group g ≡ true → Within c (whole_group g)
 in_open c g e = in_one c mode.GroupWhole (resource.Group g) (elim (either (group_is group.Exclusive c.group g) (group_is group.Protected c.group g) e) [ inl h ↦ exclusive_allows (c.group g) h | inr h ↦ protected_allows (c.group g) h ])
 
 -- ---- paths
 
-pub in_reach : (c : Context) (at : Spot) (h : Held) (x : ⊤) → access c at h ≡ Holds x → Within c (reach h)
+pub in_reach : (c : Context) (at : Spot) (h : Held) (x : ⊤) → access c at h ≡ Holds x → Within c (reach_use h)
 in_reach c at (held.Shared g) x e = in_open c g (required (opens c.group g) _ at x e)
 in_reach c at (held.Inner g) x e = in_open c g (required (opens c.group g) _ at x e)
 in_reach c at held.Unique x e = in_nothing c
@@ -190,7 +190,7 @@ in_reach c at held.Immutable x e = in_nothing c
 in_reach c at held.Lent x e = in_nothing c
 in_reach c at held.None x e = in_nothing c
 
-step_reaches : (p : Code) (c : Context) (at : Spot) (x : NameAt) (from : Place) → Yields (λ _. Within c (reach from.held)) (step p c at x from)
+step_reaches : (p : Code) (c : Context) (at : Spot) (x : NameAt) (from : Place) → Yields (λ _. Within c (reach_use from.held)) (step p c at x from)
 step_reaches p c at x from =
     next (found (field_of p from.form x.name) rule.UnknownField x.at) λ form _.
     next (access c at from.held) λ u e.
@@ -200,7 +200,7 @@ in_steps : (p : Code) (c : Context) (at : Spot) (xs : List NameAt) (from : Place
 in_steps p c at [] from = always (in_nothing c)
 in_steps p c at (x ∷ xs) from =
     next (step p c at x from) λ t e.
-    weaker (λ _ k. in_both c (reach from.held) (of_judged (step p c at x from) (steps_use p c at xs)) ((step_reaches p c at x from).value t e)
+    weaker (λ _ k. in_both c (reach_use from.held) (of_judged (step p c at x from) (steps_use p c at xs)) ((step_reaches p c at x from).value t e)
     (in_judged c (step p c at x from) (steps_use p c at xs) t e k)) (in_steps p c at xs t)
 
 pub one_there : {A : Type 0} (o : Option A) (x y : A) → o ≡ Some x → o ≡ Some y → x ≡ y
@@ -227,12 +227,12 @@ in_walk p c path =
         subst (λ (z : Local). Within c (steps_use p c path.root.at path.steps (record { form = z.form; held = z.held }))) same k
 
 pub in_path : (p : Code) (c : Context) (path : Path) → Yields (λ _. Within c (path_uses p c path)) (walk p c path)
-in_path p c path = record { value = λ w e. in_both c (reads path.root.name) (walk_uses p c path) (in_read c path.root.name ((root_seen p c path).value w e)) ((in_walk p c path).value w e) }
+in_path p c path = record { value = λ w e. in_both c (read_use path.root.name) (walk_uses p c path) (in_read c path.root.name ((root_seen p c path).value w e)) ((in_walk p c path).value w e) }
 
 in_end : (p : Code) (c : Context) (path : Path) (at : Spot) (w : Place) (u : ⊤) → walk p c path ≡ Holds w → access c at w.held ≡ Holds u → Within c (end_uses p c path)
 in_end p c path at w u e h =
-    in_both c (walk_uses p c path) (of_judged (walk p c path) (λ (x : Place). reach x.held)) ((in_walk p c path).value w e)
-    (in_judged c (walk p c path) (λ (x : Place). reach x.held) w e (in_reach c at w.held u h))
+    in_both c (walk_uses p c path) (of_judged (walk p c path) (λ (x : Place). reach_use x.held)) ((in_walk p c path).value w e)
+    (in_judged c (walk p c path) (λ (x : Place). reach_use x.held) w e (in_reach c at w.held u h))
 
 in_root_written : (c : Context) (h : Held) (x : ℕ) → is_seen c (resource.Local x) ≡ true → Within c (root_written h x)
 in_root_written c held.Unique x s = in_changed c x s
@@ -318,19 +318,19 @@ abbrev Judged : Code → Context → Expression → Type 0
 Judged p c e = Yields (λ _. Within c (value_uses p c e)) (judge_value p c e)
 
 in_both_have : (p : Code) (c : Context) (wanted : Form) (a b : Expression) → Judged p c a → Judged p c b
-    → Yields (λ _. InTwo p c a b) (both_have wanted (judge_value p c a) (place a) (judge_value p c b) (place b))
+    → Yields (λ _. InTwo p c a b) (both_have wanted (judge_value p c a) (expression_spot a) (judge_value p c b) (expression_spot b))
 in_both_have p c wanted a b h k =
-    next (has_form wanted (judge_value p c a) (place a)) λ u e.
-    weaker (λ _ z. in_both c (value_uses p c a) (value_uses p c b) ((has_form_is p c (value_uses p c a) wanted (judge_value p c a) (place a) h).value u e) z)
-    (has_form_is p c (value_uses p c b) wanted (judge_value p c b) (place b) k)
+    next (has_form wanted (judge_value p c a) (expression_spot a)) λ u e.
+    weaker (λ _ z. in_both c (value_uses p c a) (value_uses p c b) ((has_form_is p c (value_uses p c a) wanted (judge_value p c a) (expression_spot a) h).value u e) z)
+    (has_form_is p c (value_uses p c b) wanted (judge_value p c b) (expression_spot b) k)
 
-in_alike : (p : Code) (c : Context) (a b : Expression) → Judged p c a → Judged p c b → Yields (λ _. InTwo p c a b) (two_alike (judge_value p c a) (judge_value p c b) (place b))
+in_alike : (p : Code) (c : Context) (a b : Expression) → Judged p c a → Judged p c b → Yields (λ _. InTwo p c a b) (two_alike (judge_value p c a) (judge_value p c b) (expression_spot b))
 in_alike p c a b h k =
     next (judge_value p c a) λ form e.
-    weaker (λ _ z. in_both c (value_uses p c a) (value_uses p c b) (h.value form e) z) (has_form_is p c (value_uses p c b) form (judge_value p c b) (place b) k)
+    weaker (λ _ z. in_both c (value_uses p c a) (value_uses p c b) (h.value form e) z) (has_form_is p c (value_uses p c b) form (judge_value p c b) (expression_spot b) k)
 
 in_equal : (p : Code) (c : Context) (a b : Expression) (o : Option Compared) → beside_null a b ≡ o → Judged p c a → Judged p c b
-    → Yields (λ _. InTwo p c a b) (equal_operands p c o (judge_value p c a) (judge_value p c b) (place b))
+    → Yields (λ _. InTwo p c a b) (equal_operands p c o (judge_value p c a) (judge_value p c b) (expression_spot b))
 in_equal p c a b None e h k = in_alike p c a b h k
 in_equal p c a b (Some pair) e h k =
     next (walk p c pair.path) λ w z.
@@ -341,14 +341,14 @@ in_operands p c Numbers a b h k = in_both_have p c f.Int a b h k
 in_operands p c Truths a b h k = in_both_have p c f.Bool a b h k
 in_operands p c Equals a b h k = in_equal p c a b (beside_null a b) refl h k
 
-in_length : (p : Code) (c : Context) (path : Path) (w : Place) (u : ⊤) → walk p c path ≡ Holds w → access c path.root.at w.held ≡ Holds u → Within c (reads path.root.name ∪ end_uses p c path)
+in_length : (p : Code) (c : Context) (path : Path) (w : Place) (u : ⊤) → walk p c path ≡ Holds w → access c path.root.at w.held ≡ Holds u → Within c (read_use path.root.name ∪ end_uses p c path)
 in_length p c path w u e h =
-    in_both c (reads path.root.name) (end_uses p c path) (in_read c path.root.name ((root_seen p c path).value w e)) (in_end p c path path.root.at w u e h)
+    in_both c (read_use path.root.name) (end_uses p c path) (in_read c path.root.name ((root_seen p c path).value w e)) (in_end p c path path.root.at w u e h)
 
 in_item : (p : Code) (c : Context) (path : Path) (i : Expression) (w : Place) (u : ⊤) → walk p c path ≡ Holds w → access c path.root.at w.held ≡ Holds u → Within c (value_uses p c i)
-    → Within c (reads path.root.name ∪ end_uses p c path ∪ value_uses p c i)
+    → Within c (read_use path.root.name ∪ end_uses p c path ∪ value_uses p c i)
 in_item p c path i w u e h k =
-    in_both c (reads path.root.name) (end_uses p c path ∪ value_uses p c i) (in_read c path.root.name ((root_seen p c path).value w e))
+    in_both c (read_use path.root.name) (end_uses p c path ∪ value_uses p c i) (in_read c path.root.name ((root_seen p c path).value w e))
     (in_both c (end_uses p c path) (value_uses p c i) (in_end p c path path.root.at w u e h) k)
 
 pub in_value : (p : Code) (c : Context) (e : Expression) → Yields (λ _. Within c (value_uses p c e)) (judge_value p c e)
@@ -360,8 +360,8 @@ in_value p c (Item path i) =
     next (walk p c path) λ (w : Place) e.
     asks (is_ints w.form) _ _ λ _.
     next (access c path.root.at w.held) λ u h.
-    next (has_form f.Int (judge_value p c i) (place i)) λ t k.
-    gives (in_item p c path i w u e h ((has_form_is p c (value_uses p c i) f.Int (judge_value p c i) (place i) (in_value p c i)).value t k))
+    next (has_form f.Int (judge_value p c i) (expression_spot i)) λ t k.
+    gives (in_item p c path i w u e h ((has_form_is p c (value_uses p c i) f.Int (judge_value p c i) (expression_spot i) (in_value p c i)).value t k))
 in_value p c (Length path at) =
     next (walk p c path) λ (w : Place) e.
     asks (is_ints w.form) _ _ λ _.
@@ -369,14 +369,14 @@ in_value p c (Length path at) =
     gives (in_length p c path w u e h)
 in_value p c (Grouped e at) = in_value p c e
 in_value p c (Negated e at) =
-    next (has_form f.Bool (judge_value p c e) (place e)) λ t k.
-    always ((has_form_is p c (value_uses p c e) f.Bool (judge_value p c e) (place e) (in_value p c e)).value t k)
+    next (has_form f.Bool (judge_value p c e) (expression_spot e)) λ t k.
+    always ((has_form_is p c (value_uses p c e) f.Bool (judge_value p c e) (expression_spot e) (in_value p c e)).value t k)
 in_value p c (Minus e at) =
-    next (has_form f.Int (judge_value p c e) (place e)) λ t k.
-    always ((has_form_is p c (value_uses p c e) f.Int (judge_value p c e) (place e) (in_value p c e)).value t k)
+    next (has_form f.Int (judge_value p c e) (expression_spot e)) λ t k.
+    always ((has_form_is p c (value_uses p c e) f.Int (judge_value p c e) (expression_spot e) (in_value p c e)).value t k)
 in_value p c (Binary o a b) =
     next (judge_operands p c (operands o) a b (judge_value p c a) (judge_value p c b)) λ t k.
     always ((in_operands p c (operands o) a b (in_value p c a) (in_value p c b)).value t k)
 
 pub in_is_value : (p : Code) (c : Context) (wanted : Form) (e : Expression) → Yields (λ _. Within c (value_uses p c e)) (is_value p c wanted e)
-in_is_value p c wanted e = has_form_is p c (value_uses p c e) wanted (judge_value p c e) (place e) (in_value p c e)
+in_is_value p c wanted e = has_form_is p c (value_uses p c e) wanted (judge_value p c e) (expression_spot e) (in_value p c e)

@@ -31,14 +31,14 @@ use Rattle.ae_rules.specs.Lookups.{Names, has_name, class_called, field_form}
 use Rattle.ae_rules.specs.Table.{no_names}
 use Rattle.ae_rules.specs.Types.{forms_type, groups_fit, is_group}
 use Rattle.ae_rules.specs.Groups.{Groups as GroupsKnown}
-use Rattle.ae_rules.specs.Groups.{group_is, same_group_perm, opens, known, declare, Wanted, wanted, any_clash, need_met, needs_met, may_split, may_split_all, may_lock, held_back}
+use Rattle.ae_rules.specs.Groups.{group_is, same_group_perm, opens, known, declare, Wanted, wanted_need, any_clash, need_met, needs_met, may_split, may_split_all, may_lock, held_back}
 use Rattle.ae_rules.specs.Context.{Local, Context, is_visible}
 use Rattle.ae_rules.specs.Walks.{Place, walk, owner, write_access, owner_write_access}
-use Rattle.ae_rules.specs.Expressions.{place, judge_value, is_value}
+use Rattle.ae_rules.specs.Expressions.{expression_spot, judge_value, is_value}
 use Rattle.ae_rules.specs.Into.{Source, Null, From, source, path_into, source_into, moves, into}
-use Rattle.ae_rules.specs.Calls.{Roots, Filled, no_roots, apart, fills, judge_new, Callee, judge_callee, judge_callee_with, judge_call, Slot, slots, givens, group_in, source_to_param, to_form, to_slot}
+use Rattle.ae_rules.specs.Calls.{Roots, Filled, no_roots, apart, fills, judge_new, Callee, judge_callee, judge_callee_with, judge_call, ParamSlot, slots, givens, group_in, source_to_param, to_form, to_slot}
 use Rattle.ae_rules.specs.Statements.{judge_take, judge_right, judge_let, judge_assign, judge_store, judge_store_at, holds_alone, judge_share, prints, judge_return, while_split, while_locked, end_block, judge_statement, judge_lines}
-use Rattle.ae_rules.specs.Uses.{same_resource, writes, whole, together, ◌∪◌, of_each, of_judged, of_found, is_seen, outside, all_but, walk_uses, path_uses, write_uses, value_uses, source_uses, into_uses, root_lent, given_uses, argument_uses, need_uses, callee_uses, call_uses, made_uses, right_uses, assign_uses, store_uses, return_uses, statement_uses, lines_use}
+use Rattle.ae_rules.specs.Uses.{same_resource, write_use, whole_group, together, ◌∪◌, of_each, of_judged, of_found, is_seen, outside, all_but, walk_uses, path_uses, write_uses, value_uses, source_uses, into_uses, root_lent, given_uses, argument_uses, need_uses, callee_uses, call_uses, made_uses, right_uses, assign_uses, store_uses, return_uses, statement_uses, lines_use}
 use Rattle.ae_rules.specs.Laws.{Keeps}
 use Rattle.ae_rules.specs.EdgeLaws.{is_of_local, group_allows, is_allowed, UsesAreAllowed}
 use Rattle.ae_rules.proofs.GroupLemmas.{AreExclusive, declared_is, list_exclusive}
@@ -52,7 +52,7 @@ here c o u x e h = in_found c o u (λ y k. subst (λ z. Within c (u z)) (one_the
 
 -- ---- sources
 
-in_moved : (c : Context) (q : Perm) (path : Path) → is_seen c (resource.Local path.root.name) ≡ true → Within c (of_found (moves q path) writes)
+in_moved : (c : Context) (q : Perm) (path : Path) → is_seen c (resource.Local path.root.name) ≡ true → Within c (of_found (moves q path) write_use)
 in_moved c perm.Unique path s = in_changed c path.root.name s
 in_moved c perm.Immutable path s = in_nothing c
 in_moved c perm.Lent path s = in_nothing c
@@ -62,8 +62,8 @@ in_source : (p : Code) (c : Context) (q : Perm) (k : Kind) (s : Source) (at : Sp
 in_source p c q k Null at = always (in_nothing c)
 in_source p c q k (From path) at =
     next (path_into p c q k path at) λ u e.
-    always ((walked (path_uses p c path ∪ of_found (moves q path) writes) (λ w h.
-    in_both c (path_uses p c path) (of_found (moves q path) writes) ((in_path p c path).value w h) (in_moved c q path ((root_seen p c path).value w h)))).value u e)
+    always ((walked (path_uses p c path ∪ of_found (moves q path) write_use) (λ w h.
+    in_both c (path_uses p c path) (of_found (moves q path) write_use) ((in_path p c path).value w h) (in_moved c q path ((root_seen p c path).value w h)))).value u e)
   where
     walked : (u : Uses) → ((w : Place) → walk p c path ≡ Holds w → Within c u) → Yields (λ _. Within c u) (path_into p c q k path at)
     walked u h = next (walk p c path) λ w e. always (h w e)
@@ -72,8 +72,8 @@ pub in_into : (p : Code) (c : Context) (target : Form) (e : Expression) → Yiel
 in_into p c f.Int e = next (is_value p c f.Int e) λ u h. always ((in_is_value p c f.Int e).value u h)
 in_into p c f.Bool e = next (is_value p c f.Bool e) λ u h. always ((in_is_value p c f.Bool e).value u h)
 in_into p c (f.Object q k) e =
-    next (found (source e) rule.TypeMismatch (place e)) λ s h.
-    weaker (λ _ z. here c (source e) (source_uses p c q) s (found_is (source e) rule.TypeMismatch (place e) s h) z) (in_source p c q k s (place e))
+    next (found (source e) rule.TypeMismatch (expression_spot e)) λ s h.
+    weaker (λ _ z. here c (source e) (source_uses p c q) s (found_is (source e) rule.TypeMismatch (expression_spot e) s h) z) (in_source p c q k s (expression_spot e))
 
 -- ---- calls
 
@@ -95,8 +95,8 @@ in_argument : (p : Code) (c : Context) (target : Form) (away : Bool) (e : Expres
 in_argument p c f.Int away e before = next (is_value p c f.Int e) λ u h. always ((in_is_value p c f.Int e).value u h)
 in_argument p c f.Bool away e before = next (is_value p c f.Bool e) λ u h. always ((in_is_value p c f.Bool e).value u h)
 in_argument p c (f.Object q k) away e before =
-    next (found (source e) rule.TypeMismatch (place e)) λ s h.
-    weaker (λ _ z. here c (source e) (given_uses p c q) s (found_is (source e) rule.TypeMismatch (place e) s h) z) (in_given p c q k away s (place e) before)
+    next (found (source e) rule.TypeMismatch (expression_spot e)) λ s h.
+    weaker (λ _ z. here c (source e) (given_uses p c q) s (found_is (source e) rule.TypeMismatch (expression_spot e) s h) z) (in_given p c q k away s (expression_spot e) before)
 
 in_need : (c : Context) (at : Spot) (n : Wanted) → Yields (λ _. Within c (need_uses n)) (need_met c.group at n)
 in_need c at (need_of.Exclusive, g) = record { value = λ u e. in_exclusive c g (required (group_is group.Exclusive c.group g) _ at u e) }
@@ -108,7 +108,7 @@ in_need c at (need_of.Protected, g) = record { value = λ u e. in_open c g (requ
 in_needs : (c : Context) (at : Spot) (ns : List Wanted) → Yields (λ _. Within c (of_each need_uses ns)) (needs_met c.group at ns)
 in_needs c at ns = asks (not (any_clash ns)) _ _ λ _. in_each c (need_met c.group at) need_uses (in_need c at) ns
 
-abbrev argument : Code → Context → Slot × Expression → Uses
+abbrev argument : Code → Context → ParamSlot × Expression → Uses
 argument p c x = argument_uses p c x.0.form x.1
 
 in_callee : (p : Code) (c : Context) (i : Invocation) (m : Callee) → Yields (λ _. Within c (callee_uses p c i m)) (judge_callee_with p c i m)
@@ -116,8 +116,8 @@ in_callee p c i m =
     next (groups_fit (known c.group) (length m.method.groups) i.method.at i.groups) λ _ _.
     asks (nat_eq (length i.args) (length m.method.params)) _ _ λ _.
     let new : ℕ → ℕ = group_in m i.groups in
-    let pairs : List (Slot × Expression) = zip (slots p new m.method) (givens i) in
-    let ns : List Wanted = map (wanted new) m.method.needs in
+    let pairs : List (ParamSlot × Expression) = zip (slots p new m.method) (givens i) in
+    let ns : List Wanted = map (wanted_need new) m.method.needs in
     next (in_turn (to_slot p c) pairs no_roots) λ roots e.
     next (needs_met c.group i.method.at ns) λ u h.
     always (in_both c (of_each (argument p c) pairs) (of_each need_uses ns)
@@ -233,7 +233,7 @@ in_assign p c x e =
     asks (not l.stays) _ _ λ _.
     next (judge_right p c l.form e) λ d z.
     let is : c.local x.name ≡ Some l = found_is (c.local x.name) rule.UnknownName x.at l h in
-    always (in_both c (writes x.name) _ (in_changed c x.name (there (c.local x.name) l is)) (here c (c.local x.name) _ l is ((in_right p c l.form e).value d z)))
+    always (in_both c (write_use x.name) _ (in_changed c x.name (there (c.local x.name) l is)) (here c (c.local x.name) _ l is ((in_right p c l.form e).value d z)))
 
 in_store : (p : Code) (c : Context) (path : Path) (e : Expression) (at : Spot) → Yields (λ _. Within c (store_uses p c path e)) (judge_store p c path e at)
 in_store p c path e at =
@@ -253,19 +253,19 @@ in_store_at p c path i e =
     always (in_both c (write_uses p c path) (value_uses p c i ∪ value_uses p c e) ((in_write p c path path.root.at w h).value u k)
     (in_both c (value_uses p c i) (value_uses p c e) ((in_is_value p c f.Int i).value v y) ((in_is_value p c f.Int e).value t z)))
 
-in_alone : (c : Context) (x : NameAt) → Yields (λ _. Within c (writes x.name)) (holds_alone c x)
+in_alone : (c : Context) (x : NameAt) → Yields (λ _. Within c (write_use x.name)) (holds_alone c x)
 in_alone c x =
     next (found (c.local x.name) rule.UnknownName x.at) λ (l : Local) h.
     always (in_changed c x.name (there (c.local x.name) l (found_is (c.local x.name) rule.UnknownName x.at l h)))
 
-in_share : (c : Context) (x g : NameAt) → Yields (λ _. Within c (writes x.name ∪ whole g.name)) (judge_share c x g)
+in_share : (c : Context) (x g : NameAt) → Yields (λ _. Within c (write_use x.name ∪ whole_group g.name)) (judge_share c x g)
 in_share c x g =
     next (holds_alone c x) λ u e.
     next (is_group (known c.group) g) λ _ _.
     asks (opens c.group g.name) _ _ λ h.
-    always (in_both c (writes x.name) (whole g.name) ((in_alone c x).value u e) (in_open c g.name h))
+    always (in_both c (write_use x.name) (whole_group g.name) ((in_alone c x).value u e) (in_open c g.name h))
 
-in_prints : (c : Context) (at : Spot) → Yields (λ _. Within c (whole io)) (prints c at)
+in_prints : (c : Context) (at : Spot) → Yields (λ _. Within c (whole_group io)) (prints c at)
 in_prints c at = asks (opens c.group io) _ _ λ h. always (in_open c io h)
 
 in_return : (p : Code) (m : Definition) (c : Context) (e : Expression) (at : Spot) → Yields (λ _. Within c (return_uses p m c e)) (judge_return p m c e at)
@@ -274,7 +274,7 @@ in_return p m c e at =
     next (into p c (form t) e) λ name z.
     always (here c m.result _ t (found_is m.result rule.TypeMismatch at t h) ((in_into p c (form t) e).value name z))
 
-in_split : (c : Context) (g : NameAt) (earlier : Names) → Yields (λ _. Within c (whole g.name)) (may_split c.group g earlier)
+in_split : (c : Context) (g : NameAt) (earlier : Names) → Yields (λ _. Within c (whole_group g.name)) (may_split c.group g earlier)
 in_split c g earlier =
     asks (known c.group g.name) _ _ λ _.
     asks (not (earlier g.name)) _ _ λ _.
@@ -319,10 +319,10 @@ opened_if true (Some group.Protected) n h e = absurd (no_truth (h refl))
 opened_if true (Some group.HeldBack) n h e = absurd (no_truth (h refl))
 opened_if true (Some group.None) n h e = absurd (no_truth (h refl))
 
-split_list : (c : Context) (gs : List NameAt) → Yields (λ _. Within c (of_each (λ (g : NameAt). whole g.name) gs) × AreExclusive c.group (has_name (bare_names gs))) (may_split_all c.group gs)
+split_list : (c : Context) (gs : List NameAt) → Yields (λ _. Within c (of_each (λ (g : NameAt). whole_group g.name) gs) × AreExclusive c.group (has_name (bare_names gs))) (may_split_all c.group gs)
 split_list c gs =
     next (in_turn (may_split c.group) gs no_names) λ names e.
-    always ((in_turns c (may_split c.group) (λ (g : NameAt). whole g.name) (in_split c) gs no_names).value names e, (list_exclusive c.group gs no_names).value names e)
+    always ((in_turns c (may_split c.group) (λ (g : NameAt). whole_group g.name) (in_split c) gs no_names).value names e, (list_exclusive c.group gs no_names).value names e)
 
 shared_known : (b : Bool) (o : Option GroupPerm) → is_some o ≡ true → is_some (if b then Some group.Shared else o) ≡ true
 shared_known true o e = refl
@@ -417,7 +417,7 @@ mutual
   visible : (p : Code) (m : Definition) (at : Spot) (a : Action) (c : Context) → Yields (Visible p m a c) (judge_statement p m at a c)
   visible p m at (Declares t x e) c = record {
     value = λ d h.
-        in_both d (writes x.name) (right_uses p c (form t) e) (in_changed d x.name ((new_seen p c t x e).value d h))
+        in_both d (write_use x.name) (right_uses p c (form t) e) (in_changed d x.name ((new_seen p c t x e).value d h))
         (within_later c d (right_uses p c (form t) e) (statements_keep p m at (Declares t x e) c d h) ((in_let p c t x e).value d h));
   }
   visible p m at (Groups g) c =
@@ -426,7 +426,7 @@ mutual
       gives (in_exclusive (record c { group = gs }) g.name (subst (λ (hs : GroupsKnown). group_is group.Exclusive hs g.name ≡ true) ((declared_is g c.group).value gs h).1
       (new_exclusive (nat_eq g.name g.name) (c.group g.name) (same_name g.name))))
   visible p m at (Assigns x e) c = kept p m at (Assigns x e) c (in_assign p c x e)
-  visible p m at (Stores path e) c = kept p m at (Stores path e) c (in_store p c path e (place e))
+  visible p m at (Stores path e) c = kept p m at (Stores path e) c (in_store p c path e (expression_spot e))
   visible p m at (StoresAt path i e) c = kept p m at (StoresAt path i e) c (in_store_at p c path i e)
   visible p m at (Calls i) c = kept p m at (Calls i) c (next (judge_call p c i) λ d h. always ((in_call p c i).value d h))
   visible p m at (Chooses e n b) c = kept p m at (Chooses e n b) c (
@@ -447,7 +447,7 @@ mutual
   visible p m at (Splits gs n b) c = kept p m at (Splits gs n b) c (
       next (may_split_all c.group gs) λ u e.
       let all = (split_list c gs).value u e in
-      weaker (λ _ k. in_both c (of_each (λ (g : NameAt). whole g.name) gs) (outside c (lines_use p m b (while_split gs c)))
+      weaker (λ _ k. in_both c (of_each (λ (g : NameAt). whole_group g.name) gs) (outside c (lines_use p m b (while_split gs c)))
       all.0 (in_block c (while_split gs c) (lines_use p m b (while_split gs c)) (split_opens c gs all.1) k))
       (ended p c b (Inside (while_split gs c) (lines_use p m b (while_split gs c))) (judge_lines p m b (while_split gs c)) (inside p m b (while_split gs c))))
   visible p m at (Locks g n b) c = kept p m at (Locks g n b) c (
@@ -458,7 +458,7 @@ mutual
   visible p m at (Shares x g) c = kept p m at (Shares x g) c (in_share c x g)
   visible p m at (Prints e) c = kept p m at (Prints e) c (
       next (judge_value p c e) λ w h.
-      weaker (λ _ z. in_both c (value_uses p c e) (whole io) ((in_value p c e).value w h) z) (in_prints c at))
+      weaker (λ _ z. in_both c (value_uses p c e) (whole_group io) ((in_value p c e).value w h) z) (in_prints c at))
   visible p m at (PrintsText s) c = kept p m at (PrintsText s) c (in_prints c at)
   visible p m at (Asserts e) c = kept p m at (Asserts e) c (next (is_value p c f.Bool e) λ u h. always ((in_is_value p c f.Bool e).value u h))
   visible p m at (Returns e) c = kept p m at (Returns e) c (in_return p m c e at)

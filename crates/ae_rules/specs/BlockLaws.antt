@@ -1,7 +1,7 @@
 -- What follows from the rules on the blocks of a program and on the contexts in them.
 use Rattle.std.specs.Prelude.{◌≡◌, ℕ, nat_eq, Bool, true, false, if◌then◌else◌, List, [], ◌∷◌, ◌++◌, length, map, Option, Some, option_map}
 use Rattle.std.specs.List.{All}
-use Rattle.ae_tree.specs.Limits.{count}
+use Rattle.ae_tree.specs.Limits.{statement_count}
 use Rattle.ae_text.specs.declared.refusal.Spot.{Spot}
 use Rattle.ae_tree.specs.declared.tree.NameAt.{NameAt}
 use Rattle.ae_tree.specs.declared.form.Form.{Form}
@@ -26,7 +26,7 @@ as_text x = (x.0, x.1.lines)
 -- the block stands in this method, and each of its statements has a context before it
 pub record IsReached (p : Code) (m : Definition) (x : Opened) : Type 0 where
   pub method : x.1.method ≡ m
-  pub statements : length (contexts p m x.1.lines x.1.start) ≡ count x.1.lines
+  pub statements : length (contexts p m x.1.lines x.1.start) ≡ statement_count x.1.lines
 
 -- in an accepted program each block of the text is there with its context, in the order of the text, and each statement in it is reached
 abbrev pub BlocksAreReached : Type 0

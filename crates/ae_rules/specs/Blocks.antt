@@ -1,7 +1,7 @@
 -- The blocks of a method in the order in which they are opened, each with the context in which it begins, and the graph of each.
 use Rattle.std.specs.Prelude.{ℕ, nat_eq, Bool, true, false, if◌then◌else◌, List, [], ◌∷◌, ◌++◌, length, Option, None, Some, option_map}
 use Rattle.ae_rules.specs.Edges.{BlockUses}
-use Rattle.ae_tree.specs.Limits.{count}
+use Rattle.ae_tree.specs.Limits.{statement_count}
 use Rattle.ae_tree.specs.Plain.{Action, Chooses, ChoosesElse, Repeats, Splits, Locks, Lines, End, Next, Definition, Code}
 use Rattle.ae_rules.specs.Verdict.{given, judged}
 use Rattle.ae_rules.specs.Lookups.{method_at}
@@ -21,8 +21,8 @@ abbrev pub block_at : Definition → Lines → Context → Scene
 block_at m b c = record { method = m; lines = b; start = c }
 
 -- the body of a method
-abbrev pub body : Code → Definition → Scene
-body p m = block_at m m.body (start p m)
+abbrev pub body_scene : Code → Definition → Scene
+body_scene p m = block_at m m.body (start p m)
 
 -- the first, or else the second
 abbrev pub or_else : {A : Type 0} → Option A → Option A → Option A
@@ -76,11 +76,11 @@ abbrev mutual
 
 -- all blocks of a method, its body first
 abbrev pub all_scenes : Code → Definition → List Opened
-all_scenes p m = (m.no, body p m) ∷ scenes_among p m true m.body (start p m)
+all_scenes p m = (m.no, body_scene p m) ∷ scenes_among p m true m.body (start p m)
 
 -- the blocks of a method that are not inside an atomic block, its body first
 abbrev pub scenes : Code → Definition → List Opened
-scenes p m = (m.no, body p m) ∷ scenes_among p m false m.body (start p m)
+scenes p m = (m.no, body_scene p m) ∷ scenes_among p m false m.body (start p m)
 
 -- the block with this number among these
 abbrev pub scene_numbered : ℕ → List Opened → Option Scene
@@ -98,7 +98,7 @@ abbrev pub scene_uses : Code → Scene → BlockUses
 scene_uses p s = block_uses p s.method s.lines s.start
 
 abbrev pub scene_graph : Code → Scene → List (List ℕ)
-scene_graph p s = graph (length p.names) (scene_uses p s) (count s.lines)
+scene_graph p s = graph (length p.names) (scene_uses p s) (statement_count s.lines)
 
 -- For each statement of this block of the method with this number, the statements for which it waits. A block inside an atomic block has no graph.
 abbrev pub graph_of : Code → ℕ → ℕ → Option (List (List ℕ))

@@ -12,22 +12,22 @@ use Rattle.ae_rules.specs.Edges.{Uses, BlockUses, Edge, Preds}
 -- ---- uses
 
 -- an expression reads this local
-abbrev pub reads : Expression → ℕ → Bool
-reads (Number n at) y = false
-reads (Truth b at) y = false
-reads (Nothing at) y = false
-reads (plain.Read p) y = nat_eq p.root.name y
-reads (Item p e) y = nat_eq p.root.name y || reads e y
-reads (Length p at) y = nat_eq p.root.name y
-reads (Grouped e at) y = reads e y
-reads (Negated e at) y = reads e y
-reads (Minus e at) y = reads e y
-reads (Binary op a b) y = reads a y || reads b y
+abbrev pub reads_local : Expression → ℕ → Bool
+reads_local (Number n at) y = false
+reads_local (Truth b at) y = false
+reads_local (Nothing at) y = false
+reads_local (plain.Read p) y = nat_eq p.root.name y
+reads_local (Item p e) y = nat_eq p.root.name y || reads_local e y
+reads_local (Length p at) y = nat_eq p.root.name y
+reads_local (Grouped e at) y = reads_local e y
+reads_local (Negated e at) y = reads_local e y
+reads_local (Minus e at) y = reads_local e y
+reads_local (Binary op a b) y = reads_local a y || reads_local b y
 
 abbrev pub reads_right : RightSide → ℕ → Bool
-reads_right (Value e) y = reads e y
+reads_right (Value e) y = reads_local e y
 reads_right (Taken p at) y = false
-reads_right (Zeros e at) y = reads e y
+reads_right (Zeros e at) y = reads_local e y
 reads_right (Made c groups args at) y = false
 reads_right (Returned c) y = false
 
@@ -38,7 +38,7 @@ read_if b = if b then Some Read else None
 abbrev pub local_mode : Action → ℕ → Option Mode
 local_mode (Declares ty x e) y = if nat_eq x.name y then Some Write else read_if (reads_right e y)
 local_mode (Assigns x e) y = if nat_eq x.name y then Some Write else read_if (reads_right e y)
-local_mode (Prints e) y = read_if (reads e y)
+local_mode (Prints e) y = read_if (reads_local e y)
 local_mode _ y = None
 
 -- how a statement uses a group; printing uses the whole of `io`
@@ -67,8 +67,8 @@ abbrev pub use_at : Lines → BlockUses
 use_at b i r = used_by (statement_at b i) r
 
 -- statement j of a block waits for statement i
-abbrev pub IsEdge : Lines → ℕ → ℕ → Type 0
-IsEdge b i j = Edge (use_at b) i j
+abbrev pub IsBuiltEdge : Lines → ℕ → ℕ → Type 0
+IsBuiltEdge b i j = Edge (use_at b) i j
 
 -- ---- the graph of a block
 

@@ -20,14 +20,14 @@ use Rattle.ae_rules.specs.declared.held.Held.{Held}
 use Rattle.ae_rules.specs.declared.held.Held.TheVariants as held
 use Rattle.ae_rules.specs.Verdict.{Verdict, Holds, Broken, ◌>>=◌, ◌>>◌, require, found, in_turn, given}
 use Rattle.ae_rules.specs.Shares.{Share, splits, joins}
-use Rattle.ae_rules.specs.Forms.{same_perm, is_object, is_of_kind, is_unique, in_place, form_with}
+use Rattle.ae_rules.specs.Forms.{same_perm, is_object, is_object_of, is_unique, in_place, form_with}
 use Rattle.ae_rules.specs.Lookups.{Names, class_called, class_of, groups_of, method_at, method_number, top_number, field_form, own_kind}
 use Rattle.ae_rules.specs.Types.{groups_fit}
 use Rattle.ae_rules.specs.Table.{no_names, and_also}
-use Rattle.ae_rules.specs.Groups.{known, wanted, needs_met}
-use Rattle.ae_rules.specs.Context.{Context, same_held, held_in, with_held, moved}
+use Rattle.ae_rules.specs.Groups.{known, wanted_need, needs_met}
+use Rattle.ae_rules.specs.Context.{Context, same_held, held_in, with_held, with_name_moved}
 use Rattle.ae_rules.specs.Walks.{walk, is_name}
-use Rattle.ae_rules.specs.Expressions.{place, is_value}
+use Rattle.ae_rules.specs.Expressions.{expression_spot, is_value}
 use Rattle.ae_rules.specs.Into.{Source, Null, From, source, may_leave, into_immutable, into_shared, into, unique_of}
 
 -- ---- one place used twice
@@ -61,7 +61,7 @@ source_apart unique _ at before = Holds before
 abbrev pub apart : Form → Expression → Roots → Verdict Roots
 apart f.Int e before = Holds before
 apart f.Bool e before = Holds before
-apart (f.Object q k) e before = source_apart (is_unique (f.Object q k)) (source e) (place e) before
+apart (f.Object q k) e before = source_apart (is_unique (f.Object q k)) (source e) (expression_spot e) before
 
 -- ---- a new object
 
@@ -75,15 +75,15 @@ abbrev pub fills : Code → Context → Form × Expression → Filled → Verdic
 fills p c x before =
     apart x.0 x.1 before.roots >>= λ roots.
     into p c x.0 x.1 >>= λ name.
-    Holds (record { roots = roots; after = moved name before.after })
+    Holds (record { roots = roots; after = with_name_moved name before.after })
 
 -- a value that was made, and the context after
-pub record Outcome : Type 0 where
+pub record MadeValue : Type 0 where
   pub value : Form
   pub after : Context
 
 -- a new object of a class: its groups, as many arguments as fields, and each argument into its field
-abbrev pub judge_new : Code → Context → NameAt → List NameAt → List Expression → Verdict Outcome
+abbrev pub judge_new : Code → Context → NameAt → List NameAt → List Expression → Verdict MadeValue
 judge_new p c x gs args =
     found (class_called p x.name) rule.UnknownClass x.at >>= λ (k : Class).
     groups_fit (known c.group) (length k.groups) x.at gs >>
@@ -130,18 +130,18 @@ group_in m gs = in_place (m.names ++ bare_names m.method.groups) (m.groups ++ ba
 -- ---- the arguments of a call
 
 -- a parameter's form, and whether what is given to it is gone
-pub record Slot : Type 0 where
+pub record ParamSlot : Type 0 where
   pub form : Form
   pub away : Bool
 
-abbrev pub param_slot : (ℕ → ℕ) → Param → Slot
+abbrev pub param_slot : (ℕ → ℕ) → Param → ParamSlot
 param_slot new x = record { form = form_with new (form x.ty); away = is_some x.away }
 
 -- the receiver is of its class's kind
 abbrev pub me_form : Code → Definition → Me → Form
 me_form p m me = f.Object (perm_of me.perm) (own_kind p m.class)
 
-abbrev pub me_slot : Code → (ℕ → ℕ) → Definition → Me → Slot
+abbrev pub me_slot : Code → (ℕ → ℕ) → Definition → Me → ParamSlot
 me_slot p new m me = record { form = form_with new (me_form p m me); away = is_some me.away }
 
 abbrev pub if_some : {A : Type 0} → Option A → List A → List A
@@ -149,7 +149,7 @@ if_some None xs = xs
 if_some (Some x) xs = x ∷ xs
 
 -- the receiver's slot, and then those of the parameters
-abbrev pub slots : Code → (ℕ → ℕ) → Definition → List Slot
+abbrev pub slots : Code → (ℕ → ℕ) → Definition → List ParamSlot
 slots p new m = if_some (option_map (me_slot p new m) m.me) (map (param_slot new) m.params)
 
 -- the receiver, and then the arguments
@@ -179,7 +179,7 @@ to_param (perm.Shared g) away named h at = may_leave h at >> into_shared g h at
 abbrev pub path_to_param : Code → Context → Perm → Kind → Bool → Path → Spot → Roots → Verdict Roots
 path_to_param p c q k away path at before =
     walk p c path >>= λ w.
-    require (is_of_kind k w.form) rule.TypeMismatch at >>
+    require (is_object_of k w.form) rule.TypeMismatch at >>
     root_apart (is_unique (f.Object q k)) path at before >>= λ roots.
     to_param q away (is_name path) w.held at >>
     Holds roots
@@ -193,16 +193,16 @@ abbrev pub to_form : Code → Context → Form → Bool → Expression → Roots
 to_form p c f.Int away e before = is_value p c f.Int e >> Holds before
 to_form p c f.Bool away e before = is_value p c f.Bool e >> Holds before
 to_form p c (f.Object q k) away e before =
-    found (source e) rule.TypeMismatch (place e) >>= λ s.
-    source_to_param p c q k away s (place e) before
+    found (source e) rule.TypeMismatch (expression_spot e) >>= λ s.
+    source_to_param p c q k away s (expression_spot e) before
 
-abbrev pub to_slot : Code → Context → Slot × Expression → Roots → Verdict Roots
+abbrev pub to_slot : Code → Context → ParamSlot × Expression → Roots → Verdict Roots
 to_slot p c x before = to_form p c x.0.form x.0.away x.1 before
 
 -- ---- what is lent while the call runs
 
 -- A Unique or Lent part of a place below a root that is held Unique. Only a unique one can be gone.
-pub record Part : Type 0 where
+pub record LentPart : Type 0 where
   pub root : ℕ
   pub need : Perm
   pub away : Bool
@@ -213,23 +213,23 @@ is_part perm.Lent = true
 is_part perm.Immutable = false
 is_part (perm.Shared g) = false
 
-abbrev pub part_of : Context → Form → Bool → Option Source → Option Part
-part_of c (f.Object q k) away (Some (From path)) =
+abbrev pub lent_part_of : Context → Form → Bool → Option Source → Option LentPart
+lent_part_of c (f.Object q k) away (Some (From path)) =
     if is_part q && same_held held.Unique (held_in c path.root.name)
     then Some (record { root = path.root.name; need = q; away = away && same_perm perm.Unique q })
     else None
-part_of c _ away _ = None
+lent_part_of c _ away _ = None
 
 -- the parts that the arguments of a call are, in order
-abbrev pub parts : Context → List (Slot × Expression) → List Part
-parts c xs = filter_map (λ (x : Slot × Expression). part_of c x.0.form x.0.away (source x.1)) xs
+abbrev pub argument_parts : Context → List (ParamSlot × Expression) → List LentPart
+argument_parts c xs = filter_map (λ (x : ParamSlot × Expression). lent_part_of c x.0.form x.0.away (source x.1)) xs
 
 -- A part comes back to its root, but for one that is gone; of a share's two members the part is the first.
-abbrev pub given_back : Part → Share → Context → Context
+abbrev pub given_back : LentPart → Share → Context → Context
 given_back x share c = if x.away then c else given (joins (held_in c x.root) share.0) c (λ whole. with_held x.root whole c)
 
 -- The context after a call: the parts are taken from their roots one after another, and then each is given back.
-abbrev pub after_call : List Part → Context → Context
+abbrev pub after_call : List LentPart → Context → Context
 after_call [] c = c
 after_call (x ∷ xs) c = given (splits (held_in c x.root) x.need)
     (after_call xs c)
@@ -248,10 +248,10 @@ judge_callee_with p c i m =
     groups_fit (known c.group) (length m.method.groups) i.method.at i.groups >>
     require (nat_eq (length i.args) (length m.method.params)) rule.ArgumentCount i.method.at >>
     let new : ℕ → ℕ = group_in m i.groups in
-    let pairs : List (Slot × Expression) = zip (slots p new m.method) (givens i) in
+    let pairs : List (ParamSlot × Expression) = zip (slots p new m.method) (givens i) in
     in_turn (to_slot p c) pairs no_roots >>= λ roots.
-    needs_met c.group i.method.at (map (wanted new) m.method.needs) >>
-    Holds (record { result = option_map (λ (t : Ty). form_with new (form t)) m.method.result; after = after_call (parts c pairs) c })
+    needs_met c.group i.method.at (map (wanted_need new) m.method.needs) >>
+    Holds (record { result = option_map (λ (t : Ty). form_with new (form t)) m.method.result; after = after_call (argument_parts c pairs) c })
 
 abbrev pub judge_call : Code → Context → Invocation → Verdict Called
 judge_call p c i = judge_callee p c i.on i.method >>= judge_callee_with p c i

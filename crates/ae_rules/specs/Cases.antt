@@ -8,7 +8,7 @@ use Rattle.ae_rules.specs.declared.uses.Resource.{Resource}
 use Rattle.ae_tree.specs.Plain.{Definition, Code}
 use Rattle.ae_tree.specs.Grammar.{Derives}
 use Rattle.ae_tree.specs.Built.{Built}
-use Rattle.ae_tree.specs.Judgement.{Accepted, Breaks}
+use Rattle.ae_tree.specs.Judgement.{Accepted, TodayBreaks}
 use Rattle.ae_rules.specs.BuiltUses.{use_at}
 use Rattle.ae_rules.specs.Judges.{Accepts, FirstBroken}
 use Rattle.ae_rules.specs.Blocks.{Scene, scene, scene_uses}
@@ -20,12 +20,12 @@ DeclaresOne p = p.decls ≡ decl.Method 0 ∷ []
 -- both accept the program, or neither does; and what the one says is broken first, the other says too
 abbrev pub JudgeAlike : Code → Type 0
 JudgeAlike p = (Accepted p → Accepts p) × (Accepts p → Accepted p)
-    × ((rule : Rule) (at : Spot) → Breaks p rule at → FirstBroken p rule at)
-    × ((rule : Rule) (at : Spot) → FirstBroken p rule at → Breaks p rule at)
+    × ((rule : Rule) (at : Spot) → TodayBreaks p rule at → FirstBroken p rule at)
+    × ((rule : Rule) (at : Spot) → FirstBroken p rule at → TodayBreaks p rule at)
 
 -- a program of forms that run today is judged alike by today's rules and the whole ones
-abbrev pub TodayIsACase : Type 0
-TodayIsACase = (p : Code) → Built p → DeclaresOne p → JudgeAlike p
+abbrev pub TodaysJudgementIsACase : Type 0
+TodaysJudgementIsACase = (p : Code) → Built p → DeclaresOne p → JudgeAlike p
 
 -- a program that was read from tokens, and has forms that run today alone, declares one method
 abbrev pub BuiltDeclaresOne : Type 0

@@ -76,9 +76,9 @@ abbrev pub with_held : ℕ → Held → Context → Context
 with_held x h c = record c { local = λ y. if nat_eq x y then option_map (λ (l : Local). record l { held = h }) (c.local y) else c.local y }
 
 -- a name that is moved holds nothing any more
-abbrev pub moved : Option ℕ → Context → Context
-moved None c = c
-moved (Some x) c = with_held x held.None c
+abbrev pub with_name_moved : Option ℕ → Context → Context
+with_name_moved None c = c
+with_name_moved (Some x) c = with_held x held.None c
 
 -- a block ends: what is held of the locals from outside stays, and the groups are as outside
 abbrev pub closed : Context → Context → Context

@@ -54,13 +54,13 @@ abbrev pub UsesAreAllowed : Type 0
 UsesAreAllowed = (p : Code) (m : Definition) (at : Spot) (a : Action) (c d : Context) (r : Resource) (n : Mode)
     → Judges p m at a c d → statement_uses p m a c r ≡ Some n → is_allowed d r n ≡ true
 
-abbrev pub name_of : Resource → ℕ
-name_of (resource.Local x) = x
-name_of (resource.Group g) = g
+abbrev pub name_of_resource : Resource → ℕ
+name_of_resource (resource.Local x) = x
+name_of_resource (resource.Group g) = g
 
 -- the number of each used name is below this one
 abbrev pub NamesBelow : ℕ → BlockUses → Type 0
-NamesBelow n uses = (i : ℕ) (r : Resource) (m : Mode) → uses i r ≡ Some m → name_of r < n
+NamesBelow n uses = (i : ℕ) (r : Resource) (m : Mode) → uses i r ≡ Some m → name_of_resource r < n
 
 -- the list has exactly the statements from which an edge leads to statement j
 abbrev pub PredsAreEdges : Type 0

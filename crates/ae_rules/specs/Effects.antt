@@ -12,9 +12,9 @@ use Rattle.ae_rules.specs.declared.held.GroupPerm.TheVariants as group
 use Rattle.ae_rules.specs.Verdict.{given}
 use Rattle.ae_rules.specs.Lookups.{has_name, class_called, field_form, field_of}
 use Rattle.ae_rules.specs.Groups.{with_group}
-use Rattle.ae_rules.specs.Context.{Local, Context, held_of, with_local, with_held, moved, closed}
+use Rattle.ae_rules.specs.Context.{Local, Context, held_of, with_local, with_held, with_name_moved, closed}
 use Rattle.ae_rules.specs.Into.{name_into}
-use Rattle.ae_rules.specs.Calls.{Callee, callee_of, top_callee, Slot, group_in, slots, givens}
+use Rattle.ae_rules.specs.Calls.{Callee, callee_of, top_callee, ParamSlot, group_in, slots, givens}
 use Rattle.ae_rules.specs.Statements.{while_split, while_locked}
 
 -- ---- names that move
@@ -37,7 +37,7 @@ callee_for p c None x = top_callee p x.name
 callee_for p c (Some path) x = given (form_at p c path) None (λ (t : Form). callee_of p t x.name)
 
 -- the name that is given away for good: to a unique parameter that does not come back
-abbrev pub gone_name : Slot × Expression → Option ℕ
+abbrev pub gone_name : ParamSlot × Expression → Option ℕ
 gone_name x = if x.0.away then name_into x.0.form x.1 else None
 
 -- a call takes only the names that it is given for good
@@ -52,7 +52,7 @@ made_effect p c x gs args = given (class_called p x.name) c (λ (k : Class).
 
 -- a right side that goes into a form
 abbrev pub right_effect : Code → Context → Form → RightSide → Context
-right_effect p c target (Value e) = moved (name_into target e) c
+right_effect p c target (Value e) = with_name_moved (name_into target e) c
 right_effect p c target (Taken path at) = c
 right_effect p c target (Zeros e at) = c
 right_effect p c target (Made x gs args at) = made_effect p c x gs args
@@ -64,10 +64,10 @@ abbrev pub assign_effect : Code → Context → NameAt → RightSide → Context
 assign_effect p c x e = given (c.local x.name) c (λ (l : Local). with_held x.name (held_of l.form) (right_effect p c l.form e))
 
 abbrev pub store_effect : Code → Context → Path → Expression → Context
-store_effect p c path e = given (form_at p c path) c (λ (t : Form). moved (name_into t e) c)
+store_effect p c path e = given (form_at p c path) c (λ (t : Form). with_name_moved (name_into t e) c)
 
 abbrev pub return_effect : Definition → Context → Expression → Context
-return_effect m c e = given m.result c (λ t. moved (name_into (form t) e) c)
+return_effect m c e = given m.result c (λ t. with_name_moved (name_into (form t) e) c)
 
 abbrev mutual
   -- The context after a statement of a method, from the one before it. A loop and a lone branch leave it as it was.

@@ -15,17 +15,17 @@ use Rattle.ae_rules.specs.Context.{Context, same_held, held_in, access}
 use Rattle.ae_rules.specs.Walks.{walk}
 
 -- the place of an expression's first token
-abbrev pub place : Expression → Spot
-place (Number n at) = at
-place (Truth b at) = at
-place (Nothing at) = at
-place (Read p) = p.root.at
-place (Item p e) = p.root.at
-place (Length p at) = at
-place (Grouped e at) = at
-place (Negated e at) = at
-place (Minus e at) = at
-place (Binary o a b) = place a
+abbrev pub expression_spot : Expression → Spot
+expression_spot (Number n at) = at
+expression_spot (Truth b at) = at
+expression_spot (Nothing at) = at
+expression_spot (Read p) = p.root.at
+expression_spot (Item p e) = p.root.at
+expression_spot (Length p at) = at
+expression_spot (Grouped e at) = at
+expression_spot (Negated e at) = at
+expression_spot (Minus e at) = at
+expression_spot (Binary o a b) = expression_spot a
 
 -- what an operator asks of its operands
 pub data Operands : Type 0 where
@@ -102,9 +102,9 @@ both_have wanted left left_at right right_at = has_form wanted left left_at >> h
 
 -- the operands of an operator, which are judged so, the left one first
 abbrev pub judge_operands : Code → Context → Operands → Expression → Expression → Verdict Form → Verdict Form → Verdict ⊤
-judge_operands p c Numbers a b left right = both_have f.Int left (place a) right (place b)
-judge_operands p c Truths a b left right = both_have f.Bool left (place a) right (place b)
-judge_operands p c Equals a b left right = equal_operands p c (beside_null a b) left right (place b)
+judge_operands p c Numbers a b left right = both_have f.Int left (expression_spot a) right (expression_spot b)
+judge_operands p c Truths a b left right = both_have f.Bool left (expression_spot a) right (expression_spot b)
+judge_operands p c Equals a b left right = equal_operands p c (beside_null a b) left right (expression_spot b)
 
 -- An expression that is an integer or a boolean. `null` and a path to an object are of a wrong form here.
 abbrev pub judge_value : Code → Context → Expression → Verdict Form
@@ -119,7 +119,7 @@ judge_value p c (Item path e) =
     walk p c path >>= λ w.
     require (is_ints w.form) rule.TypeMismatch path.root.at >>
     access c path.root.at w.held >>
-    has_form f.Int (judge_value p c e) (place e) >>
+    has_form f.Int (judge_value p c e) (expression_spot e) >>
     Holds f.Int
 judge_value p c (Length path at) =
     walk p c path >>= λ w.
@@ -127,11 +127,11 @@ judge_value p c (Length path at) =
     access c path.root.at w.held >>
     Holds f.Int
 judge_value p c (Grouped e at) = judge_value p c e
-judge_value p c (Negated e at) = has_form f.Bool (judge_value p c e) (place e) >> Holds f.Bool
-judge_value p c (Minus e at) = has_form f.Int (judge_value p c e) (place e) >> Holds f.Int
+judge_value p c (Negated e at) = has_form f.Bool (judge_value p c e) (expression_spot e) >> Holds f.Bool
+judge_value p c (Minus e at) = has_form f.Int (judge_value p c e) (expression_spot e) >> Holds f.Int
 judge_value p c (Binary o a b) =
     judge_operands p c (operands o) a b (judge_value p c a) (judge_value p c b) >> Holds (result_form o)
 
 -- the expression has this form, int or bool
 abbrev pub is_value : Code → Context → Form → Expression → Verdict ⊤
-is_value p c wanted e = has_form wanted (judge_value p c e) (place e)
+is_value p c wanted e = has_form wanted (judge_value p c e) (expression_spot e)

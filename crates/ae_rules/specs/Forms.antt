@@ -41,13 +41,13 @@ is_object f.Bool = false
 is_object (f.Object q k) = true
 
 -- an object of this kind
-abbrev pub is_of_kind : Kind → Form → Bool
-is_of_kind k f.Int = false
-is_of_kind k f.Bool = false
-is_of_kind k (f.Object q l) = same_kind k l
+abbrev pub is_object_of : Kind → Form → Bool
+is_object_of k f.Int = false
+is_object_of k f.Bool = false
+is_object_of k (f.Object q l) = same_kind k l
 
 abbrev pub is_ints : Form → Bool
-is_ints form = is_of_kind kind.Ints form
+is_ints form = is_object_of kind.Ints form
 
 abbrev pub is_unique : Form → Bool
 is_unique f.Int = false

@@ -48,8 +48,8 @@ group_access gs g at = require (opens gs g) rule.NeedsGroup at
 abbrev pub Wanted : Type 0
 Wanted = Need × ℕ
 
-abbrev pub wanted : (ℕ → ℕ) → GroupNeed → Wanted
-wanted new n = (n.need, new n.group.name)
+abbrev pub wanted_need : (ℕ → ℕ) → GroupNeed → Wanted
+wanted_need new n = (n.need, new n.group.name)
 
 abbrev pub are_shared : Need → Need → Bool
 are_shared need_of.Shared need_of.Shared = true
@@ -136,9 +136,9 @@ held_back (Some group.Shared) = Some group.HeldBack
 held_back q = q
 
 -- in an atomic block its group is protected, and every other shared group is held back
-abbrev pub locked_in : ℕ → Groups → Groups
-locked_in g gs = λ h. if nat_eq g h then Some group.Protected else held_back (gs h)
+abbrev pub while_others_held_back : ℕ → Groups → Groups
+while_others_held_back g gs = λ h. if nat_eq g h then Some group.Protected else held_back (gs h)
 
 -- all is asked of the groups before, and then one is protected
 abbrev pub enter_atomic : NameAt → Groups → Verdict Groups
-enter_atomic g gs = may_lock gs g >> Holds (locked_in g.name gs)
+enter_atomic g gs = may_lock gs g >> Holds (while_others_held_back g.name gs)

@@ -9,7 +9,7 @@ use Rattle.ae_tree.specs.declared.form.Form.{Form}
 use Rattle.ae_tree.specs.Form.{bare_names}
 use Rattle.ae_tree.specs.Names.{io, main, this}
 use Rattle.ae_rules.specs.BuiltUses.{statement_at}
-use Rattle.ae_tree.specs.Limits.{count}
+use Rattle.ae_tree.specs.Limits.{statement_count}
 use Rattle.ae_rules.specs.Edges.{IsConflict, Uses, Before}
 use Rattle.ae_tree.specs.Plain.{Expression, Invocation, RightSide, Value, Taken, Zeros, Made, Returned, Definition, Code}
 use Rattle.ae_tree.specs.Plain.{Action, Declares, Assigns, Calls, Chooses, ChoosesElse, Repeats, Splits, Locks}
@@ -18,11 +18,11 @@ use Rattle.ae_rules.specs.Forms.{is_unique, is_object}
 use Rattle.ae_rules.specs.Lookups.{top_called, is_empty}
 use Rattle.ae_rules.specs.Context.{Context}
 use Rattle.ae_rules.specs.Into.{Source, Null, From, source}
-use Rattle.ae_rules.specs.Calls.{Callee, judge_callee, Slot, group_in, if_some, slots, givens}
+use Rattle.ae_rules.specs.Calls.{Callee, judge_callee, ParamSlot, group_in, if_some, slots, givens}
 use Rattle.ae_rules.specs.Statements.{while_split, while_locked}
 use Rattle.ae_rules.specs.Judges.{start}
-use Rattle.ae_rules.specs.Uses.{nothing, one, reads, together, ◌∪◌, of_each, of_judged, of_found, outside, all_but, statement_uses, context_at}
-use Rattle.ae_rules.specs.Blocks.{Scene, block_at, body, scene_uses}
+use Rattle.ae_rules.specs.Uses.{nothing, use_alone, read_use, together, ◌∪◌, of_each, of_judged, of_found, outside, all_but, statement_uses, context_at}
+use Rattle.ae_rules.specs.Blocks.{Scene, block_at, body_scene, scene_uses}
 
 -- A statement as it runs: the numbers of the statements that lead to it, each inside the one before. After an `if` stands
 -- the number of the branch, 0 or 1, and after a `while` that of the turn. A path may also end with a turn: the loop from there on.
@@ -44,7 +44,7 @@ pub data Point : Type 0 where
 
 -- inside a call stands the body of the method
 abbrev pub in_call : Code → Bool → Context → Invocation → Point
-in_call p locked c i = judged (judge_callee p c i.on i.method) Nowhere (λ (k : Callee). InBlock locked (body p k.method))
+in_call p locked c i = judged (judge_callee p c i.on i.method) Nowhere (λ (k : Callee). InBlock locked (body_scene p k.method))
 
 abbrev pub in_right : Code → Bool → Context → RightSide → Point
 in_right p locked c (Returned i) = in_call p locked c i
@@ -77,7 +77,7 @@ inside p Nowhere i = Nowhere
 
 -- where a run begins: in the body of `main`
 abbrev pub first_point : Code → Point
-first_point p = given (top_called p main) Nowhere (λ m. InBlock false (body p m))
+first_point p = given (top_called p main) Nowhere (λ m. InBlock false (body_scene p m))
 
 -- ---- where two part
 
@@ -105,7 +105,7 @@ parting p q r = parting_from p (first_point p) q r
 -- Inside one atomic block source order holds among what is there; else a chain of edges leads from the one statement to the other, or they are two
 -- turns of a loop.
 abbrev pub IsFirstAt : Code → Point → ℕ → ℕ → Type 0
-IsFirstAt p (InBlock locked s) i j = ((locked ≡ true) × (i < j) × (j < count s.lines)) ⊎ Before (scene_uses p s) i j
+IsFirstAt p (InBlock locked s) i j = ((locked ≡ true) × (i < j) × (j < statement_count s.lines)) ⊎ Before (scene_uses p s) i j
 IsFirstAt p (AtChoice locked s other) i j = (locked ≡ true) × (i < j) × (j < 2)
 IsFirstAt p (AtLoop locked uses s) i j = i < j
 IsFirstAt p Nowhere i j = ⊥
@@ -120,14 +120,14 @@ pub record Ordered (p : Code) (first second : Instance) : Type 0 where
 
 -- a resource that is used inside, under its name outside
 abbrev pub renamed : Option Mode → Resource → Uses
-renamed o r = of_found o (λ m. one m r)
+renamed o r = of_found o (λ m. use_alone m r)
 
 -- The use of a parameter by what it was given: of a unique one it counts for the root, of another object as a read, and else for nothing.
 abbrev pub source_outside : Form → Option Mode → Source → Uses
 source_outside form o Null = nothing
 source_outside form o (From path) = if is_unique form
     then renamed o (resource.Local path.root.name)
-    else of_found o (λ m. reads path.root.name)
+    else of_found o (λ m. read_use path.root.name)
 
 abbrev pub param_outside : Form → Option Mode → Expression → Uses
 param_outside form o e = if is_object form then of_found (source e) (source_outside form o) else nothing
@@ -137,7 +137,7 @@ abbrev pub param_names : Definition → List ℕ
 param_names m = if_some (option_map (λ (x : Me). this) m.me) (map (λ (x : Param). x.name.name) m.params)
 
 -- the parameters of a method that is called, each with the name and the slot, and what it is given
-abbrev pub params_given : Code → Invocation → Callee → List (ℕ × (Slot × Expression))
+abbrev pub params_given : Code → Invocation → Callee → List (ℕ × (ParamSlot × Expression))
 params_given p i k = zip (param_names k.method) (zip (slots p (group_in k i.groups) k.method) (givens i))
 
 -- the groups that a method knows at its start
@@ -147,7 +147,7 @@ group_names k = io ∷ k.names ++ bare_names k.method.groups
 -- what is used in the body of a method, as it counts at the call: by its parameters and by its groups
 abbrev pub callee_outside : Code → Invocation → Uses → Callee → Uses
 callee_outside p i u k =
-    of_each (λ (x : ℕ × (Slot × Expression)). param_outside x.1.0.form (u (resource.Local x.0)) x.1.1) (params_given p i k)
+    of_each (λ (x : ℕ × (ParamSlot × Expression)). param_outside x.1.0.form (u (resource.Local x.0)) x.1.1) (params_given p i k)
     ∪ of_each (λ g. renamed (u (resource.Group g)) (resource.Group (group_in k i.groups g))) (group_names k)
 
 -- what is declared in the body counts for nothing

@@ -13,10 +13,10 @@ use Rattle.ae_tree.specs.Plain.{Expression, Nothing, Read, Code}
 use Rattle.ae_rules.specs.declared.held.Held.{Held}
 use Rattle.ae_rules.specs.declared.held.Held.TheVariants as held
 use Rattle.ae_rules.specs.Verdict.{Verdict, Holds, Broken, ◌>>=◌, ◌>>◌, fine, require, found, given}
-use Rattle.ae_rules.specs.Forms.{same_perm, same_value, same_kind, is_of_kind}
+use Rattle.ae_rules.specs.Forms.{same_perm, same_value, same_kind, is_object_of}
 use Rattle.ae_rules.specs.Context.{Context, same_held}
 use Rattle.ae_rules.specs.Walks.{walk, is_name}
-use Rattle.ae_rules.specs.Expressions.{place, is_value}
+use Rattle.ae_rules.specs.Expressions.{expression_spot, is_value}
 
 -- ---- an expression into a form
 
@@ -59,7 +59,7 @@ into_perm (perm.Shared g) named h at = into_shared g h at
 abbrev pub path_into : Code → Context → Perm → Kind → Path → Spot → Verdict ⊤
 path_into p c q k path at =
     walk p c path >>= λ w.
-    require (is_of_kind k w.form) rule.TypeMismatch at >>
+    require (is_object_of k w.form) rule.TypeMismatch at >>
     may_leave w.held at >>
     into_perm q (is_name path) w.held at
 
@@ -88,8 +88,8 @@ abbrev pub into : Code → Context → Form → Expression → Verdict (Option �
 into p c f.Int e = is_value p c f.Int e >> Holds None
 into p c f.Bool e = is_value p c f.Bool e >> Holds None
 into p c (f.Object q k) e =
-    found (source e) rule.TypeMismatch (place e) >>= λ s.
-    source_into p c q k s (place e)
+    found (source e) rule.TypeMismatch (expression_spot e) >>= λ s.
+    source_into p c q k s (expression_spot e)
 
 -- ---- a made value into a form
 

@@ -56,10 +56,10 @@ param_called xs y = find (λ (x : Param). nat_eq x.name.name y) xs
 abbrev pub locals_at_start : Code → Definition → ℕ → Option Local
 locals_at_start p m y = if nat_eq this y then option_map (me_local p m) m.me else option_map param_local (param_called m.params y)
 
-abbrev pub needed : Need → GroupPerm
-needed need_of.Exclusive = group.Exclusive
-needed need_of.Shared = group.Shared
-needed need_of.Protected = group.Protected
+abbrev pub permission_needed : Need → GroupPerm
+permission_needed need_of.Exclusive = group.Exclusive
+permission_needed need_of.Shared = group.Shared
+permission_needed need_of.Protected = group.Protected
 
 abbrev pub need_for : List GroupNeed → ℕ → Option GroupNeed
 need_for ns g = find (λ (n : GroupNeed). nat_eq n.group.name g) ns
@@ -70,7 +70,7 @@ knows p m g = nat_eq io g || has_name (groups_of (own_kind p m.class)) g || has_
 
 -- a known group has the permission of its need, or None
 abbrev pub groups_at_start : Code → Definition → ℕ → Option GroupPerm
-groups_at_start p m g = if knows p m g then Some (given (need_for m.needs g) group.None (λ (n : GroupNeed). needed n.need)) else None
+groups_at_start p m g = if knows p m g then Some (given (need_for m.needs g) group.None (λ (n : GroupNeed). permission_needed n.need)) else None
 
 -- the context at a method's start
 abbrev pub start : Code → Definition → Context
@@ -89,15 +89,15 @@ returns (Next at a End) = is_return a
 returns (Next at a (Next at' a' rest)) = returns (Next at' a' rest)
 
 -- a unique parameter that comes back is held Unique
-abbrev pub comes_back : Context → NameAt → Form → Option Spot → Verdict ⊤
-comes_back c x form away =
+abbrev pub must_come_back : Context → NameAt → Form → Option Spot → Verdict ⊤
+must_come_back c x form away =
     require (not (is_unique form && is_none away) || same_held held.Unique (held_in c x.name)) rule.NotReturned x.at
 
 abbrev pub me_comes_back : Code → Definition → Context → Me → Verdict ⊤
-me_comes_back p m c me = comes_back c (record { name = this; at = me.at }) (me_form p m me) me.away
+me_comes_back p m c me = must_come_back c (record { name = this; at = me.at }) (me_form p m me) me.away
 
 abbrev pub param_comes_back : Context → Param → Verdict ⊤
-param_comes_back c x = comes_back c x.name (form x.ty) x.away
+param_comes_back c x = must_come_back c x.name (form x.ty) x.away
 
 -- a method that is not `void` ends with `return`, and what was lent uniquely comes back
 abbrev pub end_method : Code → Definition → Context → Verdict ⊤

@@ -17,7 +17,7 @@ use Rattle.ae_tree.specs.Form.{bare_names}
 use Rattle.ae_rules.specs.Verdict.{Holds, in_turn}
 use Rattle.ae_rules.specs.Groups.{Groups, declare, forget, enter_split, exclusive_again}
 use Rattle.ae_rules.specs.Into.{into, name_into}
-use Rattle.ae_rules.specs.Calls.{Part, after_call}
+use Rattle.ae_rules.specs.Calls.{LentPart, after_call}
 use Rattle.ae_rules.specs.Judges.{Judges, Breaks, Accepts, FirstBroken}
 
 -- each statement is judged or broken
@@ -55,20 +55,20 @@ abbrev pub MovesByItsText : Type 0
 MovesByItsText = (p : Code) (c : Context) (form : Form) (e : Expression) (name : Option ℕ) → into p c form e ≡ Holds name → name ≡ name_into form e
 
 -- no part of this local is given away for good
-abbrev pub none_away : List Part → ℕ → Bool
-none_away xs y = list_all (λ (x : Part). not (nat_eq x.root y && x.away)) xs
+abbrev pub none_away : List LentPart → ℕ → Bool
+none_away xs y = list_all (λ (x : LentPart). not (nat_eq x.root y && x.away)) xs
 
 -- after a call a local of which no part is given away is as before
 abbrev pub CallsGiveBack : Type 0
-CallsGiveBack = (xs : List Part) (c : Context) (y : ℕ) → none_away xs y ≡ true → (after_call xs c).local y ≡ c.local y
+CallsGiveBack = (xs : List LentPart) (c : Context) (y : ℕ) → none_away xs y ≡ true → (after_call xs c).local y ≡ c.local y
 
 -- these are no parts of this local
-abbrev pub none_of : List Part → ℕ → Bool
-none_of xs y = list_all (λ (x : Part). not (nat_eq x.root y)) xs
+abbrev pub none_of : List LentPart → ℕ → Bool
+none_of xs y = list_all (λ (x : LentPart). not (nat_eq x.root y)) xs
 
 -- after a call a name that was given away as unique holds nothing
 abbrev pub GivenAwayIsGone : Type 0
-GivenAwayIsGone = (xs ys : List Part) (x : Part) (c : Context)
+GivenAwayIsGone = (xs ys : List LentPart) (x : LentPart) (c : Context)
     → none_of xs x.root ≡ true → x.need ≡ need.Unique → x.away ≡ true → held_in c x.root ≡ held.Unique
     → held_in (after_call (xs ++ x ∷ ys) c) x.root ≡ held.None
 

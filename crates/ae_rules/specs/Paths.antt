@@ -17,10 +17,10 @@ comes_before (i ∷ q) [] = false
 comes_before (i ∷ q) (j ∷ r) = nat_lt i j || (nat_eq i j && comes_before q r)
 
 -- the second path is the first one or goes on from it
-abbrev pub begins : Instance → Instance → Bool
-begins [] r = true
-begins (i ∷ q) [] = false
-begins (i ∷ q) (j ∷ r) = nat_eq i j && begins q r
+abbrev pub is_prefix_of : Instance → Instance → Bool
+is_prefix_of [] r = true
+is_prefix_of (i ∷ q) [] = false
+is_prefix_of (i ∷ q) (j ∷ r) = nat_eq i j && is_prefix_of q r
 
 -- the later of two in source order
 abbrev pub later_of : Instance → Instance → Instance
@@ -29,16 +29,16 @@ later_of q r = if comes_before q r then r else q
 -- ---- simple statements
 
 -- the statement with this number at a point; a branch and a turn are none
-abbrev pub statement_of : Point → ℕ → Option Action
-statement_of (InBlock locked s) i = statement_at s.lines i
-statement_of (AtChoice locked s other) i = None
-statement_of (AtLoop locked uses s) i = None
-statement_of Nowhere i = None
+abbrev pub statement_at_point : Point → ℕ → Option Action
+statement_at_point (InBlock locked s) i = statement_at s.lines i
+statement_at_point (AtChoice locked s other) i = None
+statement_at_point (AtLoop locked uses s) i = None
+statement_at_point Nowhere i = None
 
 -- the statement that this path leads to from a point
 abbrev pub statement_from : Code → Point → List ℕ → Option Action
 statement_from p at [] = None
-statement_from p at (i ∷ q) = if is_empty q then statement_of at i else statement_from p (inside p at i) q
+statement_from p at (i ∷ q) = if is_empty q then statement_at_point at i else statement_from p (inside p at i) q
 
 abbrev pub is_call : RightSide → Bool
 is_call (Returned i) = true

@@ -16,10 +16,10 @@ use Rattle.ae_rules.specs.declared.held.Held.TheVariants as held
 use Rattle.ae_rules.specs.Verdict.{Verdict, Holds, Broken, ◌>>=◌, ◌>>◌, fine, require, found, given}
 use Rattle.ae_rules.specs.Forms.{is_object, is_ints, is_unique}
 use Rattle.ae_rules.specs.Types.{is_group, forms_type}
-use Rattle.ae_rules.specs.Groups.{known, group_access, declare, may_split_all, may_lock, shared_in, locked_in}
-use Rattle.ae_rules.specs.Context.{Local, Context, held_of, same_held, held_in, is_visible, each_name, with_local, with_held, moved, closed, hold_alike}
+use Rattle.ae_rules.specs.Groups.{known, group_access, declare, may_split_all, may_lock, shared_in, while_others_held_back}
+use Rattle.ae_rules.specs.Context.{Local, Context, held_of, same_held, held_in, is_visible, each_name, with_local, with_held, with_name_moved, closed, hold_alike}
 use Rattle.ae_rules.specs.Walks.{walk, write_access, owner_write_access}
-use Rattle.ae_rules.specs.Expressions.{place, judge_value, is_value}
+use Rattle.ae_rules.specs.Expressions.{expression_spot, judge_value, is_value}
 use Rattle.ae_rules.specs.Into.{into, made_into, unique_of}
 use Rattle.ae_rules.specs.Calls.{judge_new, judge_call}
 
@@ -43,7 +43,7 @@ result_into (Some value) target at = made_into value target at
 abbrev pub judge_right : Code → Context → Form → RightSide → Verdict Context
 judge_right p c target (Value e) =
     into p c target e >>= λ name.
-    Holds (moved name c)
+    Holds (with_name_moved name c)
 judge_right p c target (Taken path at) =
     judge_take p c path at >>= λ value.
     made_into value target at >>
@@ -87,7 +87,7 @@ judge_store p c path e e_at =
     owner_write_access p c path >>
     into p c w.form e >>= λ name.
     require (not (is_moved name path.root.name)) rule.UsedTwice e_at >>
-    Holds (moved name c)
+    Holds (with_name_moved name c)
 
 -- a write to an item of integers
 abbrev pub judge_store_at : Code → Context → Path → Expression → Expression → Verdict Context
@@ -132,7 +132,7 @@ abbrev pub judge_return : Code → Definition → Context → Expression → Spo
 judge_return p m c e at =
     found m.result rule.TypeMismatch at >>= λ t.
     into p c (form t) e >>= λ name.
-    Holds (moved name c)
+    Holds (with_name_moved name c)
 
 -- ---- blocks
 
@@ -158,7 +158,7 @@ while_split gs c = record c { group = shared_in gs c.group }
 
 -- in an atomic block its group is protected, and every other shared group is held back
 abbrev pub while_locked : ℕ → Context → Context
-while_locked g c = record c { group = locked_in g c.group }
+while_locked g c = record c { group = while_others_held_back g c.group }
 
 -- after both branches each local from outside holds the same; a branch that is missing leaves the context as it was
 abbrev pub branches_meet : Code → Context → Spot → Context → Context → Verdict Context
@@ -173,7 +173,7 @@ abbrev mutual
   pub judge_statement : Code → Definition → Spot → Action → Context → Verdict Context
   judge_statement p m at (Declares t x e) c = judge_let p c t x e
   judge_statement p m at (Assigns x e) c = judge_assign p c x e
-  judge_statement p m at (Stores path e) c = judge_store p c path e (place e)
+  judge_statement p m at (Stores path e) c = judge_store p c path e (expression_spot e)
   judge_statement p m at (StoresAt path i e) c = judge_store_at p c path i e
   judge_statement p m at (Calls i) c =
       judge_call p c i >>= λ called.

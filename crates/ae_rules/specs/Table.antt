@@ -25,6 +25,7 @@ use Rattle.ae_rules.specs.Verdict.{Verdict, Holds, Broken, ◌>>=◌, ◌>>◌, 
 use Rattle.ae_rules.specs.Forms.{is_ints, is_unique}
 use Rattle.ae_rules.specs.Lookups.{Names, is_empty, class_at, method_at, top_called, member_names}
 use Rattle.ae_rules.specs.Types.{forms_perm, forms_type}
+use Rattle.ae_text.specs.Tokens.{first_spot}
 
 abbrev pub no_names : Names
 no_names x = false
@@ -158,9 +159,6 @@ are_main_needs (n ∷ m ∷ ns) = false
 -- no result and no groups
 abbrev pub is_main : Definition → Bool
 is_main m = is_none m.result && is_empty m.groups && are_main_params m.params && are_main_needs m.needs
-
-abbrev pub first_spot : Spot
-first_spot = record { line = 1; col = 1 }
 
 abbrev pub has_main : Code → Verdict ⊤
 has_main p =

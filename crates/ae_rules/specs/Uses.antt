@@ -23,11 +23,11 @@ use Rattle.ae_rules.specs.declared.held.Held.{Held}
 use Rattle.ae_rules.specs.declared.held.Held.TheVariants as held
 use Rattle.ae_rules.specs.Verdict.{Verdict, given, judged}
 use Rattle.ae_rules.specs.Lookups.{class_called, field_form}
-use Rattle.ae_rules.specs.Groups.{Wanted, wanted, known}
+use Rattle.ae_rules.specs.Groups.{Wanted, wanted_need, known}
 use Rattle.ae_rules.specs.Context.{Local, Context}
 use Rattle.ae_rules.specs.Walks.{Place, step, walk, owner}
 use Rattle.ae_rules.specs.Into.{Source, Null, From, source, moves}
-use Rattle.ae_rules.specs.Calls.{Callee, judge_callee, Slot, group_in, slots, givens}
+use Rattle.ae_rules.specs.Calls.{Callee, judge_callee, ParamSlot, group_in, slots, givens}
 use Rattle.ae_rules.specs.Statements.{while_split, while_locked, judge_statement}
 
 -- ---- uses put together
@@ -41,22 +41,22 @@ same_resource (resource.Group g) (resource.Group h) = nat_eq g h
 same_resource _ _ = false
 
 -- this resource alone, so used
-abbrev pub one : Mode → Resource → Uses
-one m r = λ s. if same_resource r s then Some m else None
+abbrev pub use_alone : Mode → Resource → Uses
+use_alone m r = λ s. if same_resource r s then Some m else None
 
-abbrev pub reads : ℕ → Uses
-reads x = one mode.Read (resource.Local x)
+abbrev pub read_use : ℕ → Uses
+read_use x = use_alone mode.Read (resource.Local x)
 
-abbrev pub writes : ℕ → Uses
-writes x = one mode.Write (resource.Local x)
+abbrev pub write_use : ℕ → Uses
+write_use x = use_alone mode.Write (resource.Local x)
 
 -- the whole group, so that no other statement uses it meanwhile
-abbrev pub whole : ℕ → Uses
-whole g = one mode.GroupWhole (resource.Group g)
+abbrev pub whole_group : ℕ → Uses
+whole_group g = use_alone mode.GroupWhole (resource.Group g)
 
 -- the group together with others
 abbrev pub together : ℕ → Uses
-together g = one mode.GroupShared (resource.Group g)
+together g = use_alone mode.GroupShared (resource.Group g)
 
 -- the stronger of two modes of one resource
 abbrev pub stronger : Option Mode → Option Mode → Option Mode
@@ -98,19 +98,19 @@ all_but r u = λ s. if same_resource r s then None else u s
 -- ---- paths
 
 -- A step, an index, a length or a write at an object of which this is held: a member of a group is reached with the whole group.
-abbrev pub reach : Held → Uses
-reach (held.Shared g) = whole g
-reach (held.Inner g) = whole g
-reach held.Unique = nothing
-reach (held.Split n) = nothing
-reach held.Immutable = nothing
-reach held.Lent = nothing
-reach held.None = nothing
+abbrev pub reach_use : Held → Uses
+reach_use (held.Shared g) = whole_group g
+reach_use (held.Inner g) = whole_group g
+reach_use held.Unique = nothing
+reach_use (held.Split n) = nothing
+reach_use held.Immutable = nothing
+reach_use held.Lent = nothing
+reach_use held.None = nothing
 
 -- the steps of a path from a place
 abbrev pub steps_use : Code → Context → Spot → List NameAt → Place → Uses
 steps_use p c at [] from = nothing
-steps_use p c at (x ∷ xs) from = reach from.held ∪ of_judged (step p c at x from) (steps_use p c at xs)
+steps_use p c at (x ∷ xs) from = reach_use from.held ∪ of_judged (step p c at x from) (steps_use p c at xs)
 
 -- the steps of a path
 abbrev pub walk_uses : Code → Context → Path → Uses
@@ -118,16 +118,16 @@ walk_uses p c path = of_found (c.local path.root.name) (λ (l : Local). steps_us
 
 -- a path that is read
 abbrev pub path_uses : Code → Context → Path → Uses
-path_uses p c path = reads path.root.name ∪ walk_uses p c path
+path_uses p c path = read_use path.root.name ∪ walk_uses p c path
 
 -- the object at a path's end is reached
 abbrev pub end_uses : Code → Context → Path → Uses
-end_uses p c path = walk_uses p c path ∪ of_judged (walk p c path) (λ w. reach w.held)
+end_uses p c path = walk_uses p c path ∪ of_judged (walk p c path) (λ w. reach_use w.held)
 
 -- the root of a path to an object that is written: it is written itself, where the object is held Unique
 abbrev pub root_written : Held → ℕ → Uses
-root_written held.Unique x = writes x
-root_written _ x = reads x
+root_written held.Unique x = write_use x
+root_written _ x = read_use x
 
 -- a write to the object at a path's end
 abbrev pub write_uses : Code → Context → Path → Uses
@@ -141,8 +141,8 @@ value_uses p c (Number n at) = nothing
 value_uses p c (Truth b at) = nothing
 value_uses p c (Nothing at) = nothing
 value_uses p c (Read path) = path_uses p c path
-value_uses p c (Item path e) = reads path.root.name ∪ end_uses p c path ∪ value_uses p c e
-value_uses p c (Length path at) = reads path.root.name ∪ end_uses p c path
+value_uses p c (Item path e) = read_use path.root.name ∪ end_uses p c path ∪ value_uses p c e
+value_uses p c (Length path at) = read_use path.root.name ∪ end_uses p c path
 value_uses p c (Grouped e at) = value_uses p c e
 value_uses p c (Negated e at) = value_uses p c e
 value_uses p c (Minus e at) = value_uses p c e
@@ -151,7 +151,7 @@ value_uses p c (Binary o a b) = value_uses p c a ∪ value_uses p c b
 -- a source that goes into a form with this permission; a name that moves is written
 abbrev pub source_uses : Code → Context → Perm → Source → Uses
 source_uses p c q Null = nothing
-source_uses p c q (From path) = path_uses p c path ∪ of_found (moves q path) writes
+source_uses p c q (From path) = path_uses p c path ∪ of_found (moves q path) write_use
 
 -- an expression into a form
 abbrev pub into_uses : Code → Context → Form → Expression → Uses
@@ -163,10 +163,10 @@ into_uses p c (f.Object q k) e = of_found (source e) (source_uses p c q)
 
 -- the root of an argument for a parameter with this permission
 abbrev pub root_lent : Perm → ℕ → Uses
-root_lent perm.Unique x = writes x
-root_lent perm.Immutable x = reads x
-root_lent perm.Lent x = reads x
-root_lent (perm.Shared g) x = reads x
+root_lent perm.Unique x = write_use x
+root_lent perm.Immutable x = read_use x
+root_lent perm.Lent x = read_use x
+root_lent (perm.Shared g) x = read_use x
 
 -- a source that is given to a parameter with this permission
 abbrev pub given_uses : Code → Context → Perm → Source → Uses
@@ -181,16 +181,16 @@ argument_uses p c (f.Object q k) e = of_found (source e) (given_uses p c q)
 
 -- a need, of an actual group
 abbrev pub need_uses : Wanted → Uses
-need_uses (need_of.Exclusive, g) = whole g
+need_uses (need_of.Exclusive, g) = whole_group g
 need_uses (need_of.Shared, g) = together g
-need_uses (need_of.Protected, g) = whole g
+need_uses (need_of.Protected, g) = whole_group g
 
 -- the arguments and the needs of a call
 abbrev pub callee_uses : Code → Context → Invocation → Callee → Uses
 callee_uses p c i m =
     let new : ℕ → ℕ = group_in m i.groups in
-    of_each (λ (x : Slot × Expression). argument_uses p c x.0.form x.1) (zip (slots p new m.method) (givens i))
-    ∪ of_each need_uses (map (wanted new) m.method.needs)
+    of_each (λ (x : ParamSlot × Expression). argument_uses p c x.0.form x.1) (zip (slots p new m.method) (givens i))
+    ∪ of_each need_uses (map (wanted_need new) m.method.needs)
 
 abbrev pub call_uses : Code → Context → Invocation → Uses
 call_uses p c i = of_judged (judge_callee p c i.on i.method) (callee_uses p c i)
@@ -211,7 +211,7 @@ right_uses p c target (Returned i) = call_uses p c i
 -- ---- statements
 
 abbrev pub assign_uses : Code → Context → NameAt → RightSide → Uses
-assign_uses p c x e = writes x.name ∪ of_found (c.local x.name) (λ (l : Local). right_uses p c l.form e)
+assign_uses p c x e = write_use x.name ∪ of_found (c.local x.name) (λ (l : Local). right_uses p c l.form e)
 
 -- a write to a field
 abbrev pub store_uses : Code → Context → Path → Expression → Uses
@@ -223,7 +223,7 @@ return_uses p m c e = of_found m.result (λ t. into_uses p c (form t) e)
 abbrev mutual
   -- the uses of a statement of a method, in the context before it
   pub statement_uses : Code → Definition → Action → Context → Uses
-  statement_uses p m (Declares t x e) c = writes x.name ∪ right_uses p c (form t) e
+  statement_uses p m (Declares t x e) c = write_use x.name ∪ right_uses p c (form t) e
   statement_uses p m (Assigns x e) c = assign_uses p c x e
   statement_uses p m (Stores path e) c = store_uses p c path e
   statement_uses p m (StoresAt path i e) c = write_uses p c path ∪ value_uses p c i ∪ value_uses p c e
@@ -231,13 +231,13 @@ abbrev mutual
   statement_uses p m (Chooses e n b) c = value_uses p c e ∪ outside c (lines_use p m b c)
   statement_uses p m (ChoosesElse e n b k b') c = value_uses p c e ∪ outside c (lines_use p m b c) ∪ outside c (lines_use p m b' c)
   statement_uses p m (Repeats e n b) c = value_uses p c e ∪ outside c (lines_use p m b c)
-  statement_uses p m (Groups g) c = whole g.name
-  statement_uses p m (Splits gs n b) c = of_each (λ (g : NameAt). whole g.name) gs ∪ outside c (lines_use p m b (while_split gs c))
+  statement_uses p m (Groups g) c = whole_group g.name
+  statement_uses p m (Splits gs n b) c = of_each (λ (g : NameAt). whole_group g.name) gs ∪ outside c (lines_use p m b (while_split gs c))
   statement_uses p m (Locks g n b) c = together g.name ∪ all_but (resource.Group g.name) (outside c (lines_use p m b (while_locked g.name c)))
-  statement_uses p m (Freezes x) c = writes x.name
-  statement_uses p m (Shares x g) c = writes x.name ∪ whole g.name
-  statement_uses p m (Prints e) c = value_uses p c e ∪ whole io
-  statement_uses p m (PrintsText s) c = whole io
+  statement_uses p m (Freezes x) c = write_use x.name
+  statement_uses p m (Shares x g) c = write_use x.name ∪ whole_group g.name
+  statement_uses p m (Prints e) c = value_uses p c e ∪ whole_group io
+  statement_uses p m (PrintsText s) c = whole_group io
   statement_uses p m (Asserts e) c = value_uses p c e
   statement_uses p m (Returns e) c = return_uses p m c e
 

@@ -1,6 +1,6 @@
 // Laws over the rules alone.
 ghost use Rattle.ae_rules.specs.BlockLaws.{BlocksAreReached, EffectsAreExact, LinesDeclare};
-ghost use Rattle.ae_rules.specs.Cases.{BuiltDeclaresOne, TodayIsACase, TodaysUsesAreACase};
+ghost use Rattle.ae_rules.specs.Cases.{BuiltDeclaresOne, TodaysJudgementIsACase, TodaysUsesAreACase};
 ghost use Rattle.ae_rules.specs.Laws.{JudgedOrBroken, NeverBoth, AcceptedOrBroken, NeverAcceptedAndBroken, FirstIsOne, TakenIsGivenBack, NothingToTake, CallsGiveBack, GivenAwayIsGone, MovesByItsText, StatementsKeep, SplitIsUndone};
 ghost use Rattle.ae_rules.specs.EdgeLaws.{EdgesGoForward, ChainsGoForward, ConflictsAreOrdered, UsesAreAllowed, PredsAreEdges, ConflictsAreFirst};
 
@@ -112,7 +112,7 @@ pub fn conflicts_are_first()
 /// A program of forms that run today is judged by the whole rules as it is by today's: accepted by both or by neither,
 /// and refused by both for the same rule at the same place.
 pub fn todays_judgement_is_a_case()
-    ensures { TodayIsACase }
+    ensures { TodaysJudgementIsACase }
 {}
 
 /// Each statement of an accepted program of forms that run today uses the same by the whole rules as by today's.

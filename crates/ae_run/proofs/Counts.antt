@@ -6,8 +6,8 @@ use Rattle.ae_tree.specs.Plain.{Lines}
 use Rattle.ae_rules.specs.BuiltUses.{ArePreds}
 use Rattle.ae_rules.specs.Edges.{IsRising}
 use Rattle.ae_graph.specs.Graph.{Graph, preds_in, AreSuccs}
-use Rattle.ae_run.specs.Queue.{times}
 use Rattle.ae_run.proofs.Lists.{same_number, other_number}
+use Rattle.ae_text.specs.Numbers.{times}
 
 abbrev unit : Bool → ℕ
 unit b = if b then 1 else 0

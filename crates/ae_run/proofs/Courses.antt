@@ -3,18 +3,18 @@ use Rattle.std.proofs.Common.{◌≡◌, ◌≢◌, ◌<◌, ◌≤◌, ◌+◌,
 use Rattle.std.proofs.Math.ListN.{length-set}
 use Rattle.std.proofs.lemmas.Bool.{cases_eq}
 use Rattle.ae_tree.specs.Plain.{Lines}
-use Rattle.ae_tree.specs.Limits.{count}
+use Rattle.ae_tree.specs.Limits.{statement_count}
 use Rattle.ae_tree.specs.Shown.{action, lines_from}
 use Rattle.ae_tree.specs.declared.tree.Stmt.{Stmt}
 use Rattle.ae_meaning.specs.declared.report.Ending.{Ending}
 use Rattle.ae_meaning.specs.Values.{Env, empty}
-use Rattle.ae_meaning.specs.Meaning.{State, Went, Ends, Stops, one}
+use Rattle.ae_meaning.specs.Meaning.{TodayState, Went, Ends, Stops, today_one}
 use Rattle.ae_meaning.specs.Frame.{ChangesItsWrites}
 use Rattle.ae_run.specs.declared.course.Fate.{Fate}
 use Rattle.ae_run.specs.declared.course.Fate.TheVariants as fate
 use Rattle.ae_run.specs.declared.course.First.{First}
 use Rattle.ae_run.specs.Flow.{alone, turn, IsClosed, HasValues, IsReady}
-use Rattle.ae_run.specs.Course.{is_went, is_taken, fate_at, went, taken, IsBehind, IsAtOrBehind, IsFate, IsFirst, IsRight, Settles}
+use Rattle.ae_run.specs.Course.{is_went, is_taken, fate_at, went, was_taken, IsBehind, IsAtOrBehind, IsFate, IsFirst, IsRight, Settles}
 use Rattle.ae_run.proofs.Deeds.{unprinted}
 use Rattle.ae_run.proofs.Flow.{IsWith, Stands, Laws, not_both as clash, closed_with, went_values, went_prints, ended_turn, stopped_turn, values_begin}
 
@@ -34,14 +34,14 @@ untaken_left fate.Waiting h = refl
 untaken_left (fate.Went piece) h = absurd (cc)
 untaken_left fate.Stopped h = refl
 
-stopped_at : (fs : List Fate) (j : ℕ) → j < length fs → taken fs j ≡ false → (k : ℕ) → (k ≡ j) ⊎ (k ≢ j) → went (set fs j fate.Stopped) k ≡ went fs k
+stopped_at : (fs : List Fate) (j : ℕ) → j < length fs → was_taken fs j ≡ false → (k : ℕ) → (k ≡ j) ⊎ (k ≢ j) → went (set fs j fate.Stopped) k ≡ went fs k
 stopped_at fs j l u k (inl e) =
     subst (λ (x : ℕ). went (set fs j fate.Stopped) x ≡ went fs x) (sym e)
     (ap is_went (fate_here fs j fate.Stopped l) ∙ sym (untaken_left (fate_at fs j) u))
 stopped_at fs j l u k (inr n) = ap is_went (fate_other fs j fate.Stopped k n)
 
 -- one that does not go through changes nothing for the others
-pub went-stopped : (fs : List Fate) (j : ℕ) → j < length fs → taken fs j ≡ false → went (set fs j fate.Stopped) ≡ went fs
+pub went-stopped : (fs : List Fate) (j : ℕ) → j < length fs → was_taken fs j ≡ false → went (set fs j fate.Stopped) ≡ went fs
 went-stopped fs j l u = same (went (set fs j fate.Stopped)) (went fs) (λ k. stopped_at fs j l u k (cases_eq k j))
 
 pub went-went : (fs : List Fate) (j : ℕ) (piece : List ℕ) → j < length fs → IsWith (went fs) (went (set fs j (fate.Went piece))) j
@@ -54,10 +54,10 @@ fates_at : (P : ℕ → Fate → Type 0) (fs : List Fate) (j : ℕ) (f : Fate) �
 fates_at P fs j f l here old k (inl e) = subst (λ (x : ℕ). P x (fate_at (set fs j f) x)) (sym e) (subst (P j) (sym (fate_here fs j f l)) here)
 fates_at P fs j f l here old k (inr n) = subst (P k) (sym (fate_other fs j f k n)) (old k)
 
-first_apart : (fs : List Fate) (j i : ℕ) → fate_at fs i ≡ fate.Stopped → taken fs j ≡ false → i ≢ j
+first_apart : (fs : List Fate) (j i : ℕ) → fate_at fs i ≡ fate.Stopped → was_taken fs j ≡ false → i ≢ j
 first_apart fs j i e u = λ q. let t : is_taken (fate_at fs j) ≡ true = ap is_taken (ap (fate_at fs) (sym q) ∙ e) in cc
 
-first_kept : (b : Lines) (fs : List Fate) (j : ℕ) (f : Fate) (known : Option First) → taken fs j ≡ false → IsFirst b fs known → IsFirst b (set fs j f) known
+first_kept : (b : Lines) (fs : List Fate) (j : ℕ) (f : Fate) (known : Option First) → was_taken fs j ≡ false → IsFirst b fs known → IsFirst b (set fs j f) known
 first_kept b fs j f None u h = tt
 first_kept b fs j f (Some first) u h =
     let l : first.at < length (set fs j f) = subst (λ (n : ℕ). first.at < n) (sym (length-set fs j f)) h.0 in
@@ -69,11 +69,11 @@ behind_at (Some first) j h = omega arith
 
 -- ---- the four ways
 
-abbrev pub Before : Lines → List Fate → Option First → State → ℕ → Type 0
-Before b fs known s j = IsRight b fs known s × IsReady b (went fs) j × (taken fs j ≡ false) × (j < length fs)
+abbrev pub Before : Lines → List Fate → Option First → TodayState → ℕ → Type 0
+Before b fs known s j = IsRight b fs known s × IsReady b (went fs) j × (was_taken fs j ≡ false) × (j < length fs)
 
 -- stopped, for one of the two reasons
-stop_right : (b : Lines) (fs : List Fate) (known : Option First) (s : State) (j : ℕ) → Before b fs known s j
+stop_right : (b : Lines) (fs : List Fate) (known : Option First) (s : TodayState) (j : ℕ) → Before b fs known s j
     → IsAtOrBehind known j ⊎ (turn b j ≡ Stops []) → IsRight b (set fs j fate.Stopped) known s
 stop_right b fs known s j h why =
     let w = went-stopped fs j h.3 h.2 in
@@ -86,22 +86,22 @@ stop_right b fs known s j h why =
       first = first_kept b fs j fate.Stopped known h.2 h.0.first;
     }
 
-pub left_out : (b : Lines) (fs : List Fate) (known : Option First) (s : State) (j : ℕ) → Before b fs known s j → IsBehind known j → IsRight b (set fs j fate.Stopped) known s
+pub left_out : (b : Lines) (fs : List Fate) (known : Option First) (s : TodayState) (j : ℕ) → Before b fs known s j → IsBehind known j → IsRight b (set fs j fate.Stopped) known s
 left_out b fs known s j h e = stop_right b fs known s j h (inl (behind_at known j e))
 
-state_is : (s : State) → s.log ≡ [] → unprinted s.env ≡ s
+state_is : (s : TodayState) → s.log ≡ [] → unprinted s.env ≡ s
 state_is s e = ap (λ l. record { env = s.env; log = l }) (sym e)
 
-stands : (b : Lines) (fs : List Fate) (known : Option First) (s : State) (j : ℕ) → Before b fs known s j → Stands b (went fs) j s.env
+stands : (b : Lines) (fs : List Fate) (known : Option First) (s : TodayState) (j : ℕ) → Before b fs known s j → Stands b (went fs) j s.env
 stands b fs known s j h = record { closed = h.0.closed; ready = h.1; values = h.0.values }
 
-pub lacking : Laws → (b : Lines) (fs : List Fate) (known : Option First) (s t : State) (j : ℕ) → Before b fs known s j → alone b j s.env ≡ Stops t.log → t.env ≡ s.env → IsRight b (set fs j fate.Stopped) known t
+pub lacking : Laws → (b : Lines) (fs : List Fate) (known : Option First) (s t : TodayState) (j : ℕ) → Before b fs known s j → alone b j s.env ≡ Stops t.log → t.env ≡ s.env → IsRight b (set fs j fate.Stopped) known t
 lacking laws b fs known s t j h e f =
     let p = stopped_turn laws b (went fs) j s.env (stands b fs known s j h) t.log e in
     let q : s ≡ t = ap (λ (v : Env). record { env = v; log = s.log }) (sym f) ∙ ap (λ l. record { env = t.env; log = l }) (h.0.log ∙ sym p.1) in
-    subst (λ (u : State). IsRight b (set fs j fate.Stopped) known u) q (stop_right b fs known s j h (inr p.0))
+    subst (λ (u : TodayState). IsRight b (set fs j fate.Stopped) known u) q (stop_right b fs known s j h (inr p.0))
 
-pub gone : Laws → (b : Lines) (fs : List Fate) (known : Option First) (s t : State) (j : ℕ) (piece : List ℕ) → Before b fs known s j
+pub gone : Laws → (b : Lines) (fs : List Fate) (known : Option First) (s t : TodayState) (j : ℕ) (piece : List ℕ) → Before b fs known s j
     → alone b j s.env ≡ Went (record { env = t.env; log = piece }) → t.log ≡ [] → IsRight b (set fs j (fate.Went piece)) known t
 gone laws b fs known s t j piece h e l =
     let w = went-went fs j piece h.3 in
@@ -125,7 +125,7 @@ fate_earlier b known j ending n k (fate.Went piece) h = h
 fate_earlier b known j ending n k fate.Stopped (inl l) = inl (at_earlier known j k n l)
 fate_earlier b known j ending n k fate.Stopped (inr e) = inr e
 
-pub ended_here : Laws → (b : Lines) (fs : List Fate) (known : Option First) (s t : State) (j : ℕ) (ending : Ending) → Before b fs known s j → (IsBehind known j → ⊥)
+pub ended_here : Laws → (b : Lines) (fs : List Fate) (known : Option First) (s t : TodayState) (j : ℕ) (ending : Ending) → Before b fs known s j → (IsBehind known j → ⊥)
     → alone b j s.env ≡ Ends ending t.log → t.env ≡ s.env → IsRight b (set fs j fate.Stopped) (Some (record { at = j; ending = ending })) t
 ended_here laws b fs known s t j ending h n e f =
     let p = ended_turn laws b (went fs) j s.env (stands b fs known s j h) ending t.log e in
@@ -143,20 +143,20 @@ ended_here laws b fs known s t j ending h n e f =
 
 -- ---- a statement of a list
 
-pub alone-at : (xs : List Stmt) (j : ℕ) (x : Stmt) (env : Env) → j < length xs → x ≡ get_or xs j x → alone (lines_from xs) j env ≡ one x.at (action x.kind) (unprinted env)
+pub alone-at : (xs : List Stmt) (j : ℕ) (x : Stmt) (env : Env) → j < length xs → x ≡ get_or xs j x → alone (lines_from xs) j env ≡ today_one x.at (action x.kind) (unprinted env)
 alone-at [] j x env l e = absurd (omega arith)
-alone-at (y ∷ xs) zero x env l e = ap (λ (z : Stmt). one z.at (action z.kind) (unprinted env)) (sym e)
+alone-at (y ∷ xs) zero x env l e = ap (λ (z : Stmt). today_one z.at (action z.kind) (unprinted env)) (sym e)
 alone-at (y ∷ xs) (suc j) x env l e = alone-at xs j x env (omega arith) e
 
-pub alone-here : (xs : List Stmt) (j : ℕ) (x : Stmt) (s : State) → j < length xs → x ≡ get_or xs j x → s.log ≡ [] → alone (lines_from xs) j s.env ≡ one x.at (action x.kind) s
-alone-here xs j x s l e n = alone-at xs j x s.env l e ∙ ap (one x.at (action x.kind)) (state_is s n)
+pub alone-here : (xs : List Stmt) (j : ℕ) (x : Stmt) (s : TodayState) → j < length xs → x ≡ get_or xs j x → s.log ≡ [] → alone (lines_from xs) j s.env ≡ today_one x.at (action x.kind) s
+alone-here xs j x s l e n = alone-at xs j x s.env l e ∙ ap (today_one x.at (action x.kind)) (state_is s n)
 
 pub settled : (fs gs : List Fate) (j : ℕ) (f : Fate) → is_taken f ≡ true → gs ≡ set fs j f → Settles fs gs j (is_went f)
 settled fs gs j f t e = record { fate = f; is = e; taken = t; went = refl }
 
 -- ---- before anything was run
 
-pub fresh : ChangesItsWrites → (b : Lines) (fs : List Fate) (s : State) → length fs ≡ count b → ((j : ℕ) → fate_at fs j ≡ fate.Waiting) → s.env ≡ empty → s.log ≡ [] → IsRight b fs None s
+pub fresh : ChangesItsWrites → (b : Lines) (fs : List Fate) (s : TodayState) → length fs ≡ statement_count b → ((j : ℕ) → fate_at fs j ≡ fate.Waiting) → s.env ≡ empty → s.log ≡ [] → IsRight b fs None s
 fresh changes b fs s n w e l =
     let none : (k : ℕ) → went fs k ≡ false = λ k. ap is_went (w k) in
     record {
@@ -168,6 +168,6 @@ fresh changes b fs s n w e l =
       first = tt;
     }
 
-pub count-lines : (xs : List Stmt) → count (lines_from xs) ≡ length xs
+pub count-lines : (xs : List Stmt) → statement_count (lines_from xs) ≡ length xs
 count-lines [] = refl
 count-lines (x ∷ xs) = let e : length (x ∷ xs) ≡ length xs + 1 = omega arith in ap (λ n. n + 1) (count-lines xs) ∙ sym e

@@ -4,12 +4,12 @@ use Rattle.std.proofs.lemmas.Bool.{cases_eq, cases_order}
 use Rattle.std.proofs.lemmas.Bool.Decides.{nat_tests}
 use Rattle.ae_rules.specs.declared.uses.Resource.TheVariants.{Local}
 use Rattle.ae_tree.specs.Plain.{Lines}
-use Rattle.ae_rules.specs.BuiltUses.{use_at, IsEdge}
+use Rattle.ae_rules.specs.BuiltUses.{use_at, IsBuiltEdge}
 use Rattle.ae_meaning.specs.declared.report.Ending.{Ending}
 use Rattle.ae_meaning.specs.Values.{Env, empty}
-use Rattle.ae_meaning.specs.Meaning.{State, Run, Went, Ends, Stops}
+use Rattle.ae_meaning.specs.Meaning.{TodayState, Run, Went, Ends, Stops}
 use Rattle.ae_meaning.specs.Frame.{View, AgreeAfter, ReadsItsUses, ChangesItsWrites}
-use Rattle.ae_run.specs.Flow.{alone, locals_after, found_by, turn, writes, IsClosed, HasValues, IsReady, Prints}
+use Rattle.ae_run.specs.Flow.{alone, locals_after, found_by, turn, writes_local, IsClosed, HasValues, IsReady, Prints}
 use Rattle.ae_run.proofs.Deeds.{seen, alone-agrees, Kept, alone-kept, found-next, found-unwritten}
 use Rattle.ae_run.proofs.Closed.{conflicts_closed, write_then_use, use_then_write, write_is_use}
 
@@ -33,10 +33,10 @@ not_here : (went : ℕ → Bool) (i j : ℕ) → went j ≡ false → went i ≡
 not_here went i j l h = λ q. not_both (went j) (ap went (sym q) ∙ h) l
 
 closed_step : (b : Lines) (went later : ℕ → Bool) (j : ℕ) → IsClosed b went → IsReady b went j → IsWith went later j
-    → (i k : ℕ) → IsEdge b i k → later k ≡ true → (k ≡ j) ⊎ (k ≢ j) → later i ≡ true
+    → (i k : ℕ) → IsBuiltEdge b i k → later k ≡ true → (k ≡ j) ⊎ (k ≢ j) → later i ≡ true
 closed_step b went later j c r w i k e h (inl q) =
     let l : i < k = e.before in
-    w.others i (λ (p : i ≡ j). omega arith) ∙ r.waits i (subst (λ (x : ℕ). IsEdge b i x) q e)
+    w.others i (λ (p : i ≡ j). omega arith) ∙ r.waits i (subst (λ (x : ℕ). IsBuiltEdge b i x) q e)
 closed_step b went later j c r w i k e h (inr n) =
     let past : went i ≡ true = c i k e (sym (w.others k n) ∙ h) in
     w.others i (not_here went i j r.left past) ∙ past
@@ -70,20 +70,20 @@ agrees b went j env c r v = λ y u.
 
 -- a local that statement j does not write
 unwritten_at : (b : Lines) (went later : ℕ → Bool) (j : ℕ) (env : Env) → IsWith went later j → HasValues b went env
-    → (y m : ℕ) → writes b j y ≡ false → ((k : ℕ) → k < m → writes b k y ≡ true → later k ≡ true) → ((k : ℕ) → m ≤ k → writes b k y ≡ true → later k ≡ false)
+    → (y m : ℕ) → writes_local b j y ≡ false → ((k : ℕ) → k < m → writes_local b k y ≡ true → later k ≡ true) → ((k : ℕ) → m ≤ k → writes_local b k y ≡ true → later k ≡ false)
     → env y ≡ found_by b m y
 unwritten_at b went later j env w v y m n p q =
-    let apart : (k : ℕ) → writes b k y ≡ true → k ≢ j = λ k t e. not_both (writes b k y) t (ap (λ x. writes b x y) e ∙ n) in
+    let apart : (k : ℕ) → writes_local b k y ≡ true → k ≢ j = λ k t e. not_both (writes_local b k y) t (ap (λ x. writes_local b x y) e ∙ n) in
     v y m (λ k l t. sym (w.others k (apart k t)) ∙ p k l t) (λ k l t. sym (w.others k (apart k t)) ∙ q k l t)
 
 -- a local that statement j writes: none between j and m writes it
 written_at : ChangesItsWrites → (b : Lines) (went later : ℕ → Bool) (j : ℕ) → IsClosed b went → IsReady b went j → IsWith went later j
-    → (y m : ℕ) → writes b j y ≡ true → ((k : ℕ) → k < m → writes b k y ≡ true → later k ≡ true) → j < m
+    → (y m : ℕ) → writes_local b j y ≡ true → ((k : ℕ) → k < m → writes_local b k y ≡ true → later k ≡ true) → j < m
     → found_by b m y ≡ locals_after (turn b j) (found_by b j) y
 written_at changes b went later j c r w y m t p l =
     let e : suc j + (m - suc j) ≡ m = omega arith in
-    let none : (k : ℕ) → suc j ≤ k → k < suc j + (m - suc j) → writes b k y ≡ false = λ k above under.
-    one_of (writes b k y) (λ s.
+    let none : (k : ℕ) → suc j ≤ k → k < suc j + (m - suc j) → writes_local b k y ≡ false = λ k above under.
+    one_of (writes_local b k y) (λ s.
     let n : k ≢ j = λ (q : k ≡ j). omega arith in
     let past : went k ≡ true = sym (w.others k n) ∙ p k (omega arith) s in
     not_both (went j) (conflicts_closed b went c (Local y) j k (omega arith) (use_then_write (use_at b j (Local y)) (use_at b k (Local y)) (write_is_use (use_at b j (Local y)) t) s) past) r.left) in
@@ -104,16 +104,16 @@ pub record Laws : Type 0 where
 turn-agrees : Laws → (b : Lines) (went : ℕ → Bool) (j : ℕ) (env : Env) → Stands b went j env → AgreeAfter (seen b j) (alone b j env) (turn b j)
 turn-agrees laws b went j env h = alone-agrees laws.reads b j env (found_by b j) (agrees b went j env h.closed h.ready h.values)
 
-went_local : (v : View) (s : State) (r : Run) (env : Env) (y : ℕ) → AgreeAfter v (Went s) r → v.local y ≡ true → s.env y ≡ locals_after r env y
+went_local : (v : View) (s : TodayState) (r : Run) (env : Env) (y : ℕ) → AgreeAfter v (Went s) r → v.local y ≡ true → s.env y ≡ locals_after r env y
 went_local v s (Went t) env y h u = h.local y u
 went_local v s (Ends ending log) env y h u = absurd h
 went_local v s (Stops log) env y h u = absurd h
 
 -- after a ready statement a local is as source order has it, whether the statement writes it or not
 value_at : Laws → (b : Lines) (went later : ℕ → Bool) (j : ℕ) (env : Env) → Stands b went j env → IsWith went later j
-    → (s : State) → AgreeAfter (seen b j) (Went s) (turn b j) → Kept (writes b j) env (Went s)
-    → (y m : ℕ) → ((k : ℕ) → k < m → writes b k y ≡ true → later k ≡ true) → ((k : ℕ) → m ≤ k → writes b k y ≡ true → later k ≡ false)
-    → (t : Bool) → writes b j y ≡ t → (m ≤ j) ⊎ (j < m) → s.env y ≡ found_by b m y
+    → (s : TodayState) → AgreeAfter (seen b j) (Went s) (turn b j) → Kept (writes_local b j) env (Went s)
+    → (y m : ℕ) → ((k : ℕ) → k < m → writes_local b k y ≡ true → later k ≡ true) → ((k : ℕ) → m ≤ k → writes_local b k y ≡ true → later k ≡ false)
+    → (t : Bool) → writes_local b j y ≡ t → (m ≤ j) ⊎ (j < m) → s.env y ≡ found_by b m y
 value_at laws b went later j env h w s a k y m p q true t (inl l) = absurd (not_both (later j) w.here (q j l t))
 value_at laws b went later j env h w s a k y m p q true t (inr l) =
     went_local (seen b j) s (turn b j) (found_by b j) y a (write_is_use (use_at b j (Local y)) t)
@@ -122,18 +122,18 @@ value_at laws b went later j env h w s a k y m p q false t o = k y t ∙ unwritt
 
 -- what a statement that goes through does to the locals keeps the values
 pub went_values : Laws → (b : Lines) (went later : ℕ → Bool) (j : ℕ) (env : Env) → Stands b went j env → IsWith went later j
-    → (s : State) → alone b j env ≡ Went s → HasValues b later s.env
+    → (s : TodayState) → alone b j env ≡ Went s → HasValues b later s.env
 went_values laws b went later j env h w s e =
     let a : AgreeAfter (seen b j) (Went s) (turn b j) = subst (λ (r : Run). AgreeAfter (seen b j) r (turn b j)) e (turn-agrees laws b went j env h) in
-    let k : Kept (writes b j) env (Went s) = subst (λ (r : Run). Kept (writes b j) env r) e (alone-kept laws.changes b j env) in
-    λ y m p q. value_at laws b went later j env h w s a k y m p q (writes b j y) refl (le_or_more m j)
+    let k : Kept (writes_local b j) env (Went s) = subst (λ (r : Run). Kept (writes_local b j) env r) e (alone-kept laws.changes b j env) in
+    λ y m p q. value_at laws b went later j env h w s a k y m p q (writes_local b j y) refl (le_or_more m j)
 
-prints_alike : (v : View) (s : State) (r : Run) → v.log ≡ true → AgreeAfter v (Went s) r → Prints r s.log
+prints_alike : (v : View) (s : TodayState) (r : Run) → v.log ≡ true → AgreeAfter v (Went s) r → Prints r s.log
 prints_alike v s (Went t) l h = sym (h.log l)
 prints_alike v s (Ends ending log) l h = absurd h
 prints_alike v s (Stops log) l h = absurd h
 
-pub went_prints : Laws → (b : Lines) (went : ℕ → Bool) (j : ℕ) (env : Env) → Stands b went j env → (s : State) → alone b j env ≡ Went s → Prints (turn b j) s.log
+pub went_prints : Laws → (b : Lines) (went : ℕ → Bool) (j : ℕ) (env : Env) → Stands b went j env → (s : TodayState) → alone b j env ≡ Went s → Prints (turn b j) s.log
 went_prints laws b went j env h s e =
     prints_alike (seen b j) s (turn b j) refl (subst (λ (r : Run). AgreeAfter (seen b j) r (turn b j)) e (turn-agrees laws b went j env h))
 
@@ -145,7 +145,7 @@ ends_alike v ending log (Stops more) l h n = absurd h
 pub ended_turn : Laws → (b : Lines) (went : ℕ → Bool) (j : ℕ) (env : Env) → Stands b went j env → (ending : Ending) (log : List ℕ) → alone b j env ≡ Ends ending log
     → (turn b j ≡ Ends ending []) × (log ≡ [])
 ended_turn laws b went j env h ending log e =
-    let n : log ≡ [] = subst (λ (r : Run). Kept (writes b j) env r) e (alone-kept laws.changes b j env) in
+    let n : log ≡ [] = subst (λ (r : Run). Kept (writes_local b j) env r) e (alone-kept laws.changes b j env) in
     (ends_alike (seen b j) ending log (turn b j) refl (subst (λ (r : Run). AgreeAfter (seen b j) r (turn b j)) e (turn-agrees laws b went j env h)) n, n)
 
 stops_alike : (v : View) (log : List ℕ) (r : Run) → v.log ≡ true → AgreeAfter v (Stops log) r → log ≡ [] → r ≡ Stops []
@@ -156,11 +156,11 @@ stops_alike v log (Stops more) l h n = ap (λ m. Stops m) (sym (h l) ∙ n)
 pub stopped_turn : Laws → (b : Lines) (went : ℕ → Bool) (j : ℕ) (env : Env) → Stands b went j env → (log : List ℕ) → alone b j env ≡ Stops log
     → (turn b j ≡ Stops []) × (log ≡ [])
 stopped_turn laws b went j env h log e =
-    let n : log ≡ [] = subst (λ (r : Run). Kept (writes b j) env r) e (alone-kept laws.changes b j env) in
+    let n : log ≡ [] = subst (λ (r : Run). Kept (writes_local b j) env r) e (alone-kept laws.changes b j env) in
     (stops_alike (seen b j) log (turn b j) refl (subst (λ (r : Run). AgreeAfter (seen b j) r (turn b j)) e (turn-agrees laws b went j env h)) n, n)
 
 -- before anything went through
 pub values_begin : ChangesItsWrites → (b : Lines) (went : ℕ → Bool) → ((k : ℕ) → went k ≡ false) → HasValues b went empty
 values_begin changes b went n = λ y m p q.
     let e : 0 + m ≡ m = omega arith in
-    sym (ap (λ x. found_by b x y) (sym e) ∙ found-unwritten changes b y 0 m (λ k l u. one_of (writes b k y) (λ t. not_both (went k) (p k (omega arith) t) (n k))))
+    sym (ap (λ x. found_by b x y) (sym e) ∙ found-unwritten changes b y 0 m (λ k l u. one_of (writes_local b k y) (λ t. not_both (went k) (p k (omega arith) t) (n k))))

@@ -5,7 +5,8 @@ use Rattle.std.proofs.lemmas.List.Sums.{sum_by_more, sum_by_more_le}
 use Rattle.std.proofs.lemmas.List.Sorted.{sum_by_pushed, sum_by_popped}
 use Rattle.std.proofs.lemmas.Bool.{cases_eq}
 use Rattle.std.proofs.lemmas.Bool.Decides.{nat_tests}
-use Rattle.ae_run.specs.Queue.{times, zero_as_one, waits_of}
+use Rattle.ae_run.specs.Queue.{zero_as_one, waits_of}
+use Rattle.ae_text.specs.Numbers.{times}
 
 -- an item that is the default may be pushed
 pub default_pushed : {A : Type 0} (xs : List A) (k : ℕ) (d : A) → get_or (xs ++ d ∷ []) k d ≡ get_or xs k d

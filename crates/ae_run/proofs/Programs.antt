@@ -9,7 +9,7 @@ use Rattle.ae_tree.specs.Plain.{Lines, Definition, Code}
 use Rattle.ae_tree.specs.Shown.{lines_from, lines-out, definition, code}
 use Rattle.ae_tree.specs.Judgement.{Accepted}
 use Rattle.ae_rules.specs.BuiltUses.{block_in, block_of}
-use Rattle.ae_meaning.specs.Meaning.{many, begin, ended, main_body, seq}
+use Rattle.ae_meaning.specs.Meaning.{today_many, begin, meaning_of_run, main_body, today_seq}
 
 block_here : (m : Definition) → m.no ≡ 0 → block_in (m ∷ []) 0 0 ≡ Some m.body
 block_here m e = ap (λ n. if nat_eq n 0 then Some m.body else None) e
@@ -26,13 +26,13 @@ some_is o x e = subst IsSome (sym e) refl
 pub has_block : (p : Code) → Accepted p → IsSome (block_of p 0 0)
 has_block p a = some_is (block_of p 0 0) a.0.method.body (block_is p a)
 
-seq_ended : (p : Code) (ints : List ℤ) (fuel : ℕ) → seq p ints fuel ≡ ended (many (main_body p.methods) begin)
-unfolding seq
+seq_ended : (p : Code) (ints : List ℤ) (fuel : ℕ) → today_seq p ints fuel ≡ meaning_of_run (today_many (main_body p.methods) begin)
+unfolding today_seq
 seq_ended p ints fuel = refl
 
-seq_is : (p : Code) (a : Accepted p) (ints : List ℤ) (fuel : ℕ) → seq p ints fuel ≡ ended (many a.0.method.body begin)
+seq_is : (p : Code) (a : Accepted p) (ints : List ℤ) (fuel : ℕ) → today_seq p ints fuel ≡ meaning_of_run (today_many a.0.method.body begin)
 seq_is p a ints fuel =
-    seq_ended p ints fuel ∙ ap (λ (b : Lines). ended (many b begin)) (ap main_body a.0.methods ∙ main_here a.0.method a.0.is_main.class a.0.is_main.is_named)
+    seq_ended p ints fuel ∙ ap (λ (b : Lines). meaning_of_run (today_many b begin)) (ap main_body a.0.methods ∙ main_here a.0.method a.0.is_main.class a.0.is_main.is_named)
 
 some_method : (ms : List Method) (m : Definition) → map definition ms ≡ m ∷ [] → 0 < length ms
 some_method [] m e = absurd (cc)
@@ -55,5 +55,5 @@ block_lines p a ms h d stmts e = block_is (code p) a ∙ ap (λ (b : Lines). Som
 
 -- and the program's run in source order is its run
 pub seq_lines : (p : Program) → Accepted (code p) → (ms : List Method) → ms ≡ p.methods → (d : Method) (stmts : List Stmt) → stmts ≡ (out-Block (get_or ms 0 d).body).stmts
-    → (ints : List ℤ) (fuel : ℕ) → seq (code p) ints fuel ≡ ended (many (lines_from stmts) begin)
-seq_lines p a ms h d stmts e ints fuel = seq_is (code p) a ints fuel ∙ ap (λ (b : Lines). ended (many b begin)) (body_is p a ms h d stmts e)
+    → (ints : List ℤ) (fuel : ℕ) → today_seq (code p) ints fuel ≡ meaning_of_run (today_many (lines_from stmts) begin)
+seq_lines p a ms h d stmts e ints fuel = seq_is (code p) a ints fuel ∙ ap (λ (b : Lines). meaning_of_run (today_many b begin)) (body_is p a ms h d stmts e)

@@ -1,11 +1,11 @@
 -- What became of the statements of a block, against its run in source order.
 use Rattle.std.specs.Prelude.{◌≡◌, ◌<◌, ◌≤◌, ◌⊎◌, ◌++◌, ℕ, Bool, true, false, List, [], ◌∷◌, length, slice_index_or, slice_set, Option, None, Some, Contains}
 use Rattle.ae_tree.specs.Plain.{Lines}
-use Rattle.ae_tree.specs.Limits.{count}
+use Rattle.ae_tree.specs.Limits.{statement_count}
 use Rattle.ae_meaning.specs.declared.report.Ending.{Ending}
 use Rattle.ae_meaning.specs.declared.report.Ending.TheVariants.{Done}
 use Rattle.ae_meaning.specs.Values.{Env}
-use Rattle.ae_meaning.specs.Meaning.{State, Run, Went, Ends, Stops}
+use Rattle.ae_meaning.specs.Meaning.{TodayState, Run, Went, Ends, Stops}
 use Rattle.ae_meaning.specs.Running.{held}
 use Rattle.ae_run.specs.declared.course.Fate.{Fate}
 use Rattle.ae_run.specs.declared.course.Fate.TheVariants as fate
@@ -33,8 +33,8 @@ fate_at fates j = slice_index_or fates j fate.Waiting
 abbrev pub went : List Fate → ℕ → Bool
 went fates j = is_went (fate_at fates j)
 
-abbrev pub taken : List Fate → ℕ → Bool
-taken fates j = is_taken (fate_at fates j)
+abbrev pub was_taken : List Fate → ℕ → Bool
+was_taken fates j = is_taken (fate_at fates j)
 
 -- the bytes that statements printed, in source order
 abbrev pub piece_of : Fate → List ℕ
@@ -68,8 +68,8 @@ IsFirst b fates None = Unit {0}
 IsFirst b fates (Some first) = (first.at < length fates) × (fate_at fates first.at ≡ fate.Stopped) × (turn b first.at ≡ Ends first.ending [])
 
 -- all that is kept between two statements
-pub record IsRight (b : Lines) (all : List Fate) (known : Option First) (s : State) : Type 0 where
-  pub size : length all ≡ count b
+pub record IsRight (b : Lines) (all : List Fate) (known : Option First) (s : TodayState) : Type 0 where
+  pub size : length all ≡ statement_count b
   pub log : s.log ≡ []
   pub closed : IsClosed b (went all)
   pub values : HasValues b (went all) s.env
@@ -80,7 +80,7 @@ abbrev pub IsOnCourse : Lines → Course → Type 0
 IsOnCourse b c = IsRight b c.fates.items c.first (held c.state)
 
 -- what came of a statement, against its run: the locals are those after it, and nothing printed is left over
-abbrev pub Gives : Run → Env → Outcome → State → Type 0
+abbrev pub Gives : Run → Env → Outcome → TodayState → Type 0
 Gives run env (outcome.Went piece) s = (run ≡ Went (record { env = s.env; log = piece })) × (s.log ≡ [])
 Gives run env (outcome.Ended ending) s = (run ≡ Ends ending s.log) × (s.env ≡ env)
 Gives run env outcome.Lacks s = (run ≡ Stops s.log) × (s.env ≡ env)
@@ -93,15 +93,15 @@ pub record Settles (old new : List Fate) (j : ℕ) (through : Bool) : Type 0 whe
   pub went : is_went fate ≡ through
 
 -- the ending of a run that is over
-abbrev pub ending_of : Option First → Ending
-ending_of None = Done
-ending_of (Some first) = first.ending
+abbrev pub course_ending : Option First → Ending
+course_ending None = Done
+course_ending (Some first) = first.ending
 
 -- the statement at which a run ended, or how many there are
-abbrev pub end_of : Option First → ℕ → ℕ
-end_of None n = n
-end_of (Some first) n = first.at
+abbrev pub course_end : Option First → ℕ → ℕ
+course_end None n = n
+course_end (Some first) n = first.at
 
 -- the turn of each statement came for which all that it waits for went through
 abbrev pub IsOver : Graph → List Fate → Type 0
-IsOver g fates = (j : ℕ) → j < length g → ((i : ℕ) → Contains (preds_in g j) i → went fates i ≡ true) → taken fates j ≡ true
+IsOver g fates = (j : ℕ) → j < length g → ((i : ℕ) → Contains (preds_in g j) i → went fates i ≡ true) → was_taken fates j ≡ true

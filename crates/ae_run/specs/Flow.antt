@@ -3,15 +3,15 @@ use Rattle.std.specs.Prelude.{◌≡◌, ◌<◌, ◌≤◌, ℕ, zero, suc, Boo
 use Rattle.ae_rules.specs.declared.uses.Resource.TheVariants.{Local}
 use Rattle.ae_rules.specs.declared.uses.Mode.{Mode}
 use Rattle.ae_tree.specs.Plain.{Lines, End, Next}
-use Rattle.ae_rules.specs.BuiltUses.{use_at, IsEdge}
+use Rattle.ae_rules.specs.BuiltUses.{use_at, IsBuiltEdge}
 use Rattle.ae_rules.specs.Edges.{is_strong}
 use Rattle.ae_meaning.specs.Values.{Env, empty}
-use Rattle.ae_meaning.specs.Meaning.{Run, Went, Ends, Stops, one}
+use Rattle.ae_meaning.specs.Meaning.{Run, Went, Ends, Stops, today_one}
 
 -- a statement alone: with these locals, and nothing printed before
 abbrev pub alone : Lines → ℕ → Env → Run
 alone End j env = Stops []
-alone (Next at a rest) zero env = one at a (record { env = env; log = [] })
+alone (Next at a rest) zero env = today_one at a (record { env = env; log = [] })
 alone (Next at a rest) (suc j) env = alone rest j env
 
 -- the locals after a statement; one that does not go through leaves them as they were
@@ -24,7 +24,7 @@ locals_after (Stops log) env = env
 abbrev pub found_from : Env → Lines → ℕ → Env
 found_from env b zero = env
 found_from env End (suc j) = env
-found_from env (Next at a rest) (suc j) = found_from (locals_after (one at a (record { env = env; log = [] })) env) rest j
+found_from env (Next at a rest) (suc j) = found_from (locals_after (today_one at a (record { env = env; log = [] })) env) rest j
 
 -- the locals that a statement finds in source order
 abbrev pub found_by : Lines → ℕ → Env
@@ -40,22 +40,22 @@ is_strong_use None = false
 is_strong_use (Some m) = is_strong m
 
 -- a statement writes this local
-abbrev pub writes : Lines → ℕ → ℕ → Bool
-writes b k y = is_strong_use (use_at b k (Local y))
+abbrev pub writes_local : Lines → ℕ → ℕ → Bool
+writes_local b k y = is_strong_use (use_at b k (Local y))
 
 -- what a statement that went through waits for went through
 abbrev pub IsClosed : Lines → (ℕ → Bool) → Type 0
-IsClosed b went = (i j : ℕ) → IsEdge b i j → went j ≡ true → went i ≡ true
+IsClosed b went = (i j : ℕ) → IsBuiltEdge b i j → went j ≡ true → went i ≡ true
 
 -- where all that write a local before statement m went through, and none from m on, the local is as statement m finds it in source order
 abbrev pub HasValues : Lines → (ℕ → Bool) → Env → Type 0
-HasValues b went env = (y m : ℕ) → ((k : ℕ) → k < m → writes b k y ≡ true → went k ≡ true)
-    → ((k : ℕ) → m ≤ k → writes b k y ≡ true → went k ≡ false) → env y ≡ found_by b m y
+HasValues b went env = (y m : ℕ) → ((k : ℕ) → k < m → writes_local b k y ≡ true → went k ≡ true)
+    → ((k : ℕ) → m ≤ k → writes_local b k y ≡ true → went k ≡ false) → env y ≡ found_by b m y
 
 -- a statement can be run: it did not go through, and all for which it waits did
 pub record IsReady (b : Lines) (went : ℕ → Bool) (j : ℕ) : Type 0 where
   pub left : went j ≡ false
-  pub waits : (i : ℕ) → IsEdge b i j → went i ≡ true
+  pub waits : (i : ℕ) → IsBuiltEdge b i j → went i ≡ true
 
 -- a run went through and printed these bytes
 abbrev pub Prints : Run → List ℕ → Type 0

@@ -1,10 +1,7 @@
 -- For how many statements each one waits, and which are ready.
 use Rattle.std.specs.Prelude.{◌≡◌, ◌<◌, ◌+◌, ℕ, nat_eq, Bool, not, if◌then◌else◌, List, length, slice_index, slice_index_or, count_by}
 use Rattle.ae_graph.specs.Graph.{Graph, preds_in}
-
--- how often a number stands in a list
-abbrev pub times : ℕ → List ℕ → ℕ
-times j xs = count_by (λ x. nat_eq x j) xs
+use Rattle.ae_text.specs.Numbers.{times}
 
 abbrev pub zero_as_one : ℕ → ℕ
 zero_as_one n = if nat_eq n 0 then 1 else 0

@@ -2,10 +2,10 @@
 ghost use Rattle.std.specs.Prelude.{◌≡◌, ◌<◌, ◌≤◌, ◌↔◌, ℕ, false, [], length, take, IfOk, OnOk, IsTrue, slice_set};
 ghost use Rattle.ae_tree.specs.Shown.{action, lines_from};
 ghost use Rattle.ae_meaning.specs.Values.{empty};
-ghost use Rattle.ae_meaning.specs.Meaning.{one};
+ghost use Rattle.ae_meaning.specs.Meaning.{today_one};
 ghost use Rattle.ae_meaning.specs.Running.{env_of, held};
 ghost use Rattle.ae_run.specs.Flow.{IsReady};
-ghost use Rattle.ae_run.specs.Course.{went, taken, fate_at, Gives, IsOnCourse, IsBehind, Settles, piece_of, pieces, ending_of, end_of};
+ghost use Rattle.ae_run.specs.Course.{went, was_taken, fate_at, Gives, IsOnCourse, IsBehind, Settles, piece_of, pieces, course_ending, course_end};
 
 use ae_tree::Stmt;
 use ae_meaning::{
@@ -70,7 +70,7 @@ fn run_alone<G: Gate>(
     state: &mut Running,
     gate: &G,
 ) -> Result<Outcome, AllocError>
-    ensures { IfOk result (λ o. Gives (one stmt.now.at (action stmt.now.kind) (held state.old)) (env_of state.old.locals) o (held state.new)) }
+    ensures { IfOk result (λ o. Gives (today_one stmt.now.at (action stmt.now.kind) (held state.old)) (env_of state.old.locals) o (held state.new)) }
 {
     gate.enter(j);
     let ran = run_stmt(alloc, stmt, state);
@@ -155,7 +155,7 @@ impl Course {
         requires counted { j < length self.old.fates.items }
         requires course { IsOnCourse (lines_from stmts.now) self.old }
         requires ready { IsReady (lines_from stmts.now) (went self.old.fates.items) j }
-        requires untaken { taken self.old.fates.items j ≡ false }
+        requires untaken { was_taken self.old.fates.items j ≡ false }
         ensures course { OnOk result (IsOnCourse (lines_from stmts.now) self.new) }
         ensures fates { IfOk result (λ through. Settles self.old.fates.items self.new.fates.items j through) }
     {
@@ -184,9 +184,9 @@ impl Course {
 
     /// The first ending and what the statements before it printed, in source order.
     pub fn report(&self, alloc: Global) -> Result<RunReport, AllocError>
-        requires { end_of self.now.first (length self.now.fates.items) ≤ length self.now.fates.items }
-        ensures ending { IfOk result (λ r. r.ending ≡ ending_of self.now.first) }
-        ensures out { IfOk result (λ r. r.out ≡ pieces (take (end_of self.now.first (length self.now.fates.items)) self.now.fates.items)) }
+        requires { course_end self.now.first (length self.now.fates.items) ≤ length self.now.fates.items }
+        ensures ending { IfOk result (λ r. r.ending ≡ course_ending self.now.first) }
+        ensures out { IfOk result (λ r. r.out ≡ pieces (take (course_end self.now.first (length self.now.fates.items)) self.now.fates.items)) }
     {
         let (ending, end) = match self.first {
             Some(first) => (first.ending, first.at as usize),

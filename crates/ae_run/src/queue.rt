@@ -4,7 +4,8 @@ ghost use Rattle.std.specs.BinaryHeap.{heap_items, IsHeap};
 ghost use Rattle.std.specs.Ordering.{nat_cmp};
 ghost use Rattle.std.proofs.Props.{props};
 ghost use Rattle.ae_graph.specs.Graph.{preds_in};
-ghost use Rattle.ae_run.specs.Queue.{times, zero_as_one, waits_of};
+ghost use Rattle.ae_run.specs.Queue.{zero_as_one, waits_of};
+ghost use Rattle.ae_text.specs.Numbers.{times};
 
 use ae_graph::BlockGraph;
 use std::alloc::{AllocError, Global};

@@ -4,7 +4,7 @@ ghost use Rattle.ae_tree.specs.Shown.{code, lines_from};
 ghost use Rattle.ae_tree.specs.Limits.{Within};
 ghost use Rattle.ae_tree.specs.Judgement.{Accepted};
 ghost use Rattle.ae_graph.specs.Graph.{IsGraph};
-ghost use Rattle.ae_meaning.specs.Meaning.{many, begin, ended, seq};
+ghost use Rattle.ae_meaning.specs.Meaning.{today_many, begin, meaning_of_run, today_seq};
 ghost use Rattle.ae_run.specs.Course.{IsOnCourse, IsOver};
 
 use crate::course::Course;
@@ -53,9 +53,9 @@ fn run_main<G: Gate>(
 ) -> Result<RunReport, AllocError>
     requires size { length graph.now ≡ count }
     requires graph { IsGraph (Some (lines_from stmts.now)) graph.now }
-    requires ends { IsSome (ended (many (lines_from stmts.now) begin)).ending }
-    ensures ending { IfOk result (λ r. Some r.ending ≡ (ended (many (lines_from stmts.now) begin)).ending) }
-    ensures out { IfOk result (λ r. r.out ≡ (ended (many (lines_from stmts.now) begin)).out) }
+    requires ends { IsSome (meaning_of_run (today_many (lines_from stmts.now) begin)).ending }
+    ensures ending { IfOk result (λ r. Some r.ending ≡ (meaning_of_run (today_many (lines_from stmts.now) begin)).ending) }
+    ensures out { IfOk result (λ r. r.out ≡ (meaning_of_run (today_many (lines_from stmts.now) begin)).out) }
 {
     statements_add_to_the_log();
     let course = run_block(alloc, stmts, graph, count, gate)?;
@@ -84,8 +84,8 @@ pub fn run<G: Gate>(
     requires some_fuel { 1 ≤ fuel }
     requires most_fuel { fuel ≤ 1000000 }
     requires most_ints { length ints.now ≤ 100000 }
-    ensures ending { IfOk result (λ r. Some r.ending ≡ (seq (code program.now) ints.now fuel).ending) }
-    ensures out { IfOk result (λ r. r.out ≡ (seq (code program.now) ints.now fuel).out) }
+    ensures ending { IfOk result (λ r. Some r.ending ≡ (today_seq (code program.now) ints.now fuel).ending) }
+    ensures out { IfOk result (λ r. r.out ≡ (today_seq (code program.now) ints.now fuel).out) }
 {
     let graph = BlockGraph::of(alloc, program, 0, 0)?;
     let count = graph.len() as u32;

@@ -10,15 +10,15 @@ use Rattle.ae_rules.specs.Calls.{Callee, givens}
 use Rattle.ae_rules.specs.Blocks.{Scene}
 use Rattle.ae_rules.specs.Instances.{Instance}
 use Rattle.ae_semantics.specs.Values.{all_low, Val}
-use Rattle.ae_semantics.specs.Places.{Outcome, Fine, Traps, Lacks, ◌>>=◌, CellName, Here, Away, State, bind, with_group}
+use Rattle.ae_semantics.specs.Places.{Outcome, Fine, Traps, Lacks, ◌>>=◌, CellName, Here, Away, State, bind, with_store}
 use Rattle.ae_semantics.specs.Expressions.{value}
 use Rattle.ae_semantics.specs.Contexts.{after}
 use Rattle.ae_semantics.specs.Observations.{Origin, Piece, Image, OfStore, OfLog, Seen, Query, Ending, Trap, Mark, Ran, Notes, Observer}
-use Rattle.ae_semantics.specs.Runs.{Run, Went, Ends, Stops, Act, and_then, given, marked, logged, deeper, Where, whole, splitting, locking, Order}
-use Rattle.ae_semantics.specs.Calls.{Argument, Frame, frame, called, each_argument, group_given, enter, leave, moved}
+use Rattle.ae_semantics.specs.Runs.{Run, Went, Ends, Stops, Act, and_then, outcome_given, marked, logged, deeper, Where, whole_block, splitting, locking, Order}
+use Rattle.ae_semantics.specs.Calls.{Argument, CallFrame, frame, called_method, each_argument, group_given, enter, leave, without_moved}
 use Rattle.ae_semantics.specs.Blocks.{cell_of, image_of, cell_at, log_back, store_back, values_in, out_fits, with_out, with_values, pieces_in, else_uses, used}
 use Rattle.ae_semantics.specs.Meaning.{assigned, does, forgotten, made, right_moved, block, below}
-use Rattle.ae_semantics.specs.Means.{Start, start, no_notes, run}
+use Rattle.ae_semantics.specs.Means.{Start, run_start, no_notes, run}
 use Rattle.ae_semantics.proofs.Related.{Stretch, Quiet, Of, From, Within, Joins, Tells, quiet_last, Both, answered_by, IsFree, Relation, Does, Forms, IsBlock, IsCall, IsLock, GoAway, ComeBack, away_to, back_to, Link, machine, begins, goes_on, related_block, related_below}
 use Rattle.ae_rules.specs.Verdict as rules
 
@@ -39,12 +39,12 @@ fine_same : {A : Type 0} (x y : A) → Fine x ≡ Fine y → x ≡ y
 fine_same x y e = cc
 
 -- the body of a call stands where the call does
-frame_at : (p : Code) (here : Where) (s : State) (c : Callee) (groups : ℕ → ℕ) (o : Outcome (List Argument)) (f : Frame) → (o >>= λ xs. Fine (frame p here s c groups xs)) ≡ Fine f → f.here.path ≡ here.path
-frame_at p here s c groups (Fine xs) f e = sym (ap (λ (g : Frame). g.here.path) (fine_same (frame p here s c groups xs) f e))
+frame_at : (p : Code) (here : Where) (s : State) (c : Callee) (groups : ℕ → ℕ) (o : Outcome (List Argument)) (f : CallFrame) → (o >>= λ xs. Fine (frame p here s c groups xs)) ≡ Fine f → f.here.path ≡ here.path
+frame_at p here s c groups (Fine xs) f e = sym (ap (λ (g : CallFrame). g.here.path) (fine_same (frame p here s c groups xs) f e))
 frame_at p here s c groups (Traps code) f e = absurd (cc)
 frame_at p here s c groups Lacks f e = absurd (cc)
 
-entered_at : (p : Code) (here : Where) (s : State) (i : Invocation) (o : Outcome Callee) (f : Frame)
+entered_at : (p : Code) (here : Where) (s : State) (i : Invocation) (o : Outcome Callee) (f : CallFrame)
     → (o >>= λ c. each_argument p s (givens i) >>= λ xs. Fine (frame p here s c (group_given s c i) xs)) ≡ Fine f → f.here.path ≡ here.path
 entered_at p here s i (Fine c) f e = frame_at p here s c (group_given s c i) (each_argument p s (givens i)) f e
 entered_at p here s i (Traps code) f e = absurd (cc)
@@ -121,7 +121,7 @@ module _ {V W : Type 0} (S : Noted V W) (p : Code) (o : Observer V) (u : Observe
   from_both a f g h s n m i = h (record { s = s; n = n; t = s; m = m }) (refl, i)
 
   note_given : {A : Type 0} (a : Stretch) (n : Notes V) (m : Notes W) → S.Start n m → (y : Outcome A) (at : Spot) (f : A → Run V) (g : A → Run W) → ((z : A) → S.Rel a n m (f z) (g z))
-      → State → S.Rel a n m (given y at n f) (given y at m g)
+      → State → S.Rel a n m (outcome_given y at n f) (outcome_given y at m g)
   note_given a n m h (Fine z) at f g e s = e z
   note_given a n m h (Traps code) at f g e s = K.widen Quiet a (λ y e. absurd e) n m _ _ (K.ends (Trap code at) s n m h)
   note_given a n m h Lacks at f g e s = K.widen Quiet a (λ y e. absurd e) n m _ _ (K.stops s n m h)
@@ -146,10 +146,10 @@ module _ {V W : Type 0} (S : Noted V W) (p : Code) (o : Observer V) (u : Observe
   note_away : (here : Where) (g : ℕ) → Goes S Quiet (away_to here g) (away_to here g)
   note_away here g s n m h = by_name (nat_eq io g)
     where
-      by_name : (b : Bool) → S.Rel Quiet n m (if b then Went s (record n { cell = Some (cell_of here g) }) else Went (with_group g (Some (Away (cell_of here g))) s) n)
-          (if b then Went s (record m { cell = Some (cell_of here g) }) else Went (with_group g (Some (Away (cell_of here g))) s) m)
+      by_name : (b : Bool) → S.Rel Quiet n m (if b then Went s (record n { cell = Some (cell_of here g) }) else Went (with_store g (Some (Away (cell_of here g))) s) n)
+          (if b then Went s (record m { cell = Some (cell_of here g) }) else Went (with_store g (Some (Away (cell_of here g))) s) m)
       by_name true = subst (λ (z : List Piece). S.Rel Quiet n m (Went s (record n { cell = Some (cell_of here g) })) (Went s (record m { log = z; cell = Some (cell_of here g) }))) (K.logs n m h) (K.relogs n.log (Some (cell_of here g)) s n m h)
-      by_name false = K.went (with_group g (Some (Away (cell_of here g))) s) n m h
+      by_name false = K.went (with_store g (Some (Away (cell_of here g))) s) n m h
 
   note_back : (g : ℕ) (image : Image) → Goes S Quiet (back_to g image) (back_to g image)
   note_back g image s n m h = by_name (nat_eq io g) image
@@ -159,8 +159,8 @@ module _ {V W : Type 0} (S : Noted V W) (p : Code) (o : Observer V) (u : Observe
       by_name true (OfLog pieces) = K.relogs pieces None s n m h
       by_name false (OfStore st) = by_height (all_low st)
         where
-          by_height : (b : Bool) → S.Rel Quiet n m (if b then Went (with_group g (Some (Here st)) s) n else Stops n) (if b then Went (with_group g (Some (Here st)) s) m else Stops m)
-          by_height true = K.went (with_group g (Some (Here st)) s) n m h
+          by_height : (b : Bool) → S.Rel Quiet n m (if b then Went (with_store g (Some (Here st)) s) n else Stops n) (if b then Went (with_store g (Some (Here st)) s) m else Stops m)
+          by_height true = K.went (with_store g (Some (Here st)) s) n m h
           by_height false = K.stops s n m h
       by_name false (OfLog pieces) = K.stops s n m h
 
@@ -178,34 +178,34 @@ module _ {V W : Type 0} (S : Noted V W) (p : Code) (o : Observer V) (u : Observe
     inner = λ x j f e. tt;
     outer = λ x j f e. tt;
     starts = λ x j f e. (refl, j.1);
-    body = λ x j f e. note_block f.here (subst S.Ok (sym (entered_at p here x.s i (called p x.s i) f e)) h) f.callee.method.body;
+    body = λ x j f e. note_block f.here (subst S.Ok (sym (entered_at p here x.s i (called_method p x.s i) f e)) h) f.callee.method.body;
     leaves = λ k x j f e r q y go ho g.
-        subst (λ (t : State). S.Rel (From here.path 0) x.n x.m (and_then r (λ t n. given (leave f i x.s t) at n (λ y. go t.result y n))) (and_then q (λ w n. given (leave f i t w) at n (λ y. ho w.result y n)))) j.0
+        subst (λ (t : State). S.Rel (From here.path 0) x.n x.m (and_then r (λ t n. outcome_given (leave f i x.s t) at n (λ y. go t.result y n))) (and_then q (λ w n. outcome_given (leave f i t w) at n (λ y. ho w.result y n)))) j.0
         (K.follows (From here.path 0) Quiet (From here.path 0) (quiet_last (From here.path 0)) x.n x.m r q
-        (subst (λ (z : Instance). S.Rel (From z 0) x.n x.m r q) (entered_at p here x.s i (called p x.s i) f e) y)
-        (λ t n. given (leave f i x.s t) at n (λ y. go t.result y n)) (λ t n. given (leave f i x.s t) at n (λ y. ho t.result y n))
+        (subst (λ (z : Instance). S.Rel (From z 0) x.n x.m r q) (entered_at p here x.s i (called_method p x.s i) f e) y)
+        (λ t n. outcome_given (leave f i x.s t) at n (λ y. go t.result y n)) (λ t n. outcome_given (leave f i x.s t) at n (λ y. ho t.result y n))
         (λ t n m l. note_given Quiet n m l (leave f i x.s t) at (λ y. go t.result y n) (λ y. ho t.result y m) (λ y. g t.result (record { s = y; n = n; t = y; m = m }) (refl, l)) t));
   }
 
   note_lock : (here : Where) → S.Ok here.path → (at : Spot) (g : NameAt) (number : ℕ) (y : Lines) → IsLock (relation S) p tt tt here at g number y
   note_lock here h at g number y =
-      let us : Uses = else_uses p g.name (whole y (locking g here)) in
+      let us : Uses = else_uses p g.name (whole_block y (locking g here)) in
       record {
         cells = λ x i. ap (λ (s : State). cell_at g.name s x.n) i.0 ∙ ap (λ (z : Option CellName). cell_at g.name x.t (record x.n { cell = z })) (K.cells x.n x.m i.1);
         block = note_block (locking g here) h y;
-        ins = λ x i. ap (λ (s : State). values_in (else_uses p g.name (whole y (locking g here))) s) i.0;
-        fits = λ x i z. ap (λ (s : State). out_fits p (else_uses p g.name (whole y (locking g here))) (after p here.method at (Locks g number y) here.context) s z) i.0;
+        ins = λ x i. ap (λ (s : State). values_in (else_uses p g.name (whole_block y (locking g here))) s) i.0;
+        fits = λ x i z. ap (λ (s : State). out_fits p (else_uses p g.name (whole_block y (locking g here))) (after p here.method at (Locks g number y) here.context) s z) i.0;
         gives = λ z x i f path v w j. on_both Quiet (with_out us z) (with_out us z) (λ s n m l. note_appends (pieces_in z.pieces) (with_values us z s) n m l) (answered_by path v w x) j;
       }
 
   pub forms : Forms (relation S) p
   forms = record {
     makes = λ k l here at a h e y z r. on_both Quiet
-        (λ s n. given (made p e s) at n (λ r. assigned at y z r.0 (moved (right_moved p z e) r.1) n)) (λ s n. given (made p e s) at n (λ r. assigned at y z r.0 (moved (right_moved p z e) r.1) n))
-        (λ s n m i. note_given Quiet n m i (made p e s) at (λ r. assigned at y z r.0 (moved (right_moved p z e) r.1) n) (λ r. assigned at y z r.0 (moved (right_moved p z e) r.1) m)
-        (λ r. note_assigned at y z r.0 (moved (right_moved p z e) r.1) n m i) s);
+        (λ s n. outcome_given (made p e s) at n (λ r. assigned at y z r.0 (without_moved (right_moved p z e) r.1) n)) (λ s n. outcome_given (made p e s) at n (λ r. assigned at y z r.0 (without_moved (right_moved p z e) r.1) n))
+        (λ s n m i. note_given Quiet n m i (made p e s) at (λ r. assigned at y z r.0 (without_moved (right_moved p z e) r.1) n) (λ r. assigned at y z r.0 (without_moved (right_moved p z e) r.1) m)
+        (λ r. note_assigned at y z r.0 (without_moved (right_moved p z e) r.1) n m i) s);
     effects = λ k l here at a h f e. on_both Quiet (λ s n. does at n (f s)) (λ s n. does at n (f s)) (λ s n m i. note_given Quiet n m i (f s) at (λ t. Went t n) (λ t. Went t m) (λ t. K.went t n m i) s);
-    groups = λ k l here at g h. on_both Quiet (λ s n. Went (with_group g.name (Some (Here [])) s) n) (λ s n. Went (with_group g.name (Some (Here [])) s) n) (λ s n m i. K.went (with_group g.name (Some (Here [])) s) n m i);
+    groups = λ k l here at g h. on_both Quiet (λ s n. Went (with_store g.name (Some (Here [])) s) n) (λ s n. Went (with_store g.name (Some (Here [])) s) n) (λ s n m i. K.went (with_store g.name (Some (Here [])) s) n m i);
     prints = λ k l here at a h t y. on_both Quiet (λ s n. Went s (logged y n)) (λ s n. Went s (logged y n)) (note_appends y);
     tests = λ k l here at a h e t x i. ap (λ (s : State). value p s e) i.0;
     passes = λ k l here at e h. note_passes;
@@ -260,7 +260,7 @@ module _ {V W : Type 0} (S : Noted V W) (p : Code) (o : Observer V) (u : Observe
   pub along_run : ((q : Instance) → S.Ok q) → (ints : List ℤ) (fuel : ℕ) (v : V) (w : W) → S.Start (no_notes v) (no_notes w)
       → (P : Run V → Run W → Type 0) → ((a : Stretch) (r : Run V) (q : Run W) → S.Rel a (no_notes v) (no_notes w) r q → P r q)
       → P (run (machine p o c) ints fuel v) (run (machine p u d) ints fuel w)
-  along_run ok ints fuel v w h P f = by_start (start p ints)
+  along_run ok ints fuel v w h P f = by_start (run_start p ints)
     where
       by_start : (x : Option Start) → P (rules.given x (Stops (no_notes v)) (λ (y : Start). block (machine p o c) (below (machine p o c) fuel) y.here y.method.body y.state (no_notes v)))
           (rules.given x (Stops (no_notes w)) (λ (y : Start). block (machine p u d) (below (machine p u d) fuel) y.here y.method.body y.state (no_notes w)))

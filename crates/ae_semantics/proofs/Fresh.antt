@@ -3,18 +3,18 @@ use Rattle.std.proofs.Common.{◌≡◌, ℕ, zero, suc, nat_eq, ℤ, Bool, true
 use Rattle.std.proofs.lemmas.Bool.{eq-eqb}
 use Rattle.std.proofs.lemmas.List.Elements.{Contains-append_left}
 use Rattle.ae_tree.specs.Names.{main}
-use Rattle.ae_tree.specs.Limits.{count}
+use Rattle.ae_tree.specs.Limits.{statement_count}
 use Rattle.ae_tree.specs.Plain.{Lines, End, Next, Definition, Code}
 use Rattle.ae_rules.specs.Verdict.{given}
 use Rattle.ae_rules.specs.Lookups.{method_at, top_number}
 use Rattle.ae_rules.specs.Instances.{Instance}
 use Rattle.ae_semantics.specs.Observations.{Seen, Query, Mark, Ran, Turned, Entered, Asked, Used, Stopped}
-use Rattle.ae_semantics.specs.Runs.{Run, Stops, whole}
+use Rattle.ae_semantics.specs.Runs.{Run, Stops, whole_block}
 use Rattle.ae_semantics.specs.Meaning.{block, below}
-use Rattle.ae_semantics.specs.Means.{Start, start, start_at, main_here, main_state, no_notes, notes_of, At, ran_in, Meant}
+use Rattle.ae_semantics.specs.Means.{Start, run_start, start_at, main_here, main_state, no_notes, notes_of, At, ran_in, Meant}
 use Rattle.ae_semantics.specs.Atom.{part}
-use Rattle.ae_rules.specs.Paths.{begins}
-use Rattle.ae_semantics.specs.Unfolding.{Only, LiesIn, under_way, Frame, Begun, Stage, Waiting, all_wait, nodes_from, nodes, gathered, Place, Within, unfinished_at, unfinished, halted, unfolded, halt_place, observed, Passage, Trail, passage, watching_machine, no_trail, watched_run, trail, IsEntered, StandsFor, how_many, results, results_at, turns, turns_at, betweens, betweens_at, unfolded_at, frames_at, halted_at, left_out, left_out_at, events, events_at, cells, cells_at}
+use Rattle.ae_rules.specs.Paths.{is_prefix_of}
+use Rattle.ae_semantics.specs.Unfolding.{Only, LiesIn, under_way, BlockFrame, Begun, FrameStage, Waiting, all_wait, nodes_from, nodes, gathered_from, Extent, Within, unfinished_at, unfinished, halted, unfolded, halt_place, observed, Passage, Trail, passage, watching_machine, no_trail, watched_run, trail, IsFrameEntered, StandsFor, how_many, results, results_at, turns, turns_at, betweens, betweens_at, unfolded_at, frames_at, halted_at, left_out, left_out_at, events, events_at, cells, cells_at}
 use Rattle.ae_semantics.specs.Laws.{FreshStandsFor}
 use Rattle.ae_semantics.proofs.Watched.{watching_changes_nothing}
 use Rattle.ae_semantics.proofs.Kept.{MayMark, Kept, kept_block, kept_from_first}
@@ -23,9 +23,9 @@ use Rattle.ae_semantics.proofs.Alongside.{MayRun}
 -- ---- a tree in which all statements wait
 
 -- nothing is in the tree that no waiting statement gives
-none_given : {A : Type 0} (give : Instance → Stage → List A) → ((q : Instance) → give q Waiting ≡ []) → (q : Instance) (j : ℕ) (x : Lines) → gathered give (nodes_from q j (all_wait x)) ≡ []
+none_given : {A : Type 0} (give : Instance → FrameStage → List A) → ((q : Instance) → give q Waiting ≡ []) → (q : Instance) (j : ℕ) (x : Lines) → gathered_from give (nodes_from q j (all_wait x)) ≡ []
 none_given give w q j End = refl
-none_given give w q j (Next at a rest) = ap (λ xs. xs ++ gathered give (nodes_from q (suc j) (all_wait rest))) (w (q ++ (j ∷ []))) ∙ none_given give w q (suc j) rest
+none_given give w q j (Next at a rest) = ap (λ xs. xs ++ gathered_from give (nodes_from q (suc j) (all_wait rest))) (w (q ++ (j ∷ []))) ∙ none_given give w q (suc j) rest
 
 -- what holds of each thing of an empty list
 of_none : {A : Type 0} (P : A → Type 0) (xs : List A) → xs ≡ [] → (x : A) → Contains xs x → P x
@@ -37,15 +37,15 @@ of_first P y xs h e x (zero, l, d) = subst P d h
 of_first P y xs h e x (suc k, l, d) = of_none P xs e x (k, omega (arith, l), d)
 
 -- the tree has a stage for each statement
-counted : (x : Lines) → count x ≡ how_many (all_wait x)
+counted : (x : Lines) → statement_count x ≡ how_many (all_wait x)
 counted End = refl
-counted (Next at a rest) = let e : count rest ≡ how_many (all_wait rest) = counted rest in omega arith
+counted (Next at a rest) = let e : statement_count rest ≡ how_many (all_wait rest) = counted rest in omega arith
 
 -- ---- paths
 
-begins_with_itself : (q : Instance) → begins q q ≡ true
+begins_with_itself : (q : Instance) → is_prefix_of q q ≡ true
 begins_with_itself [] = refl
-begins_with_itself (i ∷ q) = ap (λ b. b && begins q q) (eq-eqb i i refl) ∙ begins_with_itself q
+begins_with_itself (i ∷ q) = ap (λ b. b && is_prefix_of q q) (eq-eqb i i refl) ∙ begins_with_itself q
 
 -- a test that still holds behind another one
 and_still : (b c d : Bool) → (c ≡ true → d ≡ true) → b && c ≡ true → b && d ≡ true
@@ -53,19 +53,19 @@ and_still true c d k e = k e
 and_still false c d k e = e
 
 -- what lies in an instance has its beginning
-begins_inside : (x q : Instance) (i : ℕ) → begins x q ≡ true → begins x (q ++ (i ∷ [])) ≡ true
+begins_inside : (x q : Instance) (i : ℕ) → is_prefix_of x q ≡ true → is_prefix_of x (q ++ (i ∷ [])) ≡ true
 begins_inside [] q i e = refl
 begins_inside (a ∷ x) [] i e = absurd (cc e)
-begins_inside (a ∷ x) (b ∷ q) i e = and_still (nat_eq a b) (begins x q) (begins x (q ++ (i ∷ []))) (begins_inside x q i) e
+begins_inside (a ∷ x) (b ∷ q) i e = and_still (nat_eq a b) (is_prefix_of x q) (is_prefix_of x (q ++ (i ∷ []))) (begins_inside x q i) e
 
 -- the path lies in an instance that is one of these places
-record IsWithin (places : List Place) (q : Instance) : Type 0 where
+record IsWithin (places : List Extent) (q : Instance) : Type 0 where
   of : Instance
   there : Contains places (Within of)
-  starts : begins of q ≡ true
+  starts : is_prefix_of of q ≡ true
 
 -- what lies in an unfinished task is under way
-is_under_way : (tree : Frame) (q : Instance) → IsWithin (unfinished tree) q → LiesIn (under_way tree) q
+is_under_way : (tree : BlockFrame) (q : Instance) → IsWithin (unfinished tree) q → LiesIn (under_way tree) q
 is_under_way tree q w = (
   Within w.of,
   Contains-append_left (unfinished tree ++ map halt_place (halted tree)) (map Only (unfolded tree)) (Within w.of)
@@ -74,8 +74,8 @@ is_under_way tree q w = (
 )
 
 -- each statement of a block that waits lies in one of the unfinished tasks
-waiting : (places : List Place) (q : Instance) (j : ℕ) (x : Lines)
-    → ((y : Place) → Contains (gathered unfinished_at (nodes_from q j (all_wait x))) y → Contains places y) → MayRun (IsWithin places) q j x
+waiting : (places : List Extent) (q : Instance) (j : ℕ) (x : Lines)
+    → ((y : Extent) → Contains (gathered_from unfinished_at (nodes_from q j (all_wait x))) y → Contains places y) → MayRun (IsWithin places) q j x
 waiting places q j End sub = tt
 waiting places q j (Next at a rest) sub = (
   record { of = q ++ (j ∷ []); there = sub (Within (q ++ (j ∷ []))) (0, omega arith, refl); starts = begins_with_itself (q ++ (j ∷ [])) },
@@ -104,7 +104,7 @@ all_may_ran ok (Used path ∷ ms) h x c = all_may_ran ok ms h.1 x c
 all_may_ran ok (Stopped path ending ∷ ms) h x c = all_may_ran ok ms h.1 x c
 
 -- that all that ran lies in these places is kept by a run in them
-ran_kept : (places : List Place) → Kept (λ ms w. AllMay (IsWithin places) ms) (IsWithin places)
+ran_kept : (places : List Extent) → Kept (λ ms w. AllMay (IsWithin places) ms) (IsWithin places)
 ran_kept places = record {
   inner = λ q i h. record { of = h.of; there = h.there; starts = begins_inside h.of q i h.starts };
   mark = λ m ms w d h. all_may_push (IsWithin places) ms m d h;
@@ -131,7 +131,7 @@ all_free q j (Next at a rest) = (tt, all_free q (suc j) rest)
 -- ---- main
 
 -- the tree of a main
-abbrev tree_of : Code → Definition → List ℤ → Frame
+abbrev tree_of : Code → Definition → List ℤ → BlockFrame
 tree_of p m ints = Begun (record { state = main_state p m ints; log = [] }) (all_wait m.body)
 
 -- main with this number, where a run begins
@@ -149,23 +149,23 @@ numbered p m (Some n) e = (n, refl, e)
 
 -- a run begins with the body of main
 started : (p : Code) (m : Definition) (ints : List ℤ) (n : ℕ) → top_number p main ≡ Some n → method_at p n ≡ Some m
-    → start p ints ≡ started_at p ints n m
+    → run_start p ints ≡ started_at p ints n m
 started p m ints n e d = ap (λ o. given o None (start_at p ints)) e
     ∙ ap (λ o. given o None (λ (m : Definition). started_at p ints n m)) d
 
 -- the run that is watched is that of main's body
 run_is : (p : Code) (m : Definition) (ints : List ℤ) (fuel : ℕ) (table : Query → Option Seen) (n : ℕ)
-    → start p ints ≡ started_at p ints n m
+    → run_start p ints ≡ started_at p ints n m
     → watched_run p ints fuel table ≡ main_run p ints fuel table n m m.body
 run_is p m ints fuel table n e = ap (λ (o : Option Start). given o (Stops (no_notes no_trail))
     (λ (x : Start). block (watching_machine p table) (below (watching_machine p table) fuel) x.here x.method.body x.state (no_notes no_trail))) e
 
 -- the first statement of main finds what the tree was entered with
 entered : (p : Code) (m : Definition) (ints : List ℤ) (fuel : ℕ) (table : Query → Option Seen) (n : ℕ) (x : Lines)
-    → IsEntered p (notes_of (main_run p ints fuel table n m x)).watch [] (Begun (record { state = main_state p m ints; log = [] }) (all_wait x))
+    → IsFrameEntered p (notes_of (main_run p ints fuel table n m x)).watch [] (Begun (record { state = main_state p m ints; log = [] }) (all_wait x))
 entered p m ints fuel table n End = tt
 entered p m ints fuel table n (Next at a rest) =
-    let y : Passage = passage (main_here p n m) (whole (Next at a rest) (main_here p n m)) 0 (main_state p m ints) (no_notes no_trail) in (
+    let y : Passage = passage (main_here p n m) (whole_block (Next at a rest) (main_here p n m)) 0 (main_state p m ints) (no_notes no_trail) in (
       y,
       kept_from_first (λ ms w. Contains w.found y) (λ q. Unit {0}) (found_kept y) p table fuel
           (main_here p n m) at a rest (all_free [] 0 (Next at a rest)) (main_state p m ints) (no_notes no_trail) (0, omega arith, refl),
@@ -178,7 +178,7 @@ entered p m ints fuel table n (Next at a rest) =
 all_inside : (p : Code) (m : Definition) (ints : List ℤ) (fuel : ℕ) (table : Query → Option Seen) (n : ℕ) (x : At)
     → Contains (ran_in (notes_of (main_run p ints fuel table n m m.body)).marks) x → IsWithin (unfinished (tree_of p m ints)) x.path
 all_inside p m ints fuel table n x c =
-    let places : List Place = unfinished (tree_of p m ints) in
+    let places : List Extent = unfinished (tree_of p m ints) in
     let ok : Instance → Type 0 = IsWithin places in
     all_may_ran ok (notes_of (main_run p ints fuel table n m m.body)).marks
     (kept_block (λ ms w. AllMay ok ms) ok (ran_kept places) p table fuel
@@ -186,15 +186,15 @@ all_inside p m ints fuel table n x c =
     x c
 
 -- what the meaning past what stopped runs is what main's body runs
-ran_by_main : (p : Code) (m : Definition) (ints : List ℤ) (fuel : ℕ) (table : Query → Option Seen) (n : ℕ) → start p ints ≡ started_at p ints n m
+ran_by_main : (p : Code) (m : Definition) (ints : List ℤ) (fuel : ℕ) (table : Query → Option Seen) (n : ℕ) → run_start p ints ≡ started_at p ints n m
     → (x : At) → Contains (part p ints fuel table).ran x → Contains (ran_in (notes_of (main_run p ints fuel table n m m.body)).marks) x
 ran_by_main p m ints fuel table n e x c = subst (λ (r : Run Trail). Contains (ran_in (notes_of r).marks) x) (run_is p m ints fuel table n e)
     (subst (λ (y : Meant). Contains y.ran x) (sym (watching_changes_nothing p ints fuel table)) c)
 
-stands : (p : Code) (m : Definition) (ints : List ℤ) (fuel : ℕ) (n : ℕ) → start p ints ≡ started_at p ints n m → StandsFor p ints fuel (tree_of p m ints)
+stands : (p : Code) (m : Definition) (ints : List ℤ) (fuel : ℕ) (n : ℕ) → run_start p ints ≡ started_at p ints n m → StandsFor p ints fuel (tree_of p m ints)
 unfolding trail
 stands p m ints fuel n e =
-    let tree : Frame = tree_of p m ints in
+    let tree : BlockFrame = tree_of p m ints in
     let table : Query → Option Seen = observed tree in
     let d : watched_run p ints fuel table ≡ main_run p ints fuel table n m m.body = run_is p m ints fuel table n e in
     record {
@@ -202,8 +202,8 @@ stands p m ints fuel n e =
       each_turn = of_none _ (turns tree) (none_given turns_at (λ q. refl) [] 0 m.body);
       each_between = of_none _ (betweens tree) (none_given betweens_at (λ q. refl) [] 0 m.body);
       each_unfolded = of_none _ (unfolded tree) (none_given unfolded_at (λ q. refl) [] 0 m.body);
-      each_entered = of_first _ (record { path = []; frame = tree }) (gathered frames_at (nodes tree))
-          (subst (λ (r : Run Trail). IsEntered p (notes_of r).watch [] tree) (sym d) (entered p m ints fuel table n m.body))
+      each_entered = of_first _ (record { path = []; frame = tree }) (gathered_from frames_at (nodes tree))
+          (subst (λ (r : Run Trail). IsFrameEntered p (notes_of r).watch [] tree) (sym d) (entered p m ints fuel table n m.body))
           (none_given frames_at (λ q. refl) [] 0 m.body);
       each_halt = of_none _ (halted tree) (none_given halted_at (λ q. refl) [] 0 m.body);
       each_left_out = of_none _ (left_out tree) (none_given left_out_at (λ q. refl) [] 0 m.body);
@@ -215,7 +215,7 @@ stands p m ints fuel n e =
 pub fresh_stands_for : FreshStandsFor
 fresh_stands_for p m ints fuel e =
     let x : (n : ℕ) × (top_number p main ≡ Some n) × (method_at p n ≡ Some m) = numbered p m (top_number p main) e in
-    let s : start p ints ≡ started_at p ints x.0 m = started p m ints x.0 x.1 x.2 in (
+    let s : run_start p ints ≡ started_at p ints x.0 m = started p m ints x.0 x.1 x.2 in (
       tree_of p m ints,
       ap (λ (o : Option Start). given o None (λ (y : Start). Some (Begun (record { state = y.state; log = [] }) (all_wait y.method.body)))) s,
       stands p m ints fuel x.0 s,

@@ -9,12 +9,12 @@ use Rattle.ae_rules.specs.Instances.{Instance}
 use Rattle.ae_semantics.specs.Places.{State}
 use Rattle.ae_semantics.specs.Contexts.{after}
 use Rattle.ae_semantics.specs.Observations.{Origin, Seen, Query, Mark, Ran, Used, Stopped, Notes}
-use Rattle.ae_semantics.specs.Runs.{Run, Went, Ends, Stops, Act, and_then, chosen, marked, deeper, Where, knowing, whole}
+use Rattle.ae_semantics.specs.Runs.{Run, Went, Ends, Stops, Act, and_then, chosen, marked, deeper, Where, knowing, whole_block}
 use Rattle.ae_semantics.specs.Runs.{flow_close, is_left_out, absent, gone_on}
 use Rattle.ae_semantics.specs.Blocks.{used}
 use Rattle.ae_semantics.specs.Meaning.{begun, forgotten, one, many, block, below}
 use Rattle.ae_semantics.specs.Means.{notes_of}
-use Rattle.ae_semantics.specs.Unfolding.{Passage, Trail, passage, with_found, behind, watched, watching, by_table, watching_machine}
+use Rattle.ae_semantics.specs.Unfolding.{Passage, Trail, passage, with_found, left_behind, watched, watching, by_table, watching_machine}
 use Rattle.ae_semantics.proofs.Related.{IsFree}
 use Rattle.ae_semantics.proofs.Alongside.{MayRun}
 use Rattle.ae_semantics.proofs.Alone.{Alone, Stays, alone_one, alone_many, alone_block}
@@ -78,7 +78,7 @@ module _ (I : List Mark → Trail → Type 0) (ok : Instance → Type 0) (k : Ke
   kept_close [] s n i = i
   kept_close (j ∷ barred) s n i = i
 
-  kept_behind : (here : Where) (all : Scene) (j : ℕ) (r : Run Trail) → After I r → After I (behind here all j r)
+  kept_behind : (here : Where) (all : Scene) (j : ℕ) (r : Run Trail) → After I r → After I (left_behind here all j r)
   kept_behind here all j (Went s n) d = k.left (passage here all j s n) n.marks n.watch d
   kept_behind here all j (Ends ending n) d = d
   kept_behind here all j (Stops n) d = d
@@ -122,11 +122,11 @@ module _ (I : List Mark → Trail → Type 0) (ok : Instance → Type 0) (k : Ke
 
   -- a fact that holds as soon as the first statement of a block was found holds after the block
   pub kept_from_first : (fuel : ℕ) (here : Where) (at : Spot) (x : Action) (rest : Lines) → MayRun ok here.path 0 (Next at x rest)
-      → (s : State) (n : Notes Trail) → On I (with_found (passage here (whole (Next at x rest) here) 0 s n) n)
+      → (s : State) (n : Notes Trail) → On I (with_found (passage here (whole_block (Next at x rest) here) 0 s n) n)
       → After I (block (watching_machine p table) (below (watching_machine p table) fuel) here (Next at x rest) s n)
   unfolding many
   kept_from_first fuel here at x rest h s n i =
-      let all : Scene = whole (Next at x rest) here in
+      let all : Scene = whole_block (Next at x rest) here in
       let act : Act Trail = begun (deeper 0 here) at (one (watching_machine p table) (below (watching_machine p table) fuel) (deeper 0 here) at x) in
       let m : Notes Trail = with_found (passage here all 0 s n) n in
       kept_then I (many (watching_machine p table) (below (watching_machine p table) fuel) here all 0 (Next at x rest) [] s n)

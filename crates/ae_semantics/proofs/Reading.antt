@@ -12,9 +12,9 @@ use Rattle.ae_rules.specs.Context.{Context}
 use Rattle.ae_tree.specs.declared.form.Form.{Form}
 use Rattle.ae_tree.specs.declared.form.Form.TheVariants as f
 use Rattle.ae_tree.specs.Plain.{Expression, Definition, Chooses, ChoosesElse, Prints, Asserts}
-use Rattle.ae_rules.specs.Expressions.{place, judge_value, is_value}
+use Rattle.ae_rules.specs.Expressions.{expression_spot, judge_value, is_value}
 use Rattle.ae_semantics.proofs.Walked.{SameOn, on_left, FitsShallow, value_same, judged_walked, bind_holds, formed}
-use Rattle.ae_rules.specs.Uses.{is_seen, whole, ◌∪◌, outside, value_uses, lines_use, statement_uses}
+use Rattle.ae_rules.specs.Uses.{is_seen, whole_group, ◌∪◌, outside, value_uses, lines_use, statement_uses}
 use Rattle.ae_rules.specs.Judges.{Judges}
 use Rattle.ae_semantics.specs.Places.{State, name_of, group_of}
 use Rattle.ae_semantics.specs.Contexts.{after}
@@ -127,16 +127,16 @@ same_uses : {W : Type 0} (p : Code) (fits : Context → State → Type 0) (logs 
 same_uses p fits logs k l here at a s x h = record { locals = λ y e. h.locals y (s.uses (resource.Local y) e); groups = λ g e. h.groups g (s.uses (resource.Group g) e) }
 
 value_judged : (p : Code) (m : Definition) (at : Spot) (a : Action) (c d : Context) (e : Expression) → HasTest a e → Judges p m at a c d → (k : Form) × (judge_value p c e ≡ rules.Holds k)
-value_judged p m at (Chooses x n b) c d e t j = bind_holds _ (is_value p c f.Bool x) _ d j (λ y h i. formed _ f.Bool (judge_value p c x) (place x) y h (λ k g. (k, subst (λ z. judge_value p c z ≡ rules.Holds k) t g)))
-value_judged p m at (ChoosesElse x n b i y) c d e t j = bind_holds _ (is_value p c f.Bool x) _ d j (λ y h i. formed _ f.Bool (judge_value p c x) (place x) y h (λ k g. (k, subst (λ z. judge_value p c z ≡ rules.Holds k) t g)))
+value_judged p m at (Chooses x n b) c d e t j = bind_holds _ (is_value p c f.Bool x) _ d j (λ y h i. formed _ f.Bool (judge_value p c x) (expression_spot x) y h (λ k g. (k, subst (λ z. judge_value p c z ≡ rules.Holds k) t g)))
+value_judged p m at (ChoosesElse x n b i y) c d e t j = bind_holds _ (is_value p c f.Bool x) _ d j (λ y h i. formed _ f.Bool (judge_value p c x) (expression_spot x) y h (λ k g. (k, subst (λ z. judge_value p c z ≡ rules.Holds k) t g)))
 value_judged p m at (Prints x) c d e t j = bind_holds _ (judge_value p c x) _ d j (λ k g i. (k, subst (λ z. judge_value p c z ≡ rules.Holds k) t g))
-value_judged p m at (Asserts x) c d e t j = bind_holds _ (is_value p c f.Bool x) _ d j (λ y h i. formed _ f.Bool (judge_value p c x) (place x) y h (λ k g. (k, subst (λ z. judge_value p c z ≡ rules.Holds k) t g)))
+value_judged p m at (Asserts x) c d e t j = bind_holds _ (is_value p c f.Bool x) _ d j (λ y h i. formed _ f.Bool (judge_value p c x) (expression_spot x) y h (λ k g. (k, subst (λ z. judge_value p c z ≡ rules.Holds k) t g)))
 value_judged p m at _ c d e t j = absurd t
 
 value_used : (p : Code) (m : Definition) (a : Action) (c : Context) (e : Expression) → HasTest a e → (s t : State) → SameOn (statement_uses p m a c) s t → SameOn (value_uses p c e) s t
 value_used p m (Chooses x n b) c e d s t u = subst (λ z. SameOn (value_uses p c z) s t) d (on_left (value_uses p c x) (outside c (lines_use p m b c)) s t u)
 value_used p m (ChoosesElse x n b i y) c e d s t u = subst (λ z. SameOn (value_uses p c z) s t) d (on_left (value_uses p c x) (outside c (lines_use p m b c) ∪ outside c (lines_use p m y c)) s t u)
-value_used p m (Prints x) c e d s t u = subst (λ z. SameOn (value_uses p c z) s t) d (on_left (value_uses p c x) (whole io) s t u)
+value_used p m (Prints x) c e d s t u = subst (λ z. SameOn (value_uses p c z) s t) d (on_left (value_uses p c x) (whole_group io) s t u)
 value_used p m (Asserts x) c e d s t u = subst (λ z. SameOn (value_uses p c z) s t) d u
 value_used p m _ c e d s t u = absurd d
 

@@ -15,14 +15,14 @@ use Rattle.ae_rules.specs.Context.{Local, Context}
 use Rattle.ae_rules.specs.Blocks.{Scene}
 use Rattle.ae_rules.specs.Instances.{Instance}
 use Rattle.ae_semantics.specs.Values.{Val, all_low}
-use Rattle.ae_semantics.specs.Places.{Outcome, Fine, Traps, Lacks, ◌>>=◌, there, CellName, Here, Away, State, with_group}
+use Rattle.ae_semantics.specs.Places.{Outcome, Fine, Traps, Lacks, ◌>>=◌, there, CellName, Here, Away, State, with_store}
 use Rattle.ae_semantics.specs.Expressions.{value, truth, truth_of}
 use Rattle.ae_semantics.specs.Contexts.{after}
 use Rattle.ae_semantics.specs.Observations.{Origin, FromBlock, FromCell, Piece, Image, OfStore, OfLog, Carried, Ask, Gave, Trapped, Spent, Seen, OfBlock, OfCell, Query, AtBlock, AtEnd, Ending, Trap, Fuel, Mark, Ran, Turned, Entered, Stopped, Asked, Notes, Observer}
-use Rattle.ae_semantics.specs.Runs.{Run, Went, Ends, Stops, Act, and_then, given, paid, chosen, marked, logged, deeper, Where, knowing, splitting, locking, whole, Order, Machine, Below, fuel_of}
-use Rattle.ae_semantics.specs.Calls.{Frame, enter, leave, moved}
-use Rattle.ae_semantics.specs.Blocks.{image_of, cell_of, to_cell, goes_away, all_go_away, store_back, log_back, unless_stopped, used, cell_back, comes_back, all_come_back, cell_at, values_in, out_fits, with_out, block_back, ask_of, else_uses, put_to, asks}
-use Rattle.ae_semantics.specs.Meaning.{stored, stored_at, frozen, shared, returns, printed, prints, begun, assigned, result_to, made, right_moved, sets, body_run, call_run, call, asserts, does, forgotten, left, again, splits, locks, one, many, block, below}
+use Rattle.ae_semantics.specs.Runs.{Run, Went, Ends, Stops, Act, and_then, outcome_given, paid, chosen, marked, logged, deeper, Where, knowing, splitting, locking, whole_block, Order, Machine, Below, fuel_of}
+use Rattle.ae_semantics.specs.Calls.{CallFrame, enter, leave, without_moved}
+use Rattle.ae_semantics.specs.Blocks.{image_of, cell_of, to_cell, goes_away, all_go_away, store_back, log_back, unless_stopped, used, cell_back, image_comes_back, all_come_back, cell_at, values_in, out_fits, with_out, block_back, ask_of, else_uses, put_to, asks}
+use Rattle.ae_semantics.specs.Meaning.{stored, stored_at, frozen, shares_into, returns_value, printed_value, prints_piece, begun, assigned, result_to, made, right_moved, sets, body_run, call_run, calls_method, asserts, does, forgotten, left, again, splits_groups, locks, one, many, block, below}
 use Rattle.ae_semantics.proofs.SourceOrder.{IsUpTo, same_start, one_up_to, earlier_up_to}
 
 -- ---- what a stretch of a run may tell of
@@ -179,8 +179,8 @@ abbrev pub HasEffect : Code → Where → Action → (State → Outcome State) �
 HasEffect p here (Stores path e) f = stored p path e ≡ f
 HasEffect p here (StoresAt path i e) f = stored_at p path i e ≡ f
 HasEffect p here (Freezes x) f = frozen x.name ≡ f
-HasEffect p here (Shares x g) f = shared x.name g.name ≡ f
-HasEffect p here (Returns e) f = returns p here.method e ≡ f
+HasEffect p here (Shares x g) f = shares_into x.name g.name ≡ f
+HasEffect p here (Returns e) f = returns_value p here.method e ≡ f
 HasEffect p here _ f = ⊥
 
 -- nothing is done
@@ -193,7 +193,7 @@ Forgets S k l y = Does S k l Quiet (λ s n. Went (forgotten y s) n) (λ s n. Wen
 
 -- a block may stand here
 abbrev pub IsBlock : {V W : Type 0} (S : Relation V W) → S.World → S.World → Where → Lines → Type 0
-IsBlock S k l here y = (w : S.World) × S.Many k w here (whole y here) 0 y × Forgets S w l here.context
+IsBlock S k l here y = (w : S.World) × S.Many k w here (whole_block y here) 0 y × Forgets S w l here.context
 
 -- both find the expression alike
 abbrev pub IsTested : {V W : Type 0} (S : Relation V W) → Code → S.World → Expression → Type 0
@@ -212,7 +212,7 @@ pub record IsIn {V W : Type 0} (S : Relation V W) (k w l : S.World) : Type 0 whe
 
 -- a group goes away, and what was observed of its cell comes back
 abbrev pub away_to : {W : Type 0} → Where → ℕ → Act W
-away_to here g s n = if nat_eq io g then Went s (record n { cell = Some (cell_of here g) }) else Went (with_group g (Some (Away (cell_of here g))) s) n
+away_to here g s n = if nat_eq io g then Went s (record n { cell = Some (cell_of here g) }) else Went (with_store g (Some (Away (cell_of here g))) s) n
 
 abbrev pub back_to : {W : Type 0} → ℕ → Image → Act W
 back_to g image s n = if nat_eq io g then log_back image s n else store_back g image s n
@@ -240,28 +240,28 @@ pub record IsSplit {V W : Type 0} (S : Relation V W) (k l : S.World) (here : Whe
 pub record IsLock {V W : Type 0} (S : Relation V W) (p : Code) (k l : S.World) (here : Where) (at : Spot) (g : NameAt) (number : ℕ) (y : Lines) : Type 0 where
   pub cells : (x : Both V W) → S.Start k x → cell_at g.name x.s x.n ≡ cell_at g.name x.t x.m
   pub block : IsBlock S k l (locking g here) y
-  pub ins : (x : Both V W) → S.Start k x → values_in (else_uses p g.name (whole y (locking g here))) x.s ≡ values_in (else_uses p g.name (whole y (locking g here))) x.t
+  pub ins : (x : Both V W) → S.Start k x → values_in (else_uses p g.name (whole_block y (locking g here))) x.s ≡ values_in (else_uses p g.name (whole_block y (locking g here))) x.t
   pub fits : (x : Both V W) → S.Start k x → (z : Carried)
-      → out_fits p (else_uses p g.name (whole y (locking g here))) (after p here.method at (Locks g number y) here.context) x.s z
-      ≡ out_fits p (else_uses p g.name (whole y (locking g here))) (after p here.method at (Locks g number y) here.context) x.t z
-  pub gives : (z : Carried) (x : Both V W) → S.Start k x → out_fits p (else_uses p g.name (whole y (locking g here))) (after p here.method at (Locks g number y) here.context) x.s z ≡ true
+      → out_fits p (else_uses p g.name (whole_block y (locking g here))) (after p here.method at (Locks g number y) here.context) x.s z
+      ≡ out_fits p (else_uses p g.name (whole_block y (locking g here))) (after p here.method at (Locks g number y) here.context) x.t z
+  pub gives : (z : Carried) (x : Both V W) → S.Start k x → out_fits p (else_uses p g.name (whole_block y (locking g here))) (after p here.method at (Locks g number y) here.context) x.s z ≡ true
       → (from : Origin) (v : V) (w : W) → S.Start k (answered_by from v w x)
-      → S.Rel k l Quiet (answered_by from v w x) (with_out (else_uses p g.name (whole y (locking g here))) z x.s (used from v x.n)) (with_out (else_uses p g.name (whole y (locking g here))) z x.t (used from w x.m))
+      → S.Rel k l Quiet (answered_by from v w x) (with_out (else_uses p g.name (whole_block y (locking g here))) z x.s (used from v x.n)) (with_out (else_uses p g.name (whole_block y (locking g here))) z x.t (used from w x.m))
 
-abbrev pub entering : {V W : Type 0} → Frame → Both V W → Both V W
+abbrev pub entering : {V W : Type 0} → CallFrame → Both V W → Both V W
 entering f x = record x { s = f.state; t = f.state }
 
 -- a call may stand here, from one world to that in which its result is handed on
 pub record IsCall {V W : Type 0} (S : Relation V W) (p : Code) (k l : S.World) (here : Where) (at : Spot) (i : Invocation) : Type 0 where
   pub enters : (x : Both V W) → S.Start k x → enter p here i x.s ≡ enter p here i x.t
-  pub inner : (x : Both V W) → S.Start k x → (f : Frame) → enter p here i x.s ≡ Fine f → S.World
-  pub outer : (x : Both V W) → S.Start k x → (f : Frame) → enter p here i x.s ≡ Fine f → S.World
-  pub starts : (x : Both V W) (h : S.Start k x) (f : Frame) (e : enter p here i x.s ≡ Fine f) → S.Start (inner x h f e) (entering f x)
-  pub body : (x : Both V W) (h : S.Start k x) (f : Frame) (e : enter p here i x.s ≡ Fine f) → IsBlock S (inner x h f e) (outer x h f e) f.here f.callee.method.body
-  pub leaves : (m : S.World) (x : Both V W) (h : S.Start k x) (f : Frame) (e : enter p here i x.s ≡ Fine f)
+  pub inner : (x : Both V W) → S.Start k x → (f : CallFrame) → enter p here i x.s ≡ Fine f → S.World
+  pub outer : (x : Both V W) → S.Start k x → (f : CallFrame) → enter p here i x.s ≡ Fine f → S.World
+  pub starts : (x : Both V W) (h : S.Start k x) (f : CallFrame) (e : enter p here i x.s ≡ Fine f) → S.Start (inner x h f e) (entering f x)
+  pub body : (x : Both V W) (h : S.Start k x) (f : CallFrame) (e : enter p here i x.s ≡ Fine f) → IsBlock S (inner x h f e) (outer x h f e) f.here f.callee.method.body
+  pub leaves : (m : S.World) (x : Both V W) (h : S.Start k x) (f : CallFrame) (e : enter p here i x.s ≡ Fine f)
       → (r : Run V) (q : Run W) → S.Rel (inner x h f e) (outer x h f e) (From f.here.path 0) (entering f x) r q
       → (go : Option Val → Act V) (ho : Option Val → Act W) → ((v : Option Val) → Does S l m Quiet (go v) (ho v))
-      → S.Rel k m (From here.path 0) x (and_then r (λ t n. given (leave f i x.s t) at n (λ y. go t.result y n))) (and_then q (λ t n. given (leave f i x.t t) at n (λ y. ho t.result y n)))
+      → S.Rel k m (From here.path 0) x (and_then r (λ t n. outcome_given (leave f i x.s t) at n (λ y. go t.result y n))) (and_then q (λ t n. outcome_given (leave f i x.t t) at n (λ y. ho t.result y n)))
 
 -- ---- what keeps the relation
 
@@ -283,13 +283,13 @@ goes_on m fuel here at a all j rest = many m (below m fuel) (knowing (after m.co
 pub record Forms {V W : Type 0} (S : Relation V W) (p : Code) : Type 0 where
   -- statements without blocks
   pub makes : (k l : S.World) (here : Where) (at : Spot) (a : Action) → S.One k l here at a → (e : RightSide) (y : ℕ) (z : Form) → HasTarget here a e y z
-      → Does S k l Quiet (λ s n. given (made p e s) at n (λ r. assigned at y z r.0 (moved (right_moved p z e) r.1) n))
-      (λ s n. given (made p e s) at n (λ r. assigned at y z r.0 (moved (right_moved p z e) r.1) n))
+      → Does S k l Quiet (λ s n. outcome_given (made p e s) at n (λ r. assigned at y z r.0 (without_moved (right_moved p z e) r.1) n))
+      (λ s n. outcome_given (made p e s) at n (λ r. assigned at y z r.0 (without_moved (right_moved p z e) r.1) n))
   pub effects : (k l : S.World) (here : Where) (at : Spot) (a : Action) → S.One k l here at a → (f : State → Outcome State) → HasEffect p here a f
       → Does S k l Quiet (λ s n. does at n (f s)) (λ s n. does at n (f s))
   pub groups : (k l : S.World) (here : Where) (at : Spot) (g : NameAt) → S.One k l here at (Groups g)
-      → Does S k l Quiet (λ s n. Went (with_group g.name (Some (Here [])) s) n) (λ s n. Went (with_group g.name (Some (Here [])) s) n)
-  pub prints : (k l : S.World) (here : Where) (at : Spot) (a : Action) → S.One k l here at a → IsPrint a → (y : List Piece) → Does S k l Quiet (λ s n. Went s (logged y n)) (λ s n. Went s (logged y n))
+      → Does S k l Quiet (λ s n. Went (with_store g.name (Some (Here [])) s) n) (λ s n. Went (with_store g.name (Some (Here [])) s) n)
+  pub prints_piece : (k l : S.World) (here : Where) (at : Spot) (a : Action) → S.One k l here at a → IsPrint a → (y : List Piece) → Does S k l Quiet (λ s n. Went s (logged y n)) (λ s n. Went s (logged y n))
   pub tests : (k l : S.World) (here : Where) (at : Spot) (a : Action) → S.One k l here at a → (e : Expression) → HasTest a e → IsTested S p k e
   pub passes : (k l : S.World) (here : Where) (at : Spot) (e : Expression) → S.One k l here at (Asserts e) → Passes S k l
   -- calls
@@ -301,7 +301,7 @@ pub record Forms {V W : Type 0} (S : Relation V W) (p : Code) : Type 0 where
   pub chooses_else : (k l : S.World) (here : Where) (at : Spot) (e : Expression) (nb : ℕ) (b : Lines) (nc : ℕ) (y : Lines) → S.One k l here at (ChoosesElse e nb b nc y)
       → IsBlock S k l (deeper 0 here) b × IsBlock S k l (deeper 1 here) y
   pub repeats : (k l : S.World) (here : Where) (at : Spot) (e : Expression) (nb : ℕ) (b : Lines) → S.One k l here at (Repeats e nb b) → (w : S.World) × IsIn S k w l × IsLoop S p w l here e b
-  pub splits : (k l : S.World) (here : Where) (at : Spot) (gs : List NameAt) (nb : ℕ) (b : Lines) → S.One k l here at (Splits gs nb b) → here.inside ≡ false → IsSplit S k l here gs b
+  pub splits_groups : (k l : S.World) (here : Where) (at : Spot) (gs : List NameAt) (nb : ℕ) (b : Lines) → S.One k l here at (Splits gs nb b) → here.inside ≡ false → IsSplit S k l here gs b
   pub joins : (k l : S.World) (here : Where) (at : Spot) (gs : List NameAt) (nb : ℕ) (b : Lines) → S.One k l here at (Splits gs nb b) → here.inside ≡ true → IsBlock S k l (splitting gs here) b
   pub locks : (k l : S.World) (here : Where) (at : Spot) (g : NameAt) (nb : ℕ) (b : Lines) → S.One k l here at (Locks g nb b) → IsLock S p k l here at g nb b
 
@@ -346,14 +346,14 @@ module _ {V W : Type 0} (S : Relation V W) (p : Code) (o : Observer V) (u : Obse
   quiet k l a x r q h = L.widen k l Quiet a (λ y e. absurd e) x r q h
 
   related_by : {A : Type 0} (k l : S.World) (a : Stretch) (x : Both V W) → S.Start k x → (y : Outcome A) (at : Spot) (f : A → Run V) (g : A → Run W) → ((z : A) → y ≡ Fine z → S.Rel k l a x (f z) (g z))
-      → S.Rel k l a x (given y at x.n f) (given y at x.m g)
+      → S.Rel k l a x (outcome_given y at x.n f) (outcome_given y at x.m g)
   related_by k l a x h (Fine z) at f g e = e z refl
   related_by k l a x h (Traps code) at f g e = quiet k l a x _ _ (L.ends k l (Trap code at) x h)
   related_by k l a x h Lacks at f g e = quiet k l a x _ _ (L.stops k l x h)
 
   related_given : {A : Type 0} (k l : S.World) (a : Stretch) (x : Both V W) → S.Start k x → (y z : Outcome A) → y ≡ z → (at : Spot) (f : A → Run V) (g : A → Run W) → ((w : A) → y ≡ Fine w → S.Rel k l a x (f w) (g w))
-      → S.Rel k l a x (given y at x.n f) (given z at x.m g)
-  related_given k l a x h y z e at f g i = subst (λ (w : Outcome _). S.Rel k l a x (given y at x.n f) (given w at x.m g)) e (related_by k l a x h y at f g i)
+      → S.Rel k l a x (outcome_given y at x.n f) (outcome_given z at x.m g)
+  related_given k l a x h y z e at f g i = subst (λ (w : Outcome _). S.Rel k l a x (outcome_given y at x.n f) (outcome_given w at x.m g)) e (related_by k l a x h y at f g i)
 
   related_chosen : (k l : S.World) (a : Stretch) (x : Both V W) (b : Bool) (f f' : ⊤ → Run V) (g g' : ⊤ → Run W) → (b ≡ true → S.Rel k l a x (f tt) (g tt)) → (b ≡ false → S.Rel k l a x (f' tt) (g' tt))
       → S.Rel k l a x (chosen b f f') (chosen b g g')
@@ -422,17 +422,17 @@ module _ {V W : Type 0} (S : Relation V W) (p : Code) (o : Observer V) (u : Obse
       by_name false (OfStore st) i = by_height (all_low st) i
         where
           by_height : (b : Bool) → S.Rel k l Quiet (answered_by (FromCell (cell_of here g)) v w x)
-              (if b then Went (with_group g (Some (Here st)) x.s) (used (FromCell (cell_of here g)) v x.n) else Stops (used (FromCell (cell_of here g)) v x.n))
-              (if b then Went (with_group g (Some (Here st)) x.t) (used (FromCell (cell_of here g)) w x.m) else Stops (used (FromCell (cell_of here g)) w x.m))
+              (if b then Went (with_store g (Some (Here st)) x.s) (used (FromCell (cell_of here g)) v x.n) else Stops (used (FromCell (cell_of here g)) v x.n))
+              (if b then Went (with_store g (Some (Here st)) x.t) (used (FromCell (cell_of here g)) w x.m) else Stops (used (FromCell (cell_of here g)) w x.m))
               → IsAnswered S k l Quiet (FromCell (cell_of here g)) v w x
-              (unless_stopped (if b then Went (with_group g (Some (Here st)) x.s) (used (FromCell (cell_of here g)) v x.n) else Stops (used (FromCell (cell_of here g)) v x.n)) x.n)
-              (unless_stopped (if b then Went (with_group g (Some (Here st)) x.t) (used (FromCell (cell_of here g)) w x.m) else Stops (used (FromCell (cell_of here g)) w x.m)) x.m)
+              (unless_stopped (if b then Went (with_store g (Some (Here st)) x.s) (used (FromCell (cell_of here g)) v x.n) else Stops (used (FromCell (cell_of here g)) v x.n)) x.n)
+              (unless_stopped (if b then Went (with_store g (Some (Here st)) x.t) (used (FromCell (cell_of here g)) w x.m) else Stops (used (FromCell (cell_of here g)) w x.m)) x.m)
           by_height true j = inr j
           by_height false j = inl (refl, refl)
       by_name false (OfLog pieces) i = inl (refl, refl)
 
   comes_related : (k l : S.World) (here : Where) (g : ℕ) → ((image : Image) → Does S k l Quiet (back_to g image) (back_to g image)) → (first : Image)
-      → Does S k l Quiet (comes_back one_of here g first) (comes_back two_of here g first)
+      → Does S k l Quiet (image_comes_back one_of here g first) (image_comes_back two_of here g first)
   comes_related k l here g e first x h = L.observes k l Quiet (AtEnd (cell_of here g) first) (FromCell (cell_of here g)) x h (λ seen. cell_back here g seen x.s x.n) (λ seen. cell_back here g seen x.t x.m)
       (cell_answered k l here g e x)
 
@@ -448,19 +448,19 @@ module _ {V W : Type 0} (S : Relation V W) (p : Code) (o : Observer V) (u : Obse
 
   block_answered : (k l : S.World) (here : Where) (at : Spot) (g : NameAt) (number : ℕ) (y : Lines) → IsLock S p k l here at g number y → (from : Origin) (x : Both V W) → S.Start k x
       → (seen : Seen) (v : V) (w : W) → S.Start k (answered_by from v w x)
-      → IsAnswered S k l Quiet from v w x (block_back p (else_uses p g.name (whole y (locking g here))) (after p here.method at (Locks g number y) here.context) from (seen, v) x.s x.n)
-      (block_back p (else_uses p g.name (whole y (locking g here))) (after p here.method at (Locks g number y) here.context) from (seen, w) x.t x.m)
+      → IsAnswered S k l Quiet from v w x (block_back p (else_uses p g.name (whole_block y (locking g here))) (after p here.method at (Locks g number y) here.context) from (seen, v) x.s x.n)
+      (block_back p (else_uses p g.name (whole_block y (locking g here))) (after p here.method at (Locks g number y) here.context) from (seen, w) x.t x.m)
   block_answered k l here at g number y e from x i (OfCell image) v w h = inl (refl, refl)
   block_answered k l here at g number y e from x i (OfBlock (Gave out)) v w h =
-      let us : Uses = else_uses p g.name (whole y (locking g here)) in
+      let us : Uses = else_uses p g.name (whole_block y (locking g here)) in
       let later : Context = after p here.method at (Locks g number y) here.context in
       subst (λ (b : Bool). IsAnswered S k l Quiet from v w x (if out_fits p us later x.s out then with_out us out x.s (used from v x.n) else Stops x.n) (if b then with_out us out x.t (used from w x.m) else Stops x.m))
       (e.fits x i out)
       (by_test (out_fits p us later x.s out) (λ f. e.gives out x i f from v w h))
     where
-      by_test : (b : Bool) → (b ≡ true → S.Rel k l Quiet (answered_by from v w x) (with_out (else_uses p g.name (whole y (locking g here))) out x.s (used from v x.n)) (with_out (else_uses p g.name (whole y (locking g here))) out x.t (used from w x.m)))
-          → IsAnswered S k l Quiet from v w x (if b then with_out (else_uses p g.name (whole y (locking g here))) out x.s (used from v x.n) else Stops x.n)
-          (if b then with_out (else_uses p g.name (whole y (locking g here))) out x.t (used from w x.m) else Stops x.m)
+      by_test : (b : Bool) → (b ≡ true → S.Rel k l Quiet (answered_by from v w x) (with_out (else_uses p g.name (whole_block y (locking g here))) out x.s (used from v x.n)) (with_out (else_uses p g.name (whole_block y (locking g here))) out x.t (used from w x.m)))
+          → IsAnswered S k l Quiet from v w x (if b then with_out (else_uses p g.name (whole_block y (locking g here))) out x.s (used from v x.n) else Stops x.n)
+          (if b then with_out (else_uses p g.name (whole_block y (locking g here))) out x.t (used from w x.m) else Stops x.m)
       by_test true f = inr (f refl)
       by_test false f = inl (refl, refl)
   block_answered k l here at g number y e from x i (OfBlock (Trapped code place)) v w h = inr (L.ends k l (Trap code place) (answered_by from v w x) h)
@@ -469,7 +469,7 @@ module _ {V W : Type 0} (S : Relation V W) (p : Code) (o : Observer V) (u : Obse
   asks_related : (k l : S.World) (here : Where) (at : Spot) (cell : CellName) (g : NameAt) (number : ℕ) (b : Lines) → IsLock S p k l here at g number b → (fuel fuel' : ℕ) → fuel ≡ fuel'
       → Does S k l Quiet (asks one_of here at cell g number b fuel) (asks two_of here at cell g number b fuel')
   asks_related k l here at cell g number b h fuel fuel' e x i =
-      let us : Uses = else_uses p g.name (whole b (locking g here)) in
+      let us : Uses = else_uses p g.name (whole_block b (locking g here)) in
       let later : Context = after p here.method at (Locks g number b) here.context in
       let ask : Ask = ask_of here number fuel us x.s in
       let same : ask ≡ ask_of here number fuel' us x.t =
@@ -486,7 +486,7 @@ module _ {V W : Type 0} (S : Relation V W) (p : Code) (o : Observer V) (u : Obse
 
   call_related : (b : Option (Below V)) (b' : Option (Below W)) → BothAlike b b' → (k w l : S.World) (here : Where) (at : Spot) (i : Invocation) → IsCall S p k w here at i
       → (go : Option Val → Act V) (ho : Option Val → Act W) → ((v : Option Val) → Does S w l Quiet (go v) (ho v))
-      → Does S k l (From here.path 0) (λ s n. call one_of b here at i s n go) (λ s n. call two_of b' here at i s n ho)
+      → Does S k l (From here.path 0) (λ s n. calls_method one_of b here at i s n go) (λ s n. calls_method two_of b' here at i s n ho)
   call_related b b' e k w l here at i h go ho g x d = related_given k l (From here.path 0) x d (enter p here i x.s) (enter p here i x.t) (h.enters x d) at
       (call_run b here at i x.s x.n go) (call_run b' here at i x.t x.m ho)
       (λ f j. related_chosen k l (From here.path 0) x (nat_lt here.depth 1000) _ _ _ _
@@ -536,7 +536,7 @@ module _ {V W : Type 0} (S : Relation V W) (p : Code) (o : Observer V) (u : Obse
 
   splits_related : (k l : S.World) (here : Where) (gs : List NameAt) (b : Lines) (f : Act V) (g : Act W) → (here.inside ≡ true → Does S k l (From here.path 0) f g)
       → (here.inside ≡ false → (h : IsSplit S k l here gs b) × Does S h.begun h.ended (From here.path 0) f g)
-      → Does S k l (From here.path 0) (splits one_of here gs f) (splits two_of here gs g)
+      → Does S k l (From here.path 0) (splits_groups one_of here gs f) (splits_groups two_of here gs g)
   splits_related k l here gs b f g h i x d = related_chosen k l (From here.path 0) x here.inside _ _ _ _ (λ t. h t x d)
       (λ t. let e = i t in
       L.follows k e.0.begun l Quiet (From here.path 0) (From here.path 0) (quiet_first (From here.path 0)) x _ _ (away_related k e.0.begun here gs e.0.away x d)
@@ -571,46 +571,46 @@ module _ {V W : Type 0} (S : Relation V W) (p : Code) (o : Observer V) (u : Obse
         related_given k l (From here.path 0) x d (truth_of p x.s e) (truth_of p x.t e) (tested k l here at (Chooses e nb y) h e refl x d) at _ _
         (λ test g. related_chosen k l (From here.path 0) x test _ _ _ _
         (λ t. L.widen k l (From (here.path ++ (0 ∷ [])) 0) (From here.path 0) (branch_from here.path 0) x _ _ (left_related k f.0.0 l (From (here.path ++ (0 ∷ [])) 0) here.context f.0.2 x _ _
-        (related_many fuel m k f.0.0 (deeper 0 here) (whole y here) 0 y [] [] (L.no_bars k) f.0.1 x d)))
+        (related_many fuel m k f.0.0 (deeper 0 here) (whole_block y here) 0 y [] [] (L.no_bars k) f.0.1 x d)))
         (λ t. quiet k l (From here.path 0) x _ _ (f.1 x d)))
     related_one fuel m k l here at (ChoosesElse e nb y nc z) h x d =
         let f = F.chooses_else k l here at e nb y nc z h in
         related_given k l (From here.path 0) x d (truth_of p x.s e) (truth_of p x.t e) (tested k l here at (ChoosesElse e nb y nc z) h e refl x d) at _ _
         (λ test g. related_chosen k l (From here.path 0) x test _ _ _ _
         (λ t. L.widen k l (From (here.path ++ (0 ∷ [])) 0) (From here.path 0) (branch_from here.path 0) x _ _ (left_related k f.0.0 l (From (here.path ++ (0 ∷ [])) 0) here.context f.0.2 x _ _
-        (related_many fuel m k f.0.0 (deeper 0 here) (whole y here) 0 y [] [] (L.no_bars k) f.0.1 x d)))
+        (related_many fuel m k f.0.0 (deeper 0 here) (whole_block y here) 0 y [] [] (L.no_bars k) f.0.1 x d)))
         (λ t. L.widen k l (From (here.path ++ (1 ∷ [])) 0) (From here.path 0) (branch_from here.path 1) x _ _ (left_related k f.1.0 l (From (here.path ++ (1 ∷ [])) 0) here.context f.1.2 x _ _
-        (related_many fuel m k f.1.0 (deeper 1 here) (whole z here) 0 z [] [] (L.no_bars k) f.1.1 x d))))
+        (related_many fuel m k f.1.0 (deeper 1 here) (whole_block z here) 0 z [] [] (L.no_bars k) f.1.1 x d))))
     related_one fuel m k l here at (Repeats e nb y) h x d =
         let f = F.repeats k l here at e nb y h in
         f.1.ends (From here.path 0) x _ _ (again_related (below one_of fuel) (below two_of fuel) m f.0 l here 0 at e y f.2 x (f.1.starts x d))
     related_one fuel m k l here at (Groups g) h x d = quiet k l (From here.path 0) x _ _ (F.groups k l here at g h x d)
     related_one fuel m k l here at (Splits gs nb y) h x d = splits_related k l here gs y
-        (λ t n. left (splitting gs here).context (many one_of (below one_of fuel) (splitting gs here) (whole y (splitting gs here)) 0 y [] t n))
-        (λ t n. left (splitting gs here).context (many two_of (below two_of fuel) (splitting gs here) (whole y (splitting gs here)) 0 y [] t n))
+        (λ t n. left (splitting gs here).context (many one_of (below one_of fuel) (splitting gs here) (whole_block y (splitting gs here)) 0 y [] t n))
+        (λ t n. left (splitting gs here).context (many two_of (below two_of fuel) (splitting gs here) (whole_block y (splitting gs here)) 0 y [] t n))
         (λ t. let f = F.joins k l here at gs nb y h t in
-        λ z i. left_related k f.0 l (From here.path 0) (splitting gs here).context f.2 z _ _ (related_many fuel m k f.0 (splitting gs here) (whole y (splitting gs here)) 0 y [] [] (L.no_bars k) f.1 z i))
+        λ z i. left_related k f.0 l (From here.path 0) (splitting gs here).context f.2 z _ _ (related_many fuel m k f.0 (splitting gs here) (whole_block y (splitting gs here)) 0 y [] [] (L.no_bars k) f.1 z i))
         (λ t. let f = F.splits k l here at gs nb y h t in (
           f,
           λ z i. left_related f.begun f.block.0 f.ended (From here.path 0) (splitting gs here).context f.block.2 z _ _
-              (related_many fuel m f.begun f.block.0 (splitting gs here) (whole y (splitting gs here)) 0 y [] [] (L.no_bars f.begun) f.block.1 z i),
+              (related_many fuel m f.begun f.block.0 (splitting gs here) (whole_block y (splitting gs here)) 0 y [] [] (L.no_bars f.begun) f.block.1 z i),
         )) x d
     related_one fuel m k l here at (Locks g number y) h x d =
         let f = F.locks k l here at g number y h in
         locks_related (below one_of fuel) (below two_of fuel) m k l here at g number y f
-        (λ t n. left (locking g here).context (many one_of (below one_of fuel) (locking g here) (whole y (locking g here)) 0 y [] t n))
-        (λ t n. left (locking g here).context (many two_of (below two_of fuel) (locking g here) (whole y (locking g here)) 0 y [] t n))
+        (λ t n. left (locking g here).context (many one_of (below one_of fuel) (locking g here) (whole_block y (locking g here)) 0 y [] t n))
+        (λ t n. left (locking g here).context (many two_of (below two_of fuel) (locking g here) (whole_block y (locking g here)) 0 y [] t n))
         (λ z i. left_related k f.block.0 l (From here.path 0) (locking g here).context f.block.2 z _ _
-        (related_many fuel m k f.block.0 (locking g here) (whole y (locking g here)) 0 y [] [] (L.no_bars k) f.block.1 z i)) x d
+        (related_many fuel m k f.block.0 (locking g here) (whole_block y (locking g here)) 0 y [] [] (L.no_bars k) f.block.1 z i)) x d
     related_one fuel m k l here at (Freezes y) h x d = quiet k l (From here.path 0) x _ _ (F.effects k l here at (Freezes y) h (frozen y.name) refl x d)
-    related_one fuel m k l here at (Shares y g) h x d = quiet k l (From here.path 0) x _ _ (F.effects k l here at (Shares y g) h (shared y.name g.name) refl x d)
-    related_one fuel m k l here at (Prints e) h x d = related_given k l (From here.path 0) x d (value p x.s e >>= printed) (value p x.t e >>= printed)
-        (ap (λ (v : Outcome Val). v >>= printed) (F.tests k l here at (Prints e) h e refl x d)) at (λ bytes. prints here bytes x.s x.n) (λ bytes. prints here bytes x.t x.m)
+    related_one fuel m k l here at (Shares y g) h x d = quiet k l (From here.path 0) x _ _ (F.effects k l here at (Shares y g) h (shares_into y.name g.name) refl x d)
+    related_one fuel m k l here at (Prints e) h x d = related_given k l (From here.path 0) x d (value p x.s e >>= printed_value) (value p x.t e >>= printed_value)
+        (ap (λ (v : Outcome Val). v >>= printed_value) (F.tests k l here at (Prints e) h e refl x d)) at (λ bytes. prints_piece here bytes x.s x.n) (λ bytes. prints_piece here bytes x.t x.m)
         (λ bytes f. quiet k l (From here.path 0) x _ _ (F.prints k l here at (Prints e) h tt (record { path = here.path; bytes = bytes } ∷ []) x d))
     related_one fuel m k l here at (PrintsText text) h x d = quiet k l (From here.path 0) x _ _ (F.prints k l here at (PrintsText text) h tt (record { path = here.path; bytes = text } ∷ []) x d)
     related_one fuel m k l here at (Asserts e) h x d = related_given k l (From here.path 0) x d (truth_of p x.s e) (truth_of p x.t e) (tested k l here at (Asserts e) h e refl x d) at
         (λ test. asserts at test x.s x.n) (λ test. asserts at test x.t x.m) (λ test f. quiet k l (From here.path 0) x _ _ (asserts_related k l at (F.passes k l here at e h) test x d))
-    related_one fuel m k l here at (Returns e) h x d = quiet k l (From here.path 0) x _ _ (F.effects k l here at (Returns e) h (returns p here.method e) refl x d)
+    related_one fuel m k l here at (Returns e) h x d = quiet k l (From here.path 0) x _ _ (F.effects k l here at (Returns e) h (returns_value p here.method e) refl x d)
 
     pub related_many : (fuel : ℕ) → BothAlike (below one_of fuel) (below two_of fuel) → (k l : S.World) (here : Where) (all : Scene) (j : ℕ) (y : Lines) (bars cars : List ℕ) → S.Bars k bars cars → S.Many k l here all j y
         → Does S k l (From here.path j) (many one_of (below one_of fuel) here all j y bars) (many two_of (below two_of fuel) here all j y cars)
@@ -625,7 +625,7 @@ module _ {V W : Type 0} (S : Relation V W) (p : Code) (o : Observer V) (u : Obse
 
   pub related_block : (fuel : ℕ) → BothAlike (below one_of fuel) (below two_of fuel) → (k l : S.World) (here : Where) (y : Lines) → IsBlock S k l here y
       → Does S k l (From here.path 0) (block one_of (below one_of fuel) here y) (block two_of (below two_of fuel) here y)
-  related_block fuel m k l here y h x d = left_related k h.0 l (From here.path 0) here.context h.2 x _ _ (related_many fuel m k h.0 here (whole y here) 0 y [] [] (L.no_bars k) h.1 x d)
+  related_block fuel m k l here y h x d = left_related k h.0 l (From here.path 0) here.context h.2 x _ _ (related_many fuel m k h.0 here (whole_block y here) 0 y [] [] (L.no_bars k) h.1 x d)
 
   pub related_below : (f : ℕ) → BothAlike (below one_of f) (below two_of f)
   unfolding below

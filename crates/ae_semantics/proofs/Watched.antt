@@ -11,7 +11,7 @@ use Rattle.ae_semantics.specs.Runs.{Run, Went, Ends, Stops, Act, and_then, chose
 use Rattle.ae_semantics.specs.Blocks.{used}
 use Rattle.ae_semantics.specs.Means.{run, meant}
 use Rattle.ae_semantics.specs.Atom.{by_query, flow_machine, part}
-use Rattle.ae_semantics.specs.Unfolding.{Trail, watching, watched, behind, passage, with_found, by_table, no_trail, watched_run, WatchingChangesNothing}
+use Rattle.ae_semantics.specs.Unfolding.{Trail, watching, watched, left_behind, passage, with_found, by_table, no_trail, watched_run, WatchingChangesNothing}
 use Rattle.ae_semantics.proofs.Related.{Quiet}
 use Rattle.ae_semantics.proofs.Alongside.{Noted, IsNoted, Keeps, along_run}
 
@@ -61,7 +61,7 @@ same_close : (barred : List ℕ) → Steady (flow_close barred) (flow_close barr
 same_close [] s n = refl
 same_close (j ∷ barred) s n = refl
 
-same_behind : (here : Where) (all : Scene) (j : ℕ) (r : Run Trail) (q : Run ⊤) → Same r q → Same (behind here all j r) q
+same_behind : (here : Where) (all : Scene) (j : ℕ) (r : Run Trail) (q : Run ⊤) → Same r q → Same (left_behind here all j r) q
 same_behind here all j (Went s n) q e = e
 same_behind here all j (Ends ending n) q e = e
 same_behind here all j (Stops n) q e = e

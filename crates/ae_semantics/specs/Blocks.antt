@@ -18,10 +18,10 @@ use Rattle.ae_rules.specs.Context.{Local, Context, each_name}
 use Rattle.ae_rules.specs.Uses.{outside, all_but, lines_use}
 use Rattle.ae_rules.specs.Blocks.{Scene}
 use Rattle.ae_semantics.specs.Values.{fits, is_low, all_low}
-use Rattle.ae_semantics.specs.Places.{CellName, Group, Here, Away, Bound, State, group_of, with_group, members}
+use Rattle.ae_semantics.specs.Places.{CellName, Group, Here, Away, Bound, State, group_of, with_store, members}
 use Rattle.ae_semantics.specs.Contexts.{after, shuts_out}
 use Rattle.ae_semantics.specs.Observations.{Piece, Image, OfStore, OfLog, Carried, Ask, Answer, Gave, Trapped, Spent, Seen, OfBlock, OfCell, FromBlock, FromCell, Origin, AtBlock, AtEnd, Trap, Fuel, Entered, Asked, Used, Notes}
-use Rattle.ae_semantics.specs.Runs.{Run, Went, Ends, Stops, Act, and_then, marked, Where, locking, whole, Machine}
+use Rattle.ae_semantics.specs.Runs.{Run, Went, Ends, Stops, Act, and_then, marked, Where, locking, whole_block, Machine}
 
 -- ---- split blocks
 
@@ -38,7 +38,7 @@ to_cell here g image s n =
     let away : Notes _ = marked (Entered (cell_of here g) image) n in
     if nat_eq io g
     then Went s (record away { cell = Some (cell_of here g) })
-    else Went (with_group g (Some (Away (cell_of here g))) s) away
+    else Went (with_store g (Some (Away (cell_of here g))) s) away
 
 -- a group goes away
 abbrev pub goes_away : {W : Type 0} → Where → ℕ → Act W
@@ -50,7 +50,7 @@ all_go_away here (g ∷ gs) s n = and_then (goes_away here g.name s n) (all_go_a
 
 -- the members of a cell come back; where one of them is too high they do not fit
 abbrev pub store_back : {W : Type 0} → ℕ → Image → Act W
-store_back g (OfStore st) s n = if all_low st then Went (with_group g (Some (Here st)) s) n else Stops n
+store_back g (OfStore st) s n = if all_low st then Went (with_store g (Some (Here st)) s) n else Stops n
 store_back g (OfLog pieces) s n = Stops n
 
 abbrev pub log_back : {W : Type 0} → Image → Act W
@@ -73,14 +73,14 @@ cell_back here g (OfBlock a, w) s n = Stops n
 cell_back here g (OfCell image, w) s n = unless_stopped
     (if nat_eq io g then log_back image s (used (FromCell (cell_of here g)) w n) else store_back g image s (used (FromCell (cell_of here g)) w n)) n
 
-abbrev pub comes_back : {W : Type 0} → Machine W → Where → ℕ → Image → Act W
-comes_back m here g first s n = rules.given (m.observer n.watch (AtEnd (cell_of here g) first)) (Stops n) (λ seen. cell_back here g seen s n)
+abbrev pub image_comes_back : {W : Type 0} → Machine W → Where → ℕ → Image → Act W
+image_comes_back m here g first s n = rules.given (m.observer n.watch (AtEnd (cell_of here g) first)) (Stops n) (λ seen. cell_back here g seen s n)
 
 -- the groups come back in written order; what each held at first is told to the observer
 abbrev pub all_come_back : {W : Type 0} → Machine W → Where → List NameAt → State → List Piece → Act W
 all_come_back m here [] before log s n = Went s n
 all_come_back m here (g ∷ gs) before log s n = and_then
-    (rules.given (image_of g.name before (record n { log = log })) (Stops n) (λ first. comes_back m here g.name first s n))
+    (rules.given (image_of g.name before (record n { log = log })) (Stops n) (λ first. image_comes_back m here g.name first s n))
     (all_come_back m here gs before log)
 
 -- ---- atomic blocks
@@ -200,6 +200,6 @@ put_to m ask u later s n = rules.given (m.observer n.watch (AtBlock ask)) (Stops
 -- a block of a group that is away asks the observer
 abbrev pub asks : {W : Type 0} → Machine W → Where → Spot → CellName → NameAt → ℕ → Lines → ℕ → Act W
 asks m here at cell g number b fuel s n =
-    let u : Uses = else_uses m.code g.name (whole b (locking g here)) in
+    let u : Uses = else_uses m.code g.name (whole_block b (locking g here)) in
     let ask : Ask = ask_of here number fuel u s in
     put_to m ask u (after m.code here.method at (Locks g number b) here.context) s (marked (Asked cell ask) n)

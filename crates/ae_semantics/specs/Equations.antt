@@ -6,17 +6,17 @@ use Rattle.ae_tree.specs.declared.tree.Path.{Path}
 use Rattle.ae_tree.specs.declared.tree.Ty.{Ty}
 use Rattle.ae_tree.specs.Form.{form}
 use Rattle.ae_tree.specs.Plain.{Expression, Invocation, RightSide, Lines, End, Next, Action, Declares, Assigns, Stores, StoresAt, Calls, Chooses, ChoosesElse, Repeats, Groups, Splits, Locks, Freezes, Shares, Prints, PrintsText, Asserts, Returns}
-use Rattle.ae_semantics.specs.Places.{◌>>=◌, State, Here, with_group}
+use Rattle.ae_semantics.specs.Places.{◌>>=◌, State, Here, with_store}
 use Rattle.ae_semantics.specs.Expressions.{value, truth_of}
 use Rattle.ae_rules.specs.Blocks.{Scene}
 use Rattle.ae_semantics.specs.Contexts.{after}
 use Rattle.ae_semantics.specs.Observations.{Notes}
-use Rattle.ae_semantics.specs.Runs.{Act, Went, given, chosen, Where, deeper, knowing, splitting, locking, whole, Machine, Below}
-use Rattle.ae_semantics.specs.Meaning.{sets, assigns, stored, stored_at, call, frozen, shared, printed, prints, asserts, returns, does, left, again, splits, locks, begun, one, many, block, below}
+use Rattle.ae_semantics.specs.Runs.{Act, Went, outcome_given, chosen, Where, deeper, knowing, splitting, locking, whole_block, Machine, Below}
+use Rattle.ae_semantics.specs.Meaning.{sets, assigns, stored, stored_at, calls_method, frozen, shares_into, printed_value, prints_piece, asserts, returns_value, does, left, again, splits_groups, locks, begun, one, many, block, below}
 
 -- a branch with its number
 abbrev pub branch : {W : Type 0} → Machine W → Option (Below W) → ℕ → Where → Lines → Act W
-branch m b i here x s n = left here.context (many m b (deeper i here) (whole x here) 0 x [] s n)
+branch m b i here x s n = left here.context (many m b (deeper i here) (whole_block x here) 0 x [] s n)
 
 pub one-Declares : {W : Type 0} (m : Machine W) (b : Option (Below W)) (here : Where) (at : Spot) (ty : Ty) (x : NameAt) (e : RightSide) (s : State) (n : Notes W)
     → one m b here at (Declares ty x e) s n ≡ sets m b here at x.name (form ty) e s n
@@ -39,17 +39,17 @@ unfolding one many
 one-StoresAt m b here at path i e s n = refl
 
 pub one-Calls : {W : Type 0} (m : Machine W) (b : Option (Below W)) (here : Where) (at : Spot) (i : Invocation) (s : State) (n : Notes W)
-    → one m b here at (Calls i) s n ≡ call m b here at i s n (λ r t k. Went t k)
+    → one m b here at (Calls i) s n ≡ calls_method m b here at i s n (λ r t k. Went t k)
 unfolding one many
 one-Calls m b here at i s n = refl
 
 pub one-Chooses : {W : Type 0} (m : Machine W) (b : Option (Below W)) (here : Where) (at : Spot) (e : Expression) (i : ℕ) (x : Lines) (s : State) (n : Notes W)
-    → one m b here at (Chooses e i x) s n ≡ given (truth_of m.code s e) at n (λ test. chosen test (λ _. branch m b 0 here x s n) (λ _. Went s n))
+    → one m b here at (Chooses e i x) s n ≡ outcome_given (truth_of m.code s e) at n (λ test. chosen test (λ _. branch m b 0 here x s n) (λ _. Went s n))
 unfolding one many
 one-Chooses m b here at e i x s n = refl
 
 pub one-ChoosesElse : {W : Type 0} (m : Machine W) (b : Option (Below W)) (here : Where) (at : Spot) (e : Expression) (i : ℕ) (x : Lines) (j : ℕ) (y : Lines) (s : State) (n : Notes W)
-    → one m b here at (ChoosesElse e i x j y) s n ≡ given (truth_of m.code s e) at n (λ test. chosen test (λ _. branch m b 0 here x s n) (λ _. branch m b 1 here y s n))
+    → one m b here at (ChoosesElse e i x j y) s n ≡ outcome_given (truth_of m.code s e) at n (λ test. chosen test (λ _. branch m b 0 here x s n) (λ _. branch m b 1 here y s n))
 unfolding one many
 one-ChoosesElse m b here at e i x j y s n = refl
 
@@ -59,12 +59,12 @@ unfolding one many
 one-Repeats m b here at e i x s n = refl
 
 pub one-Groups : {W : Type 0} (m : Machine W) (b : Option (Below W)) (here : Where) (at : Spot) (g : NameAt) (s : State) (n : Notes W)
-    → one m b here at (Groups g) s n ≡ Went (with_group g.name (Some (Here [])) s) n
+    → one m b here at (Groups g) s n ≡ Went (with_store g.name (Some (Here [])) s) n
 unfolding one many
 one-Groups m b here at g s n = refl
 
 pub one-Splits : {W : Type 0} (m : Machine W) (b : Option (Below W)) (here : Where) (at : Spot) (gs : List NameAt) (i : ℕ) (x : Lines) (s : State) (n : Notes W)
-    → one m b here at (Splits gs i x) s n ≡ splits m here gs (block m b (splitting gs here) x) s n
+    → one m b here at (Splits gs i x) s n ≡ splits_groups m here gs (block m b (splitting gs here) x) s n
 unfolding one many
 one-Splits m b here at gs i x s n = refl
 
@@ -79,27 +79,27 @@ unfolding one many
 one-Freezes m b here at x s n = refl
 
 pub one-Shares : {W : Type 0} (m : Machine W) (b : Option (Below W)) (here : Where) (at : Spot) (x g : NameAt) (s : State) (n : Notes W)
-    → one m b here at (Shares x g) s n ≡ does at n (shared x.name g.name s)
+    → one m b here at (Shares x g) s n ≡ does at n (shares_into x.name g.name s)
 unfolding one many
 one-Shares m b here at x g s n = refl
 
 pub one-Prints : {W : Type 0} (m : Machine W) (b : Option (Below W)) (here : Where) (at : Spot) (e : Expression) (s : State) (n : Notes W)
-    → one m b here at (Prints e) s n ≡ given (value m.code s e >>= printed) at n (λ bytes. prints here bytes s n)
+    → one m b here at (Prints e) s n ≡ outcome_given (value m.code s e >>= printed_value) at n (λ bytes. prints_piece here bytes s n)
 unfolding one many
 one-Prints m b here at e s n = refl
 
 pub one-PrintsText : {W : Type 0} (m : Machine W) (b : Option (Below W)) (here : Where) (at : Spot) (text : List ℕ) (s : State) (n : Notes W)
-    → one m b here at (PrintsText text) s n ≡ prints here text s n
+    → one m b here at (PrintsText text) s n ≡ prints_piece here text s n
 unfolding one many
 one-PrintsText m b here at text s n = refl
 
 pub one-Asserts : {W : Type 0} (m : Machine W) (b : Option (Below W)) (here : Where) (at : Spot) (e : Expression) (s : State) (n : Notes W)
-    → one m b here at (Asserts e) s n ≡ given (truth_of m.code s e) at n (λ test. asserts at test s n)
+    → one m b here at (Asserts e) s n ≡ outcome_given (truth_of m.code s e) at n (λ test. asserts at test s n)
 unfolding one many
 one-Asserts m b here at e s n = refl
 
 pub one-Returns : {W : Type 0} (m : Machine W) (b : Option (Below W)) (here : Where) (at : Spot) (e : Expression) (s : State) (n : Notes W)
-    → one m b here at (Returns e) s n ≡ does at n (returns m.code here.method e s)
+    → one m b here at (Returns e) s n ≡ does at n (returns_value m.code here.method e s)
 unfolding one many
 one-Returns m b here at e s n = refl
 

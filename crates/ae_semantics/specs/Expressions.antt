@@ -4,7 +4,7 @@ use Rattle.ae_tree.specs.declared.tree.Op.{Op}
 use Rattle.ae_tree.specs.declared.tree.Op.TheVariants as op
 use Rattle.ae_tree.specs.Plain.{Code, Expression, Number, Truth, Nothing, Read, Item, Length, Grouped, Negated, Minus, Binary}
 use Rattle.ae_semantics.specs.Values.{Val, OfInt, OfBool, Null, Owned, Member, Tree, Object, Array}
-use Rattle.ae_semantics.specs.Places.{Outcome, Fine, Traps, Lacks, ◌>>=◌, there, State, Opened, walk, open_place, reach}
+use Rattle.ae_semantics.specs.Places.{Outcome, Fine, Traps, Lacks, ◌>>=◌, there, State, ObjectOpened, walk_to, open_place, reach}
 
 -- ---- numbers and truths
 
@@ -85,7 +85,7 @@ abbrev pub item_at : List ℤ → ℕ → Outcome Val
 item_at ns i = there (slice_get ns i) >>= λ n. Fine (OfInt n)
 
 -- the integer at an index of an array
-abbrev pub item : Opened → ℤ → Outcome Val
+abbrev pub item : ObjectOpened → ℤ → Outcome Val
 item o n = numbers o.tree >>= λ ns. index ns n >>= item_at ns
 
 -- ---- expressions
@@ -109,8 +109,8 @@ abbrev pub value : Code → State → Expression → Outcome Val
 value p s (Number n at) = Fine (OfInt n)
 value p s (Truth b at) = Fine (OfBool b)
 value p s (Nothing at) = Fine Null
-value p s (Read path) = walk p s path >>= λ x. Fine x.value
-value p s (Item path e) = walk p s path >>= λ x. value p s e >>= λ v. number v >>= λ n. open_place p s x >>= λ o. item o n
+value p s (Read path) = walk_to p s path >>= λ x. Fine x.value
+value p s (Item path e) = walk_to p s path >>= λ x. value p s e >>= λ v. number v >>= λ n. open_place p s x >>= λ o. item o n
 value p s (Length path at) = reach p s path >>= λ o. numbers o.tree >>= λ ns. Fine (OfInt (pos (length ns)))
 value p s (Grouped e at) = value p s e
 value p s (Negated e at) = value p s e >>= λ v. truth v >>= λ b. Fine (OfBool (not b))

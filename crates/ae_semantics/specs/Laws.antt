@@ -12,7 +12,7 @@ use Rattle.ae_rules.specs.Paths.{comes_before}
 use Rattle.ae_semantics.specs.Observations.{Seen, Ending}
 use Rattle.ae_semantics.specs.Means.{mean}
 use Rattle.ae_semantics.specs.Report.{began, ended_at}
-use Rattle.ae_semantics.specs.Unfolding.{Frame, fresh, StandsFor}
+use Rattle.ae_semantics.specs.Unfolding.{BlockFrame, fresh, StandsFor}
 
 -- after a statement that is judged the context is that of the judgement
 abbrev pub ContextsAreJudged : Type 0
@@ -36,4 +36,4 @@ NothingBegunIsAfter = (p : Code) (ints : List ℤ) (fuel : ℕ) (seen : List See
 -- in every program with a `main` there is a tree before anything ran, and it stands for the meaning past what stopped
 abbrev pub FreshStandsFor : Type 0
 FreshStandsFor = (p : Code) (m : Definition) (ints : List ℤ) (fuel : ℕ) → top_called p main ≡ Some m
-    → (tree : Frame) × (fresh p ints ≡ Some tree) × StandsFor p ints fuel tree
+    → (tree : BlockFrame) × (fresh p ints ≡ Some tree) × StandsFor p ints fuel tree

@@ -37,15 +37,15 @@ abbrev pub start_at : Code → List ℤ → ℕ → Option Start
 start_at p ints n = given (method_at p n) None (λ (m : Definition).
     Some (record { here = main_here p n m; method = m; state = main_state p m ints }))
 
-abbrev pub start : Code → List ℤ → Option Start
-start p ints = given (top_number p main) None (start_at p ints)
+abbrev pub run_start : Code → List ℤ → Option Start
+run_start p ints = given (top_number p main) None (start_at p ints)
 
 abbrev pub no_notes : {W : Type 0} → W → Notes W
 no_notes w = record { log = []; cell = None; marks = []; watch = w }
 
 -- a run of `main` by a machine, with this fuel
 abbrev pub run : {W : Type 0} → Machine W → List ℤ → ℕ → W → Run W
-run m ints fuel w = given (start m.code ints) (Stops (no_notes w))
+run m ints fuel w = given (run_start m.code ints) (Stops (no_notes w))
     (λ (x : Start). block m (below m fuel) x.here x.method.body x.state (no_notes w))
 
 -- ---- what is read off a run
@@ -166,10 +166,10 @@ seq p ints fuel = mean p ints fuel []
 
 -- ---- bytes
 
-abbrev pub bytes_of : List Piece → List ℕ
-bytes_of [] = []
-bytes_of (x ∷ xs) = x.bytes ++ bytes_of xs
+abbrev pub pieces_bytes : List Piece → List ℕ
+pieces_bytes [] = []
+pieces_bytes (x ∷ xs) = x.bytes ++ pieces_bytes xs
 
 -- the bytes of the log, and where `io` is split at the end, the pieces of the blocks of its cell after them
 abbrev pub bytes : Meant → List Piece → List ℕ
-bytes m more = bytes_of m.log ++ given m.cell [] (λ c. bytes_of more)
+bytes m more = pieces_bytes m.log ++ given m.cell [] (λ c. pieces_bytes more)

@@ -13,7 +13,7 @@ use Rattle.ae_tree.specs.Plain.{Code}
 use Rattle.ae_rules.specs.Verdict.{given}
 use Rattle.ae_rules.specs.Lookups.{class_of, field_number, field_of_kind}
 use Rattle.ae_rules.specs.Walks.{owner}
-use Rattle.ae_semantics.specs.Values.{Val, Owned, Member, Tree, Object, Array, Values, Store, is_low, is_of_kind, fits, value_at, put}
+use Rattle.ae_semantics.specs.Values.{Val, Owned, Member, Tree, Object, Array, Values, Store, is_low, is_of_kind, fits, value_at, put_at}
 
 -- ---- outcomes
 
@@ -67,8 +67,8 @@ pub record State : Type 0 where
 abbrev pub with : {A : Type 0} → ℕ → A → (ℕ → A) → ℕ → A
 with x new old y = if nat_eq x y then new else old y
 
-abbrev pub with_local : ℕ → Option Bound → State → State
-with_local x b s = record s { locals = with x b s.locals }
+abbrev pub with_bound : ℕ → Option Bound → State → State
+with_bound x b s = record s { locals = with x b s.locals }
 
 -- a group's own name, or the other one under which its members stand
 abbrev pub other_name : ℕ → Option Group → ℕ
@@ -84,8 +84,8 @@ abbrev pub group_of : State → ℕ → Option Group
 group_of s g = s.groups (name_of s g)
 
 -- something else of a group, by whichever of its names
-abbrev pub with_group : ℕ → Option Group → State → State
-with_group g c s = record s { groups = with (name_of s g) c s.groups }
+abbrev pub with_store : ℕ → Option Group → State → State
+with_store g c s = record s { groups = with (name_of s g) c s.groups }
 
 -- the members of a group that is here
 abbrev pub members : Option Group → Option Store
@@ -108,51 +108,51 @@ pub record Address : Type 0 where
   pub fields : List ℕ
 
 -- a place with its form and its value
-pub record Place : Type 0 where
+pub record PlaceFound : Type 0 where
   pub at : Address
   pub form : Form
   pub value : Val
 
 -- an object with the place where its tree stands
-pub record Opened : Type 0 where
+pub record ObjectOpened : Type 0 where
   pub at : Address
   pub kind : Kind
   pub tree : Tree
 
-abbrev pub opened_if : Bool → Opened → Outcome Opened
+abbrev pub opened_if : Bool → ObjectOpened → Outcome ObjectOpened
 opened_if true o = Fine o
 opened_if false o = Traps 3
 
-abbrev pub opened_member : Code → Kind → ℕ → ℕ → Store → Outcome Opened
+abbrev pub opened_member : Code → Kind → ℕ → ℕ → Store → Outcome ObjectOpened
 opened_member p k g n st = reached (slice_get st n) >>= λ t.
     opened_if (is_of_kind p k t) (record { at = record { base = InGroup g n; fields = [] }; kind = k; tree = t })
 
 -- The object at a place: null is trap 3, and so are a reference without a member and a tree of another kind.
-abbrev pub open_value : Code → State → Perm → Kind → Address → Val → Outcome Opened
+abbrev pub open_value : Code → State → Perm → Kind → Address → Val → Outcome ObjectOpened
 open_value p s (perm.Shared g) k at (Member n) = store_of s g >>= opened_member p k g n
 open_value p s (perm.Shared g) k at _ = Traps 3
 open_value p s q k at (Owned t) = opened_if (is_of_kind p k t) (record { at = at; kind = k; tree = t })
 open_value p s q k at _ = Traps 3
 
-abbrev pub open_form : Code → State → Address → Form → Val → Outcome Opened
+abbrev pub open_form : Code → State → Address → Form → Val → Outcome ObjectOpened
 open_form p s at f.Int v = Lacks
 open_form p s at f.Bool v = Lacks
 open_form p s at (f.Object q k) v = open_value p s q k at v
 
-abbrev pub open_place : Code → State → Place → Outcome Opened
+abbrev pub open_place : Code → State → PlaceFound → Outcome ObjectOpened
 open_place p s x = open_form p s x.at x.form x.value
 
 -- a field by its number and its form in an object
-pub record Part : Type 0 where
+pub record FieldPart : Type 0 where
   pub number : ℕ
   pub form : Form
 
-abbrev pub part_at : Option Form → ℕ → Option Part
+abbrev pub part_at : Option Form → ℕ → Option FieldPart
 part_at form n = option_map (λ (x : Form). record { number = n; form = x }) form
 
 -- the field with this name of an object of this kind
-abbrev pub part_of : Code → Kind → ℕ → Option Part
-part_of p k x = given (class_of p k) None (λ (c : Class). given (field_number c x) None (part_at (field_of_kind p k x)))
+abbrev pub field_of_object : Code → Kind → ℕ → Option FieldPart
+field_of_object p k x = given (class_of p k) None (λ (c : Class). given (field_number c x) None (part_at (field_of_kind p k x)))
 
 -- the fields of an object
 abbrev pub object_values : Tree → Option Values
@@ -163,36 +163,36 @@ abbrev pub field_value : Tree → ℕ → Option Val
 field_value t i = given (object_values t) None (λ xs. value_at xs i)
 
 -- the place of a field of an object
-abbrev pub field_place : Opened → Part → Val → Place
+abbrev pub field_place : ObjectOpened → FieldPart → Val → PlaceFound
 field_place o x v = record { at = record { base = o.at.base; fields = o.at.fields ++ (x.number ∷ []) }; form = x.form; value = v }
 
 -- a value that a step meets: one that is not of the field's form counts as null
-abbrev pub met : Code → Place → Outcome Place
+abbrev pub met : Code → PlaceFound → Outcome PlaceFound
 met p x = if fits p x.form x.value then Fine x else Traps 3
 
 -- the field with this name of an object, which is met
-abbrev pub into_field : Code → Opened → ℕ → Outcome Place
-into_field p o x = there (part_of p o.kind x) >>= λ d.
+abbrev pub into_field : Code → ObjectOpened → ℕ → Outcome PlaceFound
+into_field p o x = there (field_of_object p o.kind x) >>= λ d.
     there (field_value o.tree d.number) >>= λ v.
     met p (field_place o d v)
 
-abbrev pub step : Code → State → NameAt → Place → Outcome Place
-step p s x from = open_place p s from >>= λ o. into_field p o x.name
+abbrev pub step_to : Code → State → NameAt → PlaceFound → Outcome PlaceFound
+step_to p s x from = open_place p s from >>= λ o. into_field p o x.name
 
-abbrev pub steps : Code → State → List NameAt → Place → Outcome Place
+abbrev pub steps : Code → State → List NameAt → PlaceFound → Outcome PlaceFound
 steps p s [] from = Fine from
-steps p s (x ∷ xs) from = step p s x from >>= steps p s xs
+steps p s (x ∷ xs) from = step_to p s x from >>= steps p s xs
 
-abbrev pub local_place : ℕ → Bound → Place
+abbrev pub local_place : ℕ → Bound → PlaceFound
 local_place x b = record { at = record { base = InLocal x; fields = [] }; form = b.form; value = b.value }
 
 -- a walk along a path, from a local
-abbrev pub walk : Code → State → Path → Outcome Place
-walk p s path = there (s.locals path.root.name) >>= λ b. steps p s path.steps (local_place path.root.name b)
+abbrev pub walk_to : Code → State → Path → Outcome PlaceFound
+walk_to p s path = there (s.locals path.root.name) >>= λ b. steps p s path.steps (local_place path.root.name b)
 
 -- the object to which a path leads
-abbrev pub reach : Code → State → Path → Outcome Opened
-reach p s path = walk p s path >>= open_place p s
+abbrev pub reach : Code → State → Path → Outcome ObjectOpened
+reach p s path = walk_to p s path >>= open_place p s
 
 -- ---- writes
 
@@ -202,47 +202,47 @@ low v = if is_low v then Fine v else Traps 8
 
 -- a value for a local; the form is that of what it holds now
 abbrev pub bind : ℕ → Form → Val → State → Outcome State
-bind x form v s = low v >>= λ w. Fine (with_local x (Some (record { form = form; value = w })) s)
+bind x form v s = low v >>= λ w. Fine (with_bound x (Some (record { form = form; value = w })) s)
 
 abbrev pub with_member : State → ℕ → ℕ → Store → Val → Outcome State
-with_member s g n st (Owned t) = Fine (with_group g (Some (Here (prelude.set st n t))) s)
+with_member s g n st (Owned t) = Fine (with_store g (Some (Here (prelude.set st n t))) s)
 with_member s g n st _ = Lacks
 
 abbrev pub rewrite_member : State → ℕ → ℕ → List ℕ → Val → Store → Outcome State
 rewrite_member s g n fields new st = there (slice_get st n) >>= λ t.
-    low (put fields new (Owned t)) >>= with_member s g n st
+    low (put_at fields new (Owned t)) >>= with_member s g n st
 
 -- A value at an address. Only the tree that has the place is made again.
 abbrev pub write_in : State → Base → List ℕ → Val → Outcome State
-write_in s (InLocal x) fields new = there (s.locals x) >>= λ b. bind x b.form (put fields new b.value) s
+write_in s (InLocal x) fields new = there (s.locals x) >>= λ b. bind x b.form (put_at fields new b.value) s
 write_in s (InGroup g n) fields new = store_of s g >>= rewrite_member s g n fields new
 
 abbrev pub write : State → Address → Val → Outcome State
 write s at new = write_in s at.base at.fields new
 
 -- a field of an object gets a value; the old one is not met
-abbrev pub write_field : State → Opened → ℕ → Val → Outcome State
+abbrev pub write_field : State → ObjectOpened → ℕ → Val → Outcome State
 write_field s o i new = write s (record { base = o.at.base; fields = o.at.fields ++ (i ∷ []) }) new
 
 -- an object's tree is another
-abbrev pub write_tree : State → Opened → Tree → Outcome State
+abbrev pub write_tree : State → ObjectOpened → Tree → Outcome State
 write_tree s o t = write s o.at (Owned t)
 
 -- ---- paths whose last step is written
 
-abbrev pub last_of : {A : Type 0} → List A → Option A
-last_of [] = None
-last_of (x ∷ []) = Some x
-last_of (x ∷ y ∷ xs) = last_of (y ∷ xs)
+abbrev pub last_item : {A : Type 0} → List A → Option A
+last_item [] = None
+last_item (x ∷ []) = Some x
+last_item (x ∷ y ∷ xs) = last_item (y ∷ xs)
 
 -- an object and one of its fields
-pub record Slot : Type 0 where
-  pub object : Opened
-  pub part : Part
+pub record FieldSlot : Type 0 where
+  pub object : ObjectOpened
+  pub part : FieldPart
 
-abbrev pub slot_in : Code → Opened → NameAt → Outcome Slot
-slot_in p o x = there (part_of p o.kind x.name) >>= λ d. Fine (record { object = o; part = d })
+abbrev pub slot_in : Code → ObjectOpened → NameAt → Outcome FieldSlot
+slot_in p o x = there (field_of_object p o.kind x.name) >>= λ d. Fine (record { object = o; part = d })
 
 -- the object that has a path's last field, and that field
-abbrev pub slot : Code → State → Path → Outcome Slot
-slot p s path = there (last_of path.steps) >>= λ x. reach p s (owner path) >>= λ o. slot_in p o x
+abbrev pub slot : Code → State → Path → Outcome FieldSlot
+slot p s path = there (last_item path.steps) >>= λ x. reach p s (owner path) >>= λ o. slot_in p o x

@@ -4,7 +4,7 @@ use Rattle.ae_text.specs.declared.refusal.Spot.{Spot}
 use Rattle.ae_tree.specs.Plain.{Code}
 use Rattle.ae_rules.specs.Verdict.{given}
 use Rattle.ae_rules.specs.Instances.{Instance, Ordered, Conflict}
-use Rattle.ae_rules.specs.Paths.{comes_before, begins, later_of, is_simple_at}
+use Rattle.ae_rules.specs.Paths.{comes_before, is_prefix_of, later_of, is_simple_at}
 use Rattle.ae_semantics.specs.Places.{CellName}
 use Rattle.ae_semantics.specs.Observations.{Piece, Image, OfLog, Ask, Answer, Seen, OfBlock, OfCell, Origin, FromBlock, FromCell, Query, AtBlock, AtEnd, Ending, Done, Trap, Fuel}
 use Rattle.ae_semantics.specs.Means.{At, Turn, First, Asking, Meant, mean, bytes}
@@ -27,7 +27,7 @@ pub record Cell : Type 0 where
   pub last : Image
 
 -- an instance that ran, or a loop from a turn on, and when
-pub record Line : Type 0 where
+pub record LineRun : Type 0 where
   pub path : Instance
   pub at : Spot
   pub began : ℕ
@@ -40,7 +40,7 @@ pub record Report : Type 0 where
   pub past : ℕ
   pub order : List ℕ
   pub cells : List Cell
-  pub trace : List Line
+  pub trace : List LineRun
 
 -- ---- lists
 
@@ -72,8 +72,8 @@ is_of_cell (FromCell c) = true
 
 -- in source order, where a cell comes after all that lies in its split block
 abbrev pub origin_before : Origin → Origin → Bool
-origin_before a b = if begins (origin_path a) (origin_path b) then not (is_of_cell a)
-    else (if begins (origin_path b) (origin_path a) then is_of_cell b else comes_before (origin_path a) (origin_path b))
+origin_before a b = if is_prefix_of (origin_path a) (origin_path b) then not (is_of_cell a)
+    else (if is_prefix_of (origin_path b) (origin_path a) then is_of_cell b else comes_before (origin_path a) (origin_path b))
 
 abbrev pub inserted : Item → List Item → List Item
 inserted x [] = x ∷ []
@@ -99,7 +99,7 @@ observations r = map (λ (x : Item). x.seen) (items r)
 -- ---- observations by what is asked
 
 abbrev pub same_instance : Instance → Instance → Bool
-same_instance q r = begins q r && begins r q
+same_instance q r = is_prefix_of q r && is_prefix_of r q
 
 abbrev pub answer_in : List Event → Instance → Option Seen
 answer_in [] q = None
@@ -129,8 +129,8 @@ by_report_or_first r (AtEnd c first) = or_first (last_in r.cells c) first
 abbrev pub mean_of : Code → List ℤ → ℕ → Report → Meant
 mean_of p ints fuel r = mean p ints fuel (observations r)
 
-abbrev pub part_of : Code → List ℤ → ℕ → Report → Meant
-part_of p ints fuel r = part p ints fuel (by_report r)
+abbrev pub part_of_report : Code → List ℤ → ℕ → Report → Meant
+part_of_report p ints fuel r = part p ints fuel (by_report r)
 
 -- ---- legal order
 
@@ -212,7 +212,7 @@ first_of c = record { cell = c.name; image = c.first }
 
 -- a past event lies in the split block of a cell, or is ordered after it
 abbrev pub Concerns : Code → CellName → Event → Type 0
-Concerns p c e = (begins c.path e.path ≡ true) ⊎ Ordered p c.path e.path
+Concerns p c e = (is_prefix_of c.path e.path ≡ true) ⊎ Ordered p c.path e.path
 
 abbrev pub ConcernsSome : Code → Report → CellName → Type 0
 ConcernsSome p r c = (e : Event) × Contains (past_events r) e × Concerns p c e
@@ -275,8 +275,8 @@ pub record Explained (p : Code) (ints : List ℤ) (fuel : ℕ) (r : Report) : Ty
   pub events : AreEvents r
   pub used : AreUsed (mean_of p ints fuel r) r
   pub past : ArePast (mean_of p ints fuel r) r
-  pub asked : (e : Event) (x : Asking) → Contains r.events e → asking_of r e ≡ Some x → Contains (part_of p ints fuel r).asked x
-  pub cells : Picks (IsReported p ints fuel r) (part_of p ints fuel r).firsts (map first_of r.cells)
+  pub asked : (e : Event) (x : Asking) → Contains r.events e → asking_of r e ≡ Some x → Contains (part_of_report p ints fuel r).asked x
+  pub cells : Picks (IsReported p ints fuel r) (part_of_report p ints fuel r).firsts (map first_of r.cells)
   pub legal : Legal p r
   pub out : r.out ≡ bytes (mean_of p ints fuel r) (io_pieces p r (mean_of p ints fuel r))
 
@@ -291,12 +291,12 @@ abbrev pub InTurnsFrom : Turn → Instance → Type 0
 InTurnsFrom x q = (u : ℕ) × (rest : Instance) × (q ≡ x.path ++ (u ∷ rest)) × (x.turn < suc u)
 
 -- a line covers what lies at its path or below it, and a loop from a turn on also what lies in later turns
-abbrev pub Covers : Meant → Line → Instance → Type 0
-Covers m l q = (begins l.path q ≡ true) ⊎ ((x : Turn) × Contains m.turns x × (l.path ≡ turn_path x) × InTurnsFrom x q)
+abbrev pub Covers : Meant → LineRun → Instance → Type 0
+Covers m l q = (is_prefix_of l.path q ≡ true) ⊎ ((x : Turn) × Contains m.turns x × (l.path ≡ turn_path x) × InTurnsFrom x q)
 
 -- the run ran the line's instance, or evaluated the condition of its turn
-abbrev pub IsOf : Meant → Line → Type 0
-IsOf m l = Contains m.ran (record { path = l.path; spot = l.at })
+abbrev pub IsLineOf : Meant → LineRun → Type 0
+IsLineOf m l = Contains m.ran (record { path = l.path; spot = l.at })
     ⊎ ((x : Turn) × Contains m.turns x × (l.path ≡ turn_path x) × Contains m.ran (record { path = x.path; spot = l.at }))
 
 -- the instance comes after the ending, which is not the end of the program
@@ -305,21 +305,21 @@ IsLater m Done q = ⊥
 IsLater m (Trap code at) q = comes_before (ended_at m) q ≡ true
 IsLater m (Fuel at) q = comes_before (ended_at m) q ≡ true
 
-abbrev pub line_stamps : List Line → List ℕ
+abbrev pub line_stamps : List LineRun → List ℕ
 line_stamps [] = []
 line_stamps (l ∷ ls) = l.began ∷ l.ended ∷ line_stamps ls
 
 -- the paths keep their order in time
-abbrev pub Keeps : Code → Line → Line → Type 0
-Keeps p l m = (Ordered p l.path m.path ⊎ Conflict p l.path m.path) → l.ended < m.began
+abbrev pub KeepInTime : Code → LineRun → LineRun → Type 0
+KeepInTime p l m = (Ordered p l.path m.path ⊎ Conflict p l.path m.path) → l.ended < m.began
 
 pub record Traced (p : Code) (ints : List ℤ) (fuel : ℕ) (r : Report) : Type 0 where
   pub differ : AllDiffer (line_stamps r.trace ++ stamps r.events)
-  pub spans : (l : Line) → Contains r.trace l → l.began < l.ended
-  pub once : AllPairs (λ (l m : Line). (q : Instance) → Covers (traced_part p ints fuel r) l q → Covers (traced_part p ints fuel r) m q → ⊥) r.trace
-  pub keeps : AllPairs (Keeps p) r.trace
+  pub spans : (l : LineRun) → Contains r.trace l → l.began < l.ended
+  pub once : AllPairs (λ (l m : LineRun). (q : Instance) → Covers (traced_part p ints fuel r) l q → Covers (traced_part p ints fuel r) m q → ⊥) r.trace
+  pub keeps : AllPairs (KeepInTime p) r.trace
   pub all_run : (x : At) → Contains (mean_of p ints fuel r).ran x → is_simple_at p x.path ≡ true
-      → (l : Line) × Contains r.trace l × Covers (traced_part p ints fuel r) l x.path
-  pub run_only : (l : Line) → Contains r.trace l → IsOf (traced_part p ints fuel r) l
-  pub meant : (l : Line) → Contains r.trace l → IsLater (mean_of p ints fuel r) r.ending l.path ⊎ IsOf (mean_of p ints fuel r) l
-  pub sorted : AllPairs (λ (l m : Line). comes_before l.path m.path ≡ true) r.trace
+      → (l : LineRun) × Contains r.trace l × Covers (traced_part p ints fuel r) l x.path
+  pub run_only : (l : LineRun) → Contains r.trace l → IsLineOf (traced_part p ints fuel r) l
+  pub meant : (l : LineRun) → Contains r.trace l → IsLater (mean_of p ints fuel r) r.ending l.path ⊎ IsLineOf (mean_of p ints fuel r) l
+  pub sorted : AllPairs (λ (l m : LineRun). comes_before l.path m.path ≡ true) r.trace

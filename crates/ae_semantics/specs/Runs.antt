@@ -33,10 +33,10 @@ and_then (Ends ending n) go = Ends ending n
 and_then (Stops n) go = Stops n
 
 -- a trap in an expression or a place stands at its statement
-abbrev pub given : {A W : Type 0} → Outcome A → Spot → Notes W → (A → Run W) → Run W
-given (Fine x) at n go = go x
-given (Traps code) at n go = Ends (Trap code at) n
-given Lacks at n go = Stops n
+abbrev pub outcome_given : {A W : Type 0} → Outcome A → Spot → Notes W → (A → Run W) → Run W
+outcome_given (Fine x) at n go = go x
+outcome_given (Traps code) at n go = Ends (Trap code at) n
+outcome_given Lacks at n go = Stops n
 
 -- what takes one of the fuel; with none left the run ends
 abbrev pub paid : {A W : Type 0} → Option A → Spot → Notes W → (A → Run W) → Run W
@@ -81,8 +81,8 @@ abbrev pub locking : NameAt → Where → Where
 locking g here = knowing (while_locked g.name here.context) here
 
 -- a whole block that begins here
-abbrev pub whole : Lines → Where → Scene
-whole b here = record { method = here.method; lines = b; start = here.context }
+abbrev pub whole_block : Lines → Where → Scene
+whole_block b here = record { method = here.method; lines = b; start = here.context }
 
 -- ---- the ways through a block
 

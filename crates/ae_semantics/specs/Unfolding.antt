@@ -5,7 +5,7 @@ use Rattle.ae_text.specs.declared.refusal.Spot.{Spot}
 use Rattle.ae_rules.specs.declared.uses.Resource.TheVariants as resource
 use Rattle.ae_rules.specs.declared.uses.Mode.{Mode}
 use Rattle.ae_tree.specs.Names.{io}
-use Rattle.ae_tree.specs.Limits.{count}
+use Rattle.ae_tree.specs.Limits.{statement_count}
 use Rattle.ae_tree.specs.Plain.{Lines, End, Next, Code}
 use Rattle.ae_rules.specs.Verdict.{given}
 use Rattle.ae_rules.specs.Uses.{lines_use}
@@ -15,9 +15,9 @@ use Rattle.ae_semantics.specs.Contexts.{shuts_out}
 use Rattle.ae_semantics.specs.Observations.{Piece, Answer, Seen, OfBlock, OfCell, Query, AtBlock, AtEnd, Ending, Notes, Observer}
 use Rattle.ae_semantics.specs.Runs.{Run, Went, Ends, Stops, Act, Where, Order, flow_step, flow_close, Machine}
 use Rattle.ae_rules.specs.Instances.{Instance, Ordered}
-use Rattle.ae_rules.specs.Paths.{begins}
+use Rattle.ae_rules.specs.Paths.{is_prefix_of}
 use Rattle.ae_semantics.specs.Meaning.{forgotten}
-use Rattle.ae_semantics.specs.Means.{Start, start, At, Turn, Asking, Stop, Meant, meant, run, notes_of}
+use Rattle.ae_semantics.specs.Means.{Start, run_start, At, Turn, Asking, Stop, Meant, meant, run, notes_of}
 use Rattle.ae_semantics.specs.Atom.{part}
 use Rattle.ae_semantics.specs.Report.{Cell, same_instance, last_in}
 
@@ -41,28 +41,28 @@ pub record Gained : Type 0 where
 
 mutual
   -- a block being run: what it was entered with, and how far each of its statements is
-  pub data Frame : Type 0 where
-    Begun : Moment → Stages → Frame
+  pub data BlockFrame : Type 0 where
+    Begun : Moment → Stages → BlockFrame
 
   -- how far the statements of a block are, in their order
   pub data Stages : Type 0 where
     NoMore : Stages
-    Then : Stage → Stages → Stages
+    Then : FrameStage → Stages → Stages
 
   -- How far a statement is. It waits; it is a task, begun or not; it is a loop from a turn on, with what the turns before left;
   -- it is the block of a call, a branch, a turn or a split block that is being run, with what the turns before gained and with
   -- the split block's cells; it went through, with what it left; it ended; or it is left out.
-  pub data Stage : Type 0 where
-    Waiting : Stage
-    Task : Gained → Stage
-    Loop : ℕ → Moment → Gained → Stage
-    InCall : Frame → Stage
-    InBranch : ℕ → Frame → Stage
-    InTurn : ℕ → Gained → Frame → Stage
-    InSplit : List Cell → Frame → Stage
-    Finished : Moment → Gained → Stage
-    Halted : Ending → Gained → Stage
-    LeftOut : Stage
+  pub data FrameStage : Type 0 where
+    Waiting : FrameStage
+    Task : Gained → FrameStage
+    Loop : ℕ → Moment → Gained → FrameStage
+    InCall : BlockFrame → FrameStage
+    InBranch : ℕ → BlockFrame → FrameStage
+    InTurn : ℕ → Gained → BlockFrame → FrameStage
+    InSplit : List Cell → BlockFrame → FrameStage
+    Finished : Moment → Gained → FrameStage
+    Halted : Ending → Gained → FrameStage
+    LeftOut : FrameStage
 
 -- all statements of a block wait
 abbrev pub all_wait : Lines → Stages
@@ -70,19 +70,19 @@ all_wait End = NoMore
 all_wait (Next at a rest) = Then Waiting (all_wait rest)
 
 -- the tree before anything ran: the body of `main`, all of whose statements wait
-abbrev pub fresh : Code → List ℤ → Option Frame
-fresh p ints = given (start p ints) None (λ (x : Start). Some (Begun (record { state = x.state; log = [] }) (all_wait x.method.body)))
+abbrev pub fresh : Code → List ℤ → Option BlockFrame
+fresh p ints = given (run_start p ints) None (λ (x : Start). Some (Begun (record { state = x.state; log = [] }) (all_wait x.method.body)))
 
 -- ---- the nodes of the tree
 
 -- a statement instance and how far it is
 pub record Node : Type 0 where
   pub path : Instance
-  pub stage : Stage
+  pub stage : FrameStage
 
 abbrev mutual
   -- the statements of a block, and of all blocks inside it
-  pub nodes_in : Instance → Frame → List Node
+  pub nodes_in : Instance → BlockFrame → List Node
   nodes_in q (Begun m stages) = nodes_from q 0 stages
 
   -- the statements of a block from a number on
@@ -91,7 +91,7 @@ abbrev mutual
   nodes_from q j (Then x rest) = record { path = q ++ (j ∷ []); stage = x } ∷ (nodes_inside (q ++ (j ∷ [])) x ++ nodes_from q (suc j) rest)
 
   -- the statements inside a statement; a branch and a turn have a number of their own
-  pub nodes_inside : Instance → Stage → List Node
+  pub nodes_inside : Instance → FrameStage → List Node
   nodes_inside q (InCall f) = nodes_in q f
   nodes_inside q (InBranch i f) = nodes_in (q ++ (i ∷ [])) f
   nodes_inside q (InTurn t gained f) = nodes_in (q ++ (t ∷ [])) f
@@ -99,21 +99,21 @@ abbrev mutual
   nodes_inside q _ = []
 
 -- all statements of a tree, whose first block is the body of `main`
-abbrev pub nodes : Frame → List Node
+abbrev pub nodes : BlockFrame → List Node
 nodes tree = nodes_in [] tree
 
 -- all things that the nodes of a tree give
-abbrev pub gathered : {A : Type 0} → (Instance → Stage → List A) → List Node → List A
-gathered give [] = []
-gathered give (x ∷ xs) = give x.path x.stage ++ gathered give xs
+abbrev pub gathered_from : {A : Type 0} → (Instance → FrameStage → List A) → List Node → List A
+gathered_from give [] = []
+gathered_from give (x ∷ xs) = give x.path x.stage ++ gathered_from give xs
 
 -- ---- where things of the tree lie
 
 -- an instance and what lies in it, a loop from a turn on, or an instance without what lies in it
-pub data Place : Type 0 where
-  Within : Instance → Place
-  FromTurn : Instance → ℕ → Place
-  Only : Instance → Place
+pub data Extent : Type 0 where
+  Within : Instance → Extent
+  FromTurn : Instance → ℕ → Extent
+  Only : Instance → Extent
 
 -- the instance lies in this turn of the loop or in a later one
 abbrev pub in_turns_from : Instance → ℕ → Instance → Bool
@@ -123,31 +123,31 @@ in_turns_from (i ∷ p) t [] = false
 in_turns_from (i ∷ p) t (j ∷ q) = nat_eq i j && in_turns_from p t q
 
 -- the instance lies in the place
-abbrev pub lies_in : Place → Instance → Bool
-lies_in (Within q) r = begins q r
+abbrev pub lies_in : Extent → Instance → Bool
+lies_in (Within q) r = is_prefix_of q r
 lies_in (FromTurn q t) r = in_turns_from q t r
 lies_in (Only q) r = same_instance q r
 
 -- the path of a place: that of a loop from a turn on is the loop's with the turn appended
-abbrev pub path_of : Place → Instance
+abbrev pub path_of : Extent → Instance
 path_of (Within q) = q
 path_of (FromTurn q t) = q ++ (t ∷ [])
 path_of (Only q) = q
 
 -- the turns of a loop before this one
-abbrev pub turns_before : Instance → ℕ → List Place
+abbrev pub turns_before : Instance → ℕ → List Extent
 turns_before q zero = []
 turns_before q (suc t) = turns_before q t ++ (Within (q ++ (t ∷ [])) ∷ [])
 
 -- what went through: statements, and turns of loops that go on
-abbrev pub finished_at : Instance → Stage → List Place
+abbrev pub finished_at : Instance → FrameStage → List Extent
 finished_at q (Finished m gained) = Within q ∷ []
 finished_at q (Loop t m gained) = turns_before q t
 finished_at q (InTurn t gained f) = turns_before q t
 finished_at q _ = []
 
 -- the unfinished tasks: statements that wait or are tasks, and loops from their next turn on
-abbrev pub unfinished_at : Instance → Stage → List Place
+abbrev pub unfinished_at : Instance → FrameStage → List Extent
 unfinished_at q Waiting = Within q ∷ []
 unfinished_at q (Task gained) = Within q ∷ []
 unfinished_at q (Loop t m gained) = FromTurn q t ∷ []
@@ -155,7 +155,7 @@ unfinished_at q (InTurn t gained f) = FromTurn q (suc t) ∷ []
 unfinished_at q _ = []
 
 -- the statements whose block is being run, and loops between two turns
-abbrev pub unfolded_at : Instance → Stage → List Instance
+abbrev pub unfolded_at : Instance → FrameStage → List Instance
 unfolded_at q (Loop t m gained) = q ∷ []
 unfolded_at q (InCall f) = q ∷ []
 unfolded_at q (InBranch i f) = q ∷ []
@@ -169,30 +169,30 @@ pub record Halt : Type 0 where
   pub ending : Ending
 
 -- the statements that ended
-abbrev pub halted_at : Instance → Stage → List Halt
+abbrev pub halted_at : Instance → FrameStage → List Halt
 halted_at q (Halted ending gained) = record { path = q; ending = ending } ∷ []
 halted_at q _ = []
 
 -- the statements that are left out
-abbrev pub left_out_at : Instance → Stage → List Instance
+abbrev pub left_out_at : Instance → FrameStage → List Instance
 left_out_at q LeftOut = q ∷ []
 left_out_at q _ = []
 
 -- what went through in the whole tree, and so for the other four
-abbrev pub finished : Frame → List Place
-finished tree = gathered finished_at (nodes tree)
+abbrev pub finished : BlockFrame → List Extent
+finished tree = gathered_from finished_at (nodes tree)
 
-abbrev pub unfinished : Frame → List Place
-unfinished tree = gathered unfinished_at (nodes tree)
+abbrev pub unfinished : BlockFrame → List Extent
+unfinished tree = gathered_from unfinished_at (nodes tree)
 
-abbrev pub unfolded : Frame → List Instance
-unfolded tree = gathered unfolded_at (nodes tree)
+abbrev pub unfolded : BlockFrame → List Instance
+unfolded tree = gathered_from unfolded_at (nodes tree)
 
-abbrev pub halted : Frame → List Halt
-halted tree = gathered halted_at (nodes tree)
+abbrev pub halted : BlockFrame → List Halt
+halted tree = gathered_from halted_at (nodes tree)
 
-abbrev pub left_out : Frame → List Instance
-left_out tree = gathered left_out_at (nodes tree)
+abbrev pub left_out : BlockFrame → List Instance
+left_out tree = gathered_from left_out_at (nodes tree)
 
 -- ---- what the tree holds
 
@@ -202,7 +202,7 @@ pub record Result : Type 0 where
   pub left : Moment
 
 -- what the statements that went through left
-abbrev pub results_at : Instance → Stage → List Result
+abbrev pub results_at : Instance → FrameStage → List Result
 results_at q (Finished m gained) = record { path = q; left = m } ∷ []
 results_at q _ = []
 
@@ -212,23 +212,23 @@ pub record Between : Type 0 where
   pub left : Moment
 
 -- the loops between two turns
-abbrev pub betweens_at : Instance → Stage → List Between
+abbrev pub betweens_at : Instance → FrameStage → List Between
 betweens_at q (Loop t m gained) = record { turn = record { path = q; turn = t }; left = m } ∷ []
 betweens_at q _ = []
 
 -- the turns that were begun, or are the next of their loop
-abbrev pub turns_at : Instance → Stage → List Turn
+abbrev pub turns_at : Instance → FrameStage → List Turn
 turns_at q (Loop t m gained) = record { path = q; turn = t } ∷ []
 turns_at q (InTurn t gained f) = record { path = q; turn = t } ∷ []
 turns_at q _ = []
 
 -- a block being run, with its path
-pub record Placed : Type 0 where
+pub record PlacedFrame : Type 0 where
   pub path : Instance
-  pub frame : Frame
+  pub frame : BlockFrame
 
 -- the blocks being run that stand in a statement
-abbrev pub frames_at : Instance → Stage → List Placed
+abbrev pub frames_at : Instance → FrameStage → List PlacedFrame
 frames_at q (InCall f) = record { path = q; frame = f } ∷ []
 frames_at q (InBranch i f) = record { path = q ++ (i ∷ []); frame = f } ∷ []
 frames_at q (InTurn t gained f) = record { path = q ++ (t ∷ []); frame = f } ∷ []
@@ -236,7 +236,7 @@ frames_at q (InSplit cells f) = record { path = q; frame = f } ∷ []
 frames_at q _ = []
 
 -- the atomic blocks that ran, but for those inside a block that is being run
-abbrev pub events_at : Instance → Stage → List Happened
+abbrev pub events_at : Instance → FrameStage → List Happened
 events_at q (Task gained) = gained.events
 events_at q (Loop t m gained) = gained.events
 events_at q (InTurn t gained f) = gained.events
@@ -245,7 +245,7 @@ events_at q (Halted ending gained) = gained.events
 events_at q _ = []
 
 -- the cells of the split blocks that were entered, but for those inside a block that is being run
-abbrev pub cells_at : Instance → Stage → List Cell
+abbrev pub cells_at : Instance → FrameStage → List Cell
 cells_at q (Task gained) = gained.cells
 cells_at q (Loop t m gained) = gained.cells
 cells_at q (InTurn t gained f) = gained.cells
@@ -255,24 +255,24 @@ cells_at q (Halted ending gained) = gained.cells
 cells_at q _ = []
 
 -- all of these in the whole tree
-abbrev pub results : Frame → List Result
-results tree = gathered results_at (nodes tree)
+abbrev pub results : BlockFrame → List Result
+results tree = gathered_from results_at (nodes tree)
 
-abbrev pub betweens : Frame → List Between
-betweens tree = gathered betweens_at (nodes tree)
+abbrev pub betweens : BlockFrame → List Between
+betweens tree = gathered_from betweens_at (nodes tree)
 
-abbrev pub turns : Frame → List Turn
-turns tree = gathered turns_at (nodes tree)
+abbrev pub turns : BlockFrame → List Turn
+turns tree = gathered_from turns_at (nodes tree)
 
 -- the body of `main` is a block that is being run
-abbrev pub frames : Frame → List Placed
-frames tree = record { path = []; frame = tree } ∷ gathered frames_at (nodes tree)
+abbrev pub frames : BlockFrame → List PlacedFrame
+frames tree = record { path = []; frame = tree } ∷ gathered_from frames_at (nodes tree)
 
-abbrev pub events : Frame → List Happened
-events tree = gathered events_at (nodes tree)
+abbrev pub events : BlockFrame → List Happened
+events tree = gathered_from events_at (nodes tree)
 
-abbrev pub cells : Frame → List Cell
-cells tree = gathered cells_at (nodes tree)
+abbrev pub cells : BlockFrame → List Cell
+cells tree = gathered_from cells_at (nodes tree)
 
 -- ---- the tree as observations
 
@@ -282,13 +282,13 @@ answered_in [] q = None
 answered_in (e ∷ es) q = if same_instance e.asking.ask.path q then Some (OfBlock e.out) else answered_in es q
 
 -- blocks answer as the tree's events, and a cell at its end holds what it holds in the tree
-abbrev pub observed : Frame → Query → Option Seen
+abbrev pub observed : BlockFrame → Query → Option Seen
 observed tree (AtBlock ask) = answered_in (events tree) ask.path
 observed tree (AtEnd c first) = last_in (cells tree) c
 
 -- the meaning past what stopped, with these observations
-abbrev pub part_of : Code → List ℤ → ℕ → Frame → Meant
-part_of p ints fuel tree = part p ints fuel (observed tree)
+abbrev pub part_of_frame : Code → List ℤ → ℕ → BlockFrame → Meant
+part_of_frame p ints fuel tree = part p ints fuel (observed tree)
 
 -- ---- what the meaning past what stopped finds and leaves at each statement
 
@@ -317,14 +317,14 @@ abbrev pub with_left : Passage → Notes Trail → Notes Trail
 with_left x n = record n { watch = record { found = n.watch.found; left = n.watch.left ++ (x ∷ []) } }
 
 -- a statement that went through has left the values that follow it
-abbrev pub behind : Where → Scene → ℕ → Run Trail → Run Trail
-behind here all j (Went s n) = Went s (with_left (passage here all j s n) n)
-behind here all j (Ends ending n) = Ends ending n
-behind here all j (Stops n) = Stops n
+abbrev pub left_behind : Where → Scene → ℕ → Run Trail → Run Trail
+left_behind here all j (Went s n) = Went s (with_left (passage here all j s n) n)
+left_behind here all j (Ends ending n) = Ends ending n
+left_behind here all j (Stops n) = Stops n
 
 -- a statement, with what it found and what it left noted
 abbrev pub watched : Where → Scene → ℕ → Act Trail → Act Trail
-watched here all j act s n = behind here all j (act s (with_found (passage here all j s n) n))
+watched here all j act s n = left_behind here all j (act s (with_found (passage here all j s n) n))
 
 -- the way past what stopped, which notes what each statement finds and leaves and changes nothing else
 abbrev pub watching : Code → Order Trail
@@ -358,7 +358,7 @@ abbrev pub WatchingChangesNothing : Type 0
 WatchingChangesNothing = (p : Code) (ints : List ℤ) (fuel : ℕ) (table : Query → Option Seen) → meant (watched_run p ints fuel table) ≡ part p ints fuel table
 
 -- the same with the tree's observations
-abbrev pub trail_of : Code → List ℤ → ℕ → Frame → Trail
+abbrev pub trail_of : Code → List ℤ → ℕ → BlockFrame → Trail
 trail_of p ints fuel tree = trail p ints fuel (observed tree)
 
 -- ---- values that agree
@@ -403,10 +403,10 @@ how_many (Then x rest) = suc (how_many rest)
 
 -- A block being run is one that the meaning enters: it has a stage for each of its statements, and was entered with the values
 -- that its first statement finds, as far as the block uses them.
-abbrev pub IsEntered : Code → Trail → Instance → Frame → Type 0
-IsEntered p w q (Begun m NoMore) = Unit {0}
-IsEntered p w q (Begun m (Then stage rest)) = (x : Passage) × Contains w.found x × (x.path ≡ q ++ (0 ∷ []))
-    × (count x.block.lines ≡ suc (how_many rest))
+abbrev pub IsFrameEntered : Code → Trail → Instance → BlockFrame → Type 0
+IsFrameEntered p w q (Begun m NoMore) = Unit {0}
+IsFrameEntered p w q (Begun m (Then stage rest)) = (x : Passage) × Contains w.found x × (x.path ≡ q ++ (0 ∷ []))
+    × (statement_count x.block.lines ≡ suc (how_many rest))
     × AgreesOnUsed (lines_use p x.block.method x.block.lines x.block.start) m x.moment
 
 -- ---- stands for
@@ -427,52 +427,52 @@ IsBetween p w b = (x : Passage) × Contains w.found x × (x.path ≡ b.turn.path
 -- the first ending at an instance or in it
 abbrev pub first_ending : Instance → List Stop → Option Ending
 first_ending q [] = None
-first_ending q (s ∷ ss) = if begins q s.path then s.ending else first_ending q ss
+first_ending q (s ∷ ss) = if is_prefix_of q s.path then s.ending else first_ending q ss
 
 -- the block's answer is what is observed at it, and the meaning asks it so
-pub record IsAsked (m : Meant) (tree : Frame) (e : Happened) : Type 0 where
+pub record IsAsked (m : Meant) (tree : BlockFrame) (e : Happened) : Type 0 where
   pub answer : observed tree (AtBlock e.asking.ask) ≡ Some (OfBlock e.out)
   pub asked : Contains m.asked e.asking
 
 -- the cell is observed as it is, and the meaning enters its split block with what the cell held at first
-pub record IsOfEntered (m : Meant) (tree : Frame) (c : Cell) : Type 0 where
+pub record IsOfEntered (m : Meant) (tree : BlockFrame) (c : Cell) : Type 0 where
   pub last : observed tree (AtEnd c.name c.first) ≡ Some (OfCell c.last)
   pub entered : Contains m.firsts (record { cell = c.name; image = c.first })
 
 -- the instance lies in one of the places
-abbrev pub LiesIn : List Place → Instance → Type 0
-LiesIn places q = (x : Place) × Contains places x × (lies_in x q ≡ true)
+abbrev pub LiesIn : List Extent → Instance → Type 0
+LiesIn places q = (x : Extent) × Contains places x × (lies_in x q ≡ true)
 
 -- the instance keeps its place after one of the places
-abbrev pub IsAfter : Code → List Place → Instance → Type 0
-IsAfter p places q = (x : Place) × Contains places x × Ordered p (path_of x) q
+abbrev pub IsAfter : Code → List Extent → Instance → Type 0
+IsAfter p places q = (x : Extent) × Contains places x × Ordered p (path_of x) q
 
 -- where a statement ended
-abbrev pub halt_place : Halt → Place
+abbrev pub halt_place : Halt → Extent
 halt_place h = Within h.path
 
 -- what did not go through: unfinished tasks, what ended, and statements whose block is being run
-abbrev pub under_way : Frame → List Place
+abbrev pub under_way : BlockFrame → List Extent
 under_way tree = unfinished tree ++ map halt_place (halted tree) ++ map Only (unfolded tree)
 
 -- The tree stands for the meaning past what stopped, with the tree's own events and cells as the observations.
-pub record StandsFor (p : Code) (ints : List ℤ) (fuel : ℕ) (tree : Frame) : Type 0 where
+pub record StandsFor (p : Code) (ints : List ℤ) (fuel : ℕ) (tree : BlockFrame) : Type 0 where
   -- what went through is run by the meaning, and has left what the meaning has there
-  pub each_left : (x : Result) → Contains (results tree) x → IsRun (part_of p ints fuel tree) x.path × IsLeft p (trail_of p ints fuel tree) x
+  pub each_left : (x : Result) → Contains (results tree) x → IsRun (part_of_frame p ints fuel tree) x.path × IsLeft p (trail_of p ints fuel tree) x
   -- a turn that is begun or next is one whose condition the meaning evaluates
-  pub each_turn : (x : Turn) → Contains (turns tree) x → Contains (part_of p ints fuel tree).turns x
+  pub each_turn : (x : Turn) → Contains (turns tree) x → Contains (part_of_frame p ints fuel tree).turns x
   pub each_between : (x : Between) → Contains (betweens tree) x → IsBetween p (trail_of p ints fuel tree) x
   -- a statement whose block is being run is run by the meaning, and the block is entered as it is there
-  pub each_unfolded : (q : Instance) → Contains (unfolded tree) q → IsRun (part_of p ints fuel tree) q
-  pub each_entered : (x : Placed) → Contains (frames tree) x → IsEntered p (trail_of p ints fuel tree) x.path x.frame
+  pub each_unfolded : (q : Instance) → Contains (unfolded tree) q → IsRun (part_of_frame p ints fuel tree) q
+  pub each_entered : (x : PlacedFrame) → Contains (frames tree) x → IsFrameEntered p (trail_of p ints fuel tree) x.path x.frame
   -- what ended is the first to end there, with that ending
-  pub each_halt : (x : Halt) → Contains (halted tree) x → first_ending x.path (part_of p ints fuel tree).stopped ≡ Some x.ending
+  pub each_halt : (x : Halt) → Contains (halted tree) x → first_ending x.path (part_of_frame p ints fuel tree).stopped ≡ Some x.ending
   -- what is left out keeps its place after what ended
   pub each_left_out : (q : Instance) → Contains (left_out tree) q → IsAfter p (map halt_place (halted tree)) q
   -- the events and the cells are what is observed
-  pub each_event : (e : Happened) → Contains (events tree) e → IsAsked (part_of p ints fuel tree) tree e
-  pub each_cell : (c : Cell) → Contains (cells tree) c → IsOfEntered (part_of p ints fuel tree) tree c
+  pub each_event : (e : Happened) → Contains (events tree) e → IsAsked (part_of_frame p ints fuel tree) tree e
+  pub each_cell : (c : Cell) → Contains (cells tree) c → IsOfEntered (part_of_frame p ints fuel tree) tree c
   -- All else that the meaning runs is under way, or keeps its place after what is under way. A statement whose block is being run counts
   -- as under way until the block is put away, also where nothing in it is left to do.
-  pub all_others : (x : At) → Contains (part_of p ints fuel tree).ran x
+  pub all_others : (x : At) → Contains (part_of_frame p ints fuel tree).ran x
       → LiesIn (finished tree) x.path ⊎ LiesIn (under_way tree) x.path ⊎ IsAfter p (under_way tree) x.path

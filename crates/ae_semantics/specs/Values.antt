@@ -62,16 +62,16 @@ all_low st = list_all (λ t. is_low (Owned t)) st
 
 -- ---- which value fits which form
 
-abbrev pub count : Values → ℕ
-count NoValue = 0
-count (AndValue v xs) = count xs + 1
+abbrev pub value_count : Values → ℕ
+value_count NoValue = 0
+value_count (AndValue v xs) = value_count xs + 1
 
 -- a tree is of a class by its name and its number of fields; what stands in the fields does not count
 abbrev pub is_of_kind : Code → Kind → Tree → Bool
 is_of_kind p kind.Ints (Array ns) = true
 is_of_kind p kind.Ints (Object x xs) = false
 is_of_kind p (kind.Class c gs) (Array ns) = false
-is_of_kind p (kind.Class c gs) (Object x xs) = nat_eq c x && given (class_called p c) false (λ (d : Class). nat_eq (length d.fields) (count xs))
+is_of_kind p (kind.Class c gs) (Object x xs) = nat_eq c x && given (class_called p c) false (λ (d : Class). nat_eq (length d.fields) (value_count xs))
 
 -- a shared place takes null and references, any other place for objects takes null and trees
 abbrev pub fits_object : Code → Perm → Kind → Val → Bool
@@ -98,17 +98,17 @@ value_at (AndValue v xs) zero = Some v
 value_at (AndValue v xs) (suc i) = value_at xs i
 
 -- the values with one of them changed
-abbrev pub changed : Values → ℕ → (Val → Val) → Values
-changed NoValue i new = NoValue
-changed (AndValue v xs) zero new = AndValue (new v) xs
-changed (AndValue v xs) (suc i) new = AndValue v (changed xs i new)
+abbrev pub with_changed : Values → ℕ → (Val → Val) → Values
+with_changed NoValue i new = NoValue
+with_changed (AndValue v xs) zero new = AndValue (new v) xs
+with_changed (AndValue v xs) (suc i) new = AndValue v (with_changed xs i new)
 
 abbrev pub values : List Val → Values
 values [] = NoValue
 values (v ∷ vs) = AndValue v (values vs)
 
 -- a new value in a tree, at the place to which these fields lead
-abbrev pub put : List ℕ → Val → Val → Val
-put [] new old = new
-put (i ∷ is) new (Owned (Object c xs)) = Owned (Object c (changed xs i (put is new)))
-put (i ∷ is) new old = old
+abbrev pub put_at : List ℕ → Val → Val → Val
+put_at [] new old = new
+put_at (i ∷ is) new (Owned (Object c xs)) = Owned (Object c (with_changed xs i (put_at is new)))
+put_at (i ∷ is) new old = old

@@ -11,15 +11,15 @@ use Rattle.ae_tree.specs.declared.limits.Limit.TheVariants as limit
 use Rattle.ae_tree.specs.declared.tree.NameAt.{NameAt}
 use Rattle.ae_tree.specs.Plain.{Expression, Lines, End}
 use Rattle.ae_tree.specs.Plain.{Action, Chooses, ChoosesElse, Repeats, Splits, Locks}
-use Rattle.ae_tree.specs.Grammar.{Tokens, ◌⨾◌, one_at, name, separated, whole, statement, statements, opened_in}
-use Rattle.ae_tree.specs.Limits.{Keeps, KeepsIn, IsFew, Opens, KeepsBlock}
+use Rattle.ae_tree.specs.Grammar.{Tokens, ◌⨾◌, one_at, name, separated, whole_expression, statement, statements, opened_in}
+use Rattle.ae_tree.specs.Limits.{KeepsDepth, KeepsIn, IsFew, Opens, KeepsBlock}
 use Rattle.ae_reading.specs.declared.fail.Fail.{Fail}
-use Rattle.ae_reading.specs.Reads.{head, Always, Free, Is, Isnt, IsWithin, Took, Failed, Token}
+use Rattle.ae_reading.specs.Reads.{head, Always, Free, Is, Isnt, IsWithinAll, Took, Failed, Token}
 use Rattle.ae_reading.proofs.ReadsLemmas.{AreKnown-append, Lang, Bound, Follow, Links, Both, Limits, Pair, Has, Along, NoneAt, took_as, failed_as, failed_by, has_both, has_name, at_once, free, first, second, both, io_name, took_before, failed_before, After, AfterLinks, HasEach, took_after, after_first, after_second}
 use Rattle.ae_reading.proofs.Parts.{Optional, took_absent, took_present, failed_present}
 use Rattle.ae_reading.proofs.Begins.{opens_mark, opens_first, opens_other, is_isnt}
 use Rattle.ae_expressions.specs.Ends.{Ends}
-use Rattle.ae_statements.specs.Productions.{stmt, KeepsStmt, NoElse, braced, KeepsBraced, otherwise, Closes}
+use Rattle.ae_statements.specs.Productions.{stmt, KeepsStmt, NoElse, numbered_block, KeepsBraced, otherwise, Closes}
 use Rattle.ae_statements.proofs.ShapeLemmas.{Pre, Suf, Lets, took_pre, pre_first, pre_second, has_pre, took_suf, suf_first, suf_second, has_suf, has_whole, begins_lets, sign_ends}
 use Rattle.ae_statements.proofs.FormLemmas.{Formed, formed}
 use Rattle.ae_statements.proofs.SimpleLemmas.{simple_took, simple_failed}
@@ -44,7 +44,7 @@ opens_some limit.Levels n some = omega (arith, some)
 opens_some limit.Depth n some = tt
 opens_some limit.Params n some = tt
 
-braced_along : (n levels : ℕ) (ts : Tokens) → 1 ≤ levels → Along (braced n) (Unbraced n) (KeepsBraced levels) (KeepsLines (levels - 1)) ts (λ b. b)
+braced_along : (n levels : ℕ) (ts : Tokens) → 1 ≤ levels → Along (numbered_block n) (Unbraced n) (KeepsBraced levels) (KeepsLines (levels - 1)) ts (λ b. b)
 braced_along n levels ts some = record {
   intro = λ q us d. d;
   cases = λ y us r d h. (y, refl, d);
@@ -58,7 +58,7 @@ none_few limit.Levels = tt
 none_few limit.Depth = tt
 none_few limit.Params = tt
 
-pub none_keep : (levels : ℕ) → IsWithin (KeepsLines levels) End
+pub none_keep : (levels : ℕ) → IsWithinAll (KeepsLines levels) End
 none_keep levels l = (none_few l, tt)
 
 pub has_lines : (n levels : ℕ) → Has (statements n) (KeepsLines levels)
@@ -67,7 +67,7 @@ has_lines n levels = record { tree = End; tokens = []; is = refl; known = tt; wi
 has_closed : (n levels : ℕ) → Has (Suf (statements (n + 1)) closing) (KeepsLines levels)
 has_closed n levels = has_suf closing (statements (n + 1)) tt (has_lines (n + 1) levels)
 
-pub has_braced : (n levels : ℕ) → 1 ≤ levels → Has (braced n) (KeepsBraced levels)
+pub has_braced : (n levels : ℕ) → 1 ≤ levels → Has (numbered_block n) (KeepsBraced levels)
 has_braced n levels some =
     let x = has_pre opening (Suf (statements (n + 1)) closing) tt (has_closed n (levels - 1)) in
     record { tree = x.tree; tokens = x.tokens; is = x.is; known = x.known; within = λ l. (opens_some l levels some, (x.within l).0, (x.within l).1) }
@@ -77,32 +77,32 @@ brace_closes t e = inl e
 
 pub braced_took : (n levels : ℕ) {ts mid behind rest : Tokens} {at end : Spot} {b : Lines} → 1 ≤ levels →
     Took (Token opening) Free Always ts at mid → Took (statements (n + 1)) (KeepsLines (levels - 1)) Closes mid b behind → Took (Token closing) Free Always behind end rest →
-    Took (braced n) (KeepsBraced levels) Always ts b rest
-braced_took n levels {ts} some t u v = took_as (braced n) (Unbraced n) (λ b. b) (braced_along n levels ts some) (took_pre (Suf (statements (n + 1)) closing) t (took_suf (statements (n + 1)) brace_closes u v))
+    Took (numbered_block n) (KeepsBraced levels) Always ts b rest
+braced_took n levels {ts} some t u v = took_as (numbered_block n) (Unbraced n) (λ b. b) (braced_along n levels ts some) (took_pre (Suf (statements (n + 1)) closing) t (took_suf (statements (n + 1)) brace_closes u v))
 
 -- there is no brace
-pub braced_first : (n levels : ℕ) {ts : Tokens} {e : Fail} → 1 ≤ levels → Failed (Token opening) Free Always ts e → Failed (braced n) (KeepsBraced levels) Always ts e
-braced_first n levels {ts} some f = failed_as (braced n) (Unbraced n) (λ b. b) (braced_along n levels ts some) (pre_first (Suf (statements (n + 1)) closing) (has_closed n (levels - 1)) f)
+pub braced_first : (n levels : ℕ) {ts : Tokens} {e : Fail} → 1 ≤ levels → Failed (Token opening) Free Always ts e → Failed (numbered_block n) (KeepsBraced levels) Always ts e
+braced_first n levels {ts} some f = failed_as (numbered_block n) (Unbraced n) (λ b. b) (braced_along n levels ts some) (pre_first (Suf (statements (n + 1)) closing) (has_closed n (levels - 1)) f)
 
 -- its statements fail
 pub braced_inner : (n levels : ℕ) {ts mid : Tokens} {at : Spot} {e : Fail} → 1 ≤ levels →
-    Took (Token opening) Free Always ts at mid → Failed (statements (n + 1)) (KeepsLines (levels - 1)) Closes mid e → Failed (braced n) (KeepsBraced levels) Always ts e
-braced_inner n levels {ts} some t f = failed_as (braced n) (Unbraced n) (λ b. b) (braced_along n levels ts some) (pre_second (Suf (statements (n + 1)) closing) t (suf_first (statements (n + 1)) brace_closes tt f))
+    Took (Token opening) Free Always ts at mid → Failed (statements (n + 1)) (KeepsLines (levels - 1)) Closes mid e → Failed (numbered_block n) (KeepsBraced levels) Always ts e
+braced_inner n levels {ts} some t f = failed_as (numbered_block n) (Unbraced n) (λ b. b) (braced_along n levels ts some) (pre_second (Suf (statements (n + 1)) closing) t (suf_first (statements (n + 1)) brace_closes tt f))
 
 -- it is not closed
 pub braced_last : (n levels : ℕ) {ts mid behind : Tokens} {at : Spot} {b : Lines} {e : Fail} → 1 ≤ levels →
     Took (Token opening) Free Always ts at mid → Took (statements (n + 1)) (KeepsLines (levels - 1)) Closes mid b behind → Failed (Token closing) Free Always behind e →
-    Failed (braced n) (KeepsBraced levels) Always ts e
-braced_last n levels {ts} some t u f = failed_as (braced n) (Unbraced n) (λ b. b) (braced_along n levels ts some) (pre_second (Suf (statements (n + 1)) closing) t (suf_second (statements (n + 1)) brace_closes u f))
+    Failed (numbered_block n) (KeepsBraced levels) Always ts e
+braced_last n levels {ts} some t u f = failed_as (numbered_block n) (Unbraced n) (λ b. b) (braced_along n levels ts some) (pre_second (Suf (statements (n + 1)) closing) t (suf_second (statements (n + 1)) brace_closes u f))
 
 -- ---- a word, a part, and a block
 
 -- a block may follow what lets a brace follow
-brace_link : (F : Follow) (n : ℕ) → Lets opening F → Links (braced n) Always F
+brace_link : (F : Follow) (n : ℕ) → Lets opening F → Links (numbered_block n) Always F
 brace_link F n lets y us r d f = begins_lets F us r lets (opens_mark us r d)
 
 abbrev pub Blocked : {A : Type 0} → Lexical → Lang A → ℕ → Lang (Spot × (A × Lines))
-Blocked w E n = Both (Token w) (Both E (braced n))
+Blocked w E n = Both (Token w) (Both E (numbered_block n))
 
 abbrev pub KeepsBlocked : {A : Type 0} → Bound A → ℕ → Bound (Spot × (A × Lines))
 KeepsBlocked V levels = Pair Free (Pair V (KeepsBraced levels))
@@ -115,39 +115,39 @@ pub record OneBlock {A : Type 0} (w : Lexical) (E : Lang A) (V : Bound A) (F : F
   pub some : 1 ≤ levels
 
 has_behind : {A : Type 0} {w : Lexical} {E : Lang A} {V : Bound A} {F : Follow} {n levels : ℕ} {ts : Tokens} {build : Spot × (A × Lines) → Spot × Action} →
-    OneBlock w E V F n levels ts build → Has (Both E (braced n)) (Pair V (KeepsBraced levels))
+    OneBlock w E V F n levels ts build → Has (Both E (numbered_block n)) (Pair V (KeepsBraced levels))
 has_behind {n = n} {levels} o = has_both o.has (has_braced n levels o.some)
 
 pub one_took : {A : Type 0} {w : Lexical} {E : Lang A} {V : Bound A} {F : Follow} {n levels : ℕ} {ts mid behind rest : Tokens} {at : Spot} {x : A} {b : Lines} (build : Spot × (A × Lines) → Spot × Action) →
-    OneBlock w E V F n levels ts build → Took (Token w) Free Always ts at mid → Took E V F mid x behind → Took (braced n) (KeepsBraced levels) Always behind b rest →
+    OneBlock w E V F n levels ts build → Took (Token w) Free Always ts at mid → Took E V F mid x behind → Took (numbered_block n) (KeepsBraced levels) Always behind b rest →
     Took (stmt n) (KeepsStmt levels) NoElse ts (build (at, (x, b))) rest
-one_took {E = E} {F = F} {n} build o t u v = simple_took build o.along (both (free (Both E (braced n)) Always) t (both (brace_link F n o.lets) u v))
+one_took {E = E} {F = F} {n} build o t u v = simple_took build o.along (both (free (Both E (numbered_block n)) Always) t (both (brace_link F n o.lets) u v))
 
 pub one_first : {A : Type 0} {w : Lexical} {E : Lang A} {V : Bound A} {F : Follow} {n levels : ℕ} {ts : Tokens} {e : Fail} (build : Spot × (A × Lines) → Spot × Action) →
     OneBlock w E V F n levels ts build → Failed (Token w) Free Always ts e → Failed (stmt n) (KeepsStmt levels) NoElse ts e
-one_first {E = E} {n = n} build o f = simple_failed build o.along (first (free (Both E (braced n)) Always) (has_behind o) f)
+one_first {E = E} {n = n} build o f = simple_failed build o.along (first (free (Both E (numbered_block n)) Always) (has_behind o) f)
 
 pub one_second : {A : Type 0} {w : Lexical} {E : Lang A} {V : Bound A} {F : Follow} {n levels : ℕ} {ts mid : Tokens} {at : Spot} {e : Fail} (build : Spot × (A × Lines) → Spot × Action) →
     OneBlock w E V F n levels ts build → Took (Token w) Free Always ts at mid → Failed E V F mid e → Failed (stmt n) (KeepsStmt levels) NoElse ts e
-one_second {E = E} {F = F} {n} {levels} build o t f = simple_failed build o.along (second (free (Both E (braced n)) Always) t (first (brace_link F n o.lets) (has_braced n levels o.some) f))
+one_second {E = E} {F = F} {n} {levels} build o t f = simple_failed build o.along (second (free (Both E (numbered_block n)) Always) t (first (brace_link F n o.lets) (has_braced n levels o.some) f))
 
 pub one_third : {A : Type 0} {w : Lexical} {E : Lang A} {V : Bound A} {F : Follow} {n levels : ℕ} {ts mid behind : Tokens} {at : Spot} {x : A} {e : Fail} (build : Spot × (A × Lines) → Spot × Action) →
-    OneBlock w E V F n levels ts build → Took (Token w) Free Always ts at mid → Took E V F mid x behind → Failed (braced n) (KeepsBraced levels) Always behind e →
+    OneBlock w E V F n levels ts build → Took (Token w) Free Always ts at mid → Took E V F mid x behind → Failed (numbered_block n) (KeepsBraced levels) Always behind e →
     Failed (stmt n) (KeepsStmt levels) NoElse ts e
-one_third {E = E} {F = F} {n} build o t u f = simple_failed build o.along (second (free (Both E (braced n)) Always) t (second (brace_link F n o.lets) u f))
+one_third {E = E} {F = F} {n} build o t u f = simple_failed build o.along (second (free (Both E (numbered_block n)) Always) t (second (brace_link F n o.lets) u f))
 
 -- ---- loops, splits and locks
 
 abbrev pub looped : ℕ → Spot × (Expression × Lines) → Spot × Action
 looped n q = (q.0, Repeats q.1.0 n q.1.1)
 
-looped_cases : (n : ℕ) (y : Spot × Action) (us : Tokens) → stmt n y us → Formed (tok.Word word.While) y.1 → (q : Spot × (Expression × Lines)) × (y ≡ looped n q) × Blocked (tok.Word word.While) whole n q us
+looped_cases : (n : ℕ) (y : Spot × Action) (us : Tokens) → stmt n y us → Formed (tok.Word word.While) y.1 → (q : Spot × (Expression × Lines)) × (y ≡ looped n q) × Blocked (tok.Word word.While) whole_expression n q us
 looped_cases n y us d f =
     let P : Action → Type 0 = λ a. statement n y.0 a us in
     let c : statement n y.0 (Repeats f.0 f.1 f.2) us = subst P f.3 d in
     ((y.0, (f.0, f.2)), ap (λ a. (y.0, a)) f.3 ∙ ap (λ m. (y.0, Repeats f.0 m f.2)) c.0, c.1)
 
-pub loops : (n levels : ℕ) (ts : Tokens) → 1 ≤ levels → Is (tok.Word word.While) (head ts) → OneBlock (tok.Word word.While) whole Keeps (Ends 0) n levels ts (looped n)
+pub loops : (n levels : ℕ) (ts : Tokens) → 1 ≤ levels → Is (tok.Word word.While) (head ts) → OneBlock (tok.Word word.While) whole_expression KeepsDepth (Ends 0) n levels ts (looped n)
 loops n levels ts some is = record {
   along = record {
     intro = λ q us d. (refl, d);
@@ -235,7 +235,7 @@ abbrev pub Two : Type 0
 Two = Lines × Option Lines
 
 abbrev pub two : ℕ → Lang Two
-two n = After (braced n) (λ b. other (behind n b))
+two n = After (numbered_block n) (λ b. other (behind n b))
 
 abbrev pub KeepsTwo : ℕ → Bound Two
 KeepsTwo levels = Limits (KeepsBraced levels) (λ l b. KeepsOther levels l)
@@ -244,10 +244,10 @@ abbrev pub Choice : Type 0
 Choice = Spot × (Expression × Two)
 
 abbrev pub choosing : ℕ → Lang Choice
-choosing n = Both (Token (tok.Word word.If)) (Both whole (two n))
+choosing n = Both (Token (tok.Word word.If)) (Both whole_expression (two n))
 
 abbrev pub KeepsChoice : ℕ → Bound Choice
-KeepsChoice levels = Pair Free (Pair Keeps (KeepsTwo levels))
+KeepsChoice levels = Pair Free (Pair KeepsDepth (KeepsTwo levels))
 
 abbrev pub chosen_with : ℕ → Expression → Lines → Option Lines → Action
 chosen_with n e b None = Chooses e n b
@@ -269,13 +269,13 @@ chosen_intro n at e b None us d = (
       back = d.second.back;
       parts = d.second.parts;
       first = d.second.first;
-      second = (let s = d.second.second in let P : Tokens → Type 0 = λ l. braced n b l in subst P (sym (s.parts ∙ ap (λ l. s.front ++ l) s.second ∙ append-nil s.front)) s.first);
+      second = (let s = d.second.second in let P : Tokens → Type 0 = λ l. numbered_block n b l in subst P (sym (s.parts ∙ ap (λ l. s.front ++ l) s.second ∙ append-nil s.front)) s.first);
     };
   },
 )
 chosen_intro n at e b (Some c) us d = (refl, refl, d)
 
-alone : (n : ℕ) (at : Spot) (e : Expression) (b : Lines) (us : Tokens) → (one_at (tok.Word word.If) at ⨾ whole e ⨾ braced n b) us → choosing n (at, (e, (b, None))) us
+alone : (n : ℕ) (at : Spot) (e : Expression) (b : Lines) (us : Tokens) → (one_at (tok.Word word.If) at ⨾ whole_expression e ⨾ numbered_block n b) us → choosing n (at, (e, (b, None))) us
 alone n at e b us d = record {
   front = d.front;
   back = d.back;
@@ -298,10 +298,10 @@ chosen_cases n y us d (inl f) =
 chosen_cases n y us d (inr f) =
     let P : Action → Type 0 = λ a. statement n y.0 a us in
     let c : statement n y.0 (ChoosesElse f.0 f.1 f.2 f.3 f.4) us = subst P f.5 d in
-    let Q : ℕ → Type 0 = λ m. (one_at (tok.Word word.If) y.0 ⨾ whole f.0 ⨾ braced n f.2 ⨾ otherwise m f.4) us in
+    let Q : ℕ → Type 0 = λ m. (one_at (tok.Word word.If) y.0 ⨾ whole_expression f.0 ⨾ numbered_block n f.2 ⨾ otherwise m f.4) us in
     ((y.0, (f.0, (f.2, Some f.4))), ap (λ a. (y.0, a)) f.5 ∙ ap (λ m. (y.0, ChoosesElse f.0 m f.2 f.3 f.4)) c.0 ∙ ap (λ m. (y.0, ChoosesElse f.0 n f.2 m f.4)) c.1, subst Q c.1 c.2)
 
-chosen_to : (n levels : ℕ) (e : Expression) (b : Lines) (o : Option Lines) (l : Limit) → Keeps l e → KeepsBraced levels l b → KeepsOther levels l o → KeepsIn l levels (chosen_with n e b o)
+chosen_to : (n levels : ℕ) (e : Expression) (b : Lines) (o : Option Lines) (l : Limit) → KeepsDepth l e → KeepsBraced levels l b → KeepsOther levels l o → KeepsIn l levels (chosen_with n e b o)
 chosen_to n levels e b None l k v w = (k, v.0, v.1, v.2)
 chosen_to n levels e b (Some c) l k v w = (k, v.0, (v.1, v.2), w.1, w.2)
 
@@ -354,14 +354,14 @@ has_other : (n levels : ℕ) → HasEach (λ b. other (behind n b)) (KeepsBraced
 has_other n levels = record { tree = λ b. None; tokens = λ b. []; is = λ b. refl; known = λ b. tt; within = λ l b w. tt }
 
 pub two_took : (n levels : ℕ) {ts mid rest : Tokens} {b : Lines} {o : Option Lines} →
-    Took (braced n) (KeepsBraced levels) Always ts b mid → Took (other (behind n b)) (KeepsOther levels) NoElse mid o rest → Took (two n) (KeepsTwo levels) NoElse ts (b, o) rest
+    Took (numbered_block n) (KeepsBraced levels) Always ts b mid → Took (other (behind n b)) (KeepsOther levels) NoElse mid o rest → Took (two n) (KeepsTwo levels) NoElse ts (b, o) rest
 two_took n levels t u = took_after (KeepsSecond levels) (other_links n) t u
 
-pub two_first : (n levels : ℕ) {ts : Tokens} {e : Fail} → Failed (braced n) (KeepsBraced levels) Always ts e → Failed (two n) (KeepsTwo levels) NoElse ts e
+pub two_first : (n levels : ℕ) {ts : Tokens} {e : Fail} → Failed (numbered_block n) (KeepsBraced levels) Always ts e → Failed (two n) (KeepsTwo levels) NoElse ts e
 two_first n levels f = failed_by (λ why left s. after_first (KeepsSecond levels) (other_links n) (has_other n levels) s) f
 
 pub two_second : (n levels : ℕ) {ts mid : Tokens} {b : Lines} {e : Fail} →
-    Took (braced n) (KeepsBraced levels) Always ts b mid → Failed (other (behind n b)) (KeepsOther levels) NoElse mid e → Failed (two n) (KeepsTwo levels) NoElse ts e
+    Took (numbered_block n) (KeepsBraced levels) Always ts b mid → Failed (other (behind n b)) (KeepsOther levels) NoElse mid e → Failed (two n) (KeepsTwo levels) NoElse ts e
 two_second n levels t f = failed_by (λ why left s. after_second (KeepsSecond levels) (other_links n) t s) f
 
 two_links : (n : ℕ) → Links (two n) NoElse (Ends 0)
@@ -373,21 +373,21 @@ has_two n levels some =
     record { tree = (x.tree, None); tokens = x.tokens ++ []; is = record { front = x.tokens; back = []; parts = refl; first = x.is; second = refl }; known = AreKnown-append x.tokens [] x.known tt; within = λ l. (x.within l, tt) }
 
 pub choice_took : (n levels : ℕ) {ts mid behind rest : Tokens} {at : Spot} {e : Expression} {q : Two} → Is (tok.Word word.If) (head ts) →
-    Took (Token (tok.Word word.If)) Free Always ts at mid → Took whole Keeps (Ends 0) mid e behind → Took (two n) (KeepsTwo levels) NoElse behind q rest →
+    Took (Token (tok.Word word.If)) Free Always ts at mid → Took whole_expression KeepsDepth (Ends 0) mid e behind → Took (two n) (KeepsTwo levels) NoElse behind q rest →
     Took (stmt n) (KeepsStmt levels) NoElse ts (chosen n (at, (e, q))) rest
-choice_took n levels {ts} is t u v = took_as (stmt n) (choosing n) (chosen n) (choice_along n levels ts is) (both (free (Both whole (two n)) NoElse) t (both (two_links n) u v))
+choice_took n levels {ts} is t u v = took_as (stmt n) (choosing n) (chosen n) (choice_along n levels ts is) (both (free (Both whole_expression (two n)) NoElse) t (both (two_links n) u v))
 
 pub choice_first : (n levels : ℕ) {ts : Tokens} {e : Fail} → 1 ≤ levels → Is (tok.Word word.If) (head ts) → Failed (Token (tok.Word word.If)) Free Always ts e → Failed (stmt n) (KeepsStmt levels) NoElse ts e
-choice_first n levels {ts} some is f = failed_as (stmt n) (choosing n) (chosen n) (choice_along n levels ts is) (first (free (Both whole (two n)) NoElse) (has_both has_whole (has_two n levels some)) f)
+choice_first n levels {ts} some is f = failed_as (stmt n) (choosing n) (chosen n) (choice_along n levels ts is) (first (free (Both whole_expression (two n)) NoElse) (has_both has_whole (has_two n levels some)) f)
 
 pub choice_second : (n levels : ℕ) {ts mid : Tokens} {at : Spot} {e : Fail} → 1 ≤ levels → Is (tok.Word word.If) (head ts) →
-    Took (Token (tok.Word word.If)) Free Always ts at mid → Failed whole Keeps (Ends 0) mid e → Failed (stmt n) (KeepsStmt levels) NoElse ts e
-choice_second n levels {ts} some is t f = failed_as (stmt n) (choosing n) (chosen n) (choice_along n levels ts is) (second (free (Both whole (two n)) NoElse) t (first (two_links n) (has_two n levels some) f))
+    Took (Token (tok.Word word.If)) Free Always ts at mid → Failed whole_expression KeepsDepth (Ends 0) mid e → Failed (stmt n) (KeepsStmt levels) NoElse ts e
+choice_second n levels {ts} some is t f = failed_as (stmt n) (choosing n) (chosen n) (choice_along n levels ts is) (second (free (Both whole_expression (two n)) NoElse) t (first (two_links n) (has_two n levels some) f))
 
 pub choice_third : (n levels : ℕ) {ts mid behind : Tokens} {at : Spot} {x : Expression} {e : Fail} → Is (tok.Word word.If) (head ts) →
-    Took (Token (tok.Word word.If)) Free Always ts at mid → Took whole Keeps (Ends 0) mid x behind → Failed (two n) (KeepsTwo levels) NoElse behind e →
+    Took (Token (tok.Word word.If)) Free Always ts at mid → Took whole_expression KeepsDepth (Ends 0) mid x behind → Failed (two n) (KeepsTwo levels) NoElse behind e →
     Failed (stmt n) (KeepsStmt levels) NoElse ts e
-choice_third n levels {ts} is t u f = failed_as (stmt n) (choosing n) (chosen n) (choice_along n levels ts is) (second (free (Both whole (two n)) NoElse) t (second (two_links n) u f))
+choice_third n levels {ts} is t u f = failed_as (stmt n) (choosing n) (chosen n) (choice_along n levels ts is) (second (free (Both whole_expression (two n)) NoElse) t (second (two_links n) u f))
 
 -- ---- numbers
 

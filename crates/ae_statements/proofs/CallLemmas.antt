@@ -13,16 +13,16 @@ use Rattle.ae_tree.specs.declared.tree.Path.{Path}
 use Rattle.ae_tree.specs.declared.tree.Expr.{Expr}
 use Rattle.ae_tree.specs.Plain.{Expression, Number, Truth, Nothing, Read, Item, Length, Grouped, Negated, Minus, Binary, Invocation}
 use Rattle.ae_tree.specs.Shown as shown
-use Rattle.ae_tree.specs.Grammar.{Tokens, Then, ◌⨾◌, one, whole, expression, root, path, groups, arguments, each, further, listed}
-use Rattle.ae_tree.specs.Limits.{Keeps, AllKeep}
+use Rattle.ae_tree.specs.Grammar.{Tokens, Then, ◌⨾◌, one_token, whole_expression, expression_at, root, path, groups, arguments, one_by_one, further, comma_list}
+use Rattle.ae_tree.specs.Limits.{KeepsDepth, AllKeepDepth}
 use Rattle.ae_reading.specs.declared.fail.Fail.{Fail}
-use Rattle.ae_reading.specs.Reads.{head, Always, Free, Is, Isnt, IsWithin, Took, Failed}
+use Rattle.ae_reading.specs.Reads.{head, Always, Free, Is, Isnt, IsWithinAll, Took, Failed}
 use Rattle.ae_reading.proofs.ReadsLemmas.{Links, Both, Pair, Has, Along, NoneAt, took_as, failed_as}
 use Rattle.ae_reading.proofs.Parts.{Commas, Parted, commas_go_on, no_comma, commas_link}
 use Rattle.ae_reading.proofs.Runs.{Run, run_start, run_more, run_end, run_failed}
 use Rattle.ae_reading.proofs.Begins.{Opens, opens_mark, opens_first, opens_at, opens_one, opens_isnt}
 use Rattle.ae_expressions.specs.Ends.{Ends}
-use Rattle.ae_statements.specs.Productions.{ended, called, KeepsCalled, but_last, last, receiver_of}
+use Rattle.ae_statements.specs.Productions.{with_semicolon, call_rest, KeepsCalled, but_last, last, receiver_of}
 use Rattle.ae_statements.proofs.ShapeLemmas.{Lets, has_suf, has_pre, sign_ends}
 
 -- ---- what an expression begins with
@@ -59,11 +59,11 @@ starts_root x us r (inr d) = starts_as us r refl (opens_one us r d.1)
 starts_path : (p : Path) (us r : Tokens) → path p us → Starts us r
 starts_path p us r d = starts_first us r d (starts_root p.root d.front (d.back ++ r) d.first)
 
-starts_truth : (b : Bool) (at : _) (us r : Tokens) (l : ℕ) → expression (Truth b at) l us → Starts us r
+starts_truth : (b : Bool) (at : _) (us r : Tokens) (l : ℕ) → expression_at (Truth b at) l us → Starts us r
 starts_truth true at us r l d = starts_as us r refl (opens_one us r d)
 starts_truth false at us r l d = starts_as us r refl (opens_one us r d)
 
-pub expression_starts : (e : Expression) (l : ℕ) (us r : Tokens) → expression e l us → Starts us r
+pub expression_starts : (e : Expression) (l : ℕ) (us r : Tokens) → expression_at e l us → Starts us r
 expression_starts (Number n at) l us r d = starts_as us r refl (opens_one us r d)
 expression_starts (Truth b at) l us r d = starts_truth b at us r l d
 expression_starts (Nothing at) l us r d = starts_as us r refl (opens_one us r d)
@@ -79,7 +79,7 @@ not_start : (t : Lexeme) (k : Lexical) → t.kind ≡ k → starts_word k ≡ fa
 not_start t k e never can = let same : starts_word k ≡ true = sym (ap starts_word e) ∙ can in cc
 
 -- no expression begins with such a token
-pub no_whole : (k : Lexical) (ts : Tokens) → starts_word k ≡ false → Is k (head ts) → NoneAt whole ts
+pub no_whole : (k : Lexical) (ts : Tokens) → starts_word k ≡ false → Is k (head ts) → NoneAt whole_expression ts
 no_whole k ts never is y us r d h =
     let s = expression_starts y 0 us r d in
     let P : Option Lexeme → Type 0 = Is k in
@@ -108,67 +108,67 @@ all_at : {A : Type 0} (P : A → Type 0) (xs zs : List A) (z : A) → All P (xs 
 all_at P [] zs z all = All-head P z zs all
 all_at P (y ∷ xs) zs z all = all_at P xs zs z (All-tail P y (xs ++ z ∷ zs) all)
 
-pub none_within : IsWithin AllKeep []
-none_within l = All-nil (Keeps l)
+pub none_within : IsWithinAll AllKeepDepth []
+none_within l = All-nil (KeepsDepth l)
 
 abbrev pub Arguments : Tokens → List Expression → Tokens → Type 0
-Arguments ts es rest = Run (further whole) AllKeep Closed ts es rest
+Arguments ts es rest = Run (further whole_expression) AllKeepDepth Closed ts es rest
 
 pub arguments_start : (ts : Tokens) (xs : List Expr) → xs ≡ [] → Arguments ts (map shown.expression xs) ts
-arguments_start ts xs e = let P : List Expr → Type 0 = λ l. Arguments ts (map shown.expression l) ts in subst P (sym e) (run_start (further whole) AllKeep Closed ts none_within)
+arguments_start ts xs e = let P : List Expr → Type 0 = λ l. Arguments ts (map shown.expression l) ts in subst P (sym e) (run_start (further whole_expression) AllKeepDepth Closed ts none_within)
 
 pub arguments_more : (ts rest rest' : Tokens) (xs ys : List Expr) (x : Expr) → Is (tok.Sign sign.Comma) (head rest) → ys ≡ xs ++ x ∷ [] →
-    Arguments ts (map shown.expression xs) rest → Took (further whole) Keeps (Ends 0) rest (shown.expression x) rest' → Arguments ts (map shown.expression ys) rest'
+    Arguments ts (map shown.expression xs) rest → Took (further whole_expression) KeepsDepth (Ends 0) rest (shown.expression x) rest' → Arguments ts (map shown.expression ys) rest'
 arguments_more ts rest rest' xs ys x comma e t u =
     let P : List Expression → Type 0 = λ l. Arguments ts l rest' in
     subst P (sym (ap (λ (l : List Expr). map shown.expression l) e ∙ map-append shown.expression xs (x ∷ [])))
-    (run_more (commas_link whole commas) (commas_go_on rest commas comma) (λ l. All-push (Keeps l) (map shown.expression xs) (shown.expression x) (t.within l) (u.within l)) t u)
+    (run_more (commas_link whole_expression commas) (commas_go_on rest commas comma) (λ l. All-push (KeepsDepth l) (map shown.expression xs) (shown.expression x) (t.within l) (u.within l)) t u)
 
 pub arguments_failed : (ts rest : Tokens) (es : List Expression) (e : Fail) → Is (tok.Sign sign.Comma) (head rest) →
-    Arguments ts es rest → Failed (further whole) Keeps (Ends 0) rest e → Failed (each (further whole)) AllKeep Closed ts e
+    Arguments ts es rest → Failed (further whole_expression) KeepsDepth (Ends 0) rest e → Failed (one_by_one (further whole_expression)) AllKeepDepth Closed ts e
 arguments_failed ts rest es e comma t f =
     let within = t.within in
-    failed_here (λ l z w. All-push (Keeps l) es z (within l) w) f
+    failed_here (λ l z w. All-push (KeepsDepth l) es z (within l) w) f
   where
-    failed_here : ((l : Limit) (z : Expression) → Keeps l z → AllKeep l (es ++ z ∷ [])) → Failed (further whole) Keeps (Ends 0) rest e → Failed (each (further whole)) AllKeep Closed ts e
-    failed_here fits g = run_failed (commas_link whole commas) (commas_go_on rest commas comma) fits (λ l z zs v. all_at (Keeps l) es zs z v) t g
+    failed_here : ((l : Limit) (z : Expression) → KeepsDepth l z → AllKeepDepth l (es ++ z ∷ [])) → Failed (further whole_expression) KeepsDepth (Ends 0) rest e → Failed (one_by_one (further whole_expression)) AllKeepDepth Closed ts e
+    failed_here fits g = run_failed (commas_link whole_expression commas) (commas_go_on rest commas comma) fits (λ l z zs v. all_at (KeepsDepth l) es zs z v) t g
 
-pub arguments_end : (ts rest : Tokens) (es : List Expression) → (Is (tok.Sign sign.Comma) (head rest) → ⊥) → Arguments ts es rest → Took (each (further whole)) AllKeep Closed ts es rest
-arguments_end ts rest es other t = run_end (no_comma whole rest other) t
+pub arguments_end : (ts rest : Tokens) (es : List Expression) → (Is (tok.Sign sign.Comma) (head rest) → ⊥) → Arguments ts es rest → Took (one_by_one (further whole_expression)) AllKeepDepth Closed ts es rest
+arguments_end ts rest es other t = run_end (no_comma whole_expression rest other) t
 
-pub parted : Parted Keeps (λ l x xs. AllKeep l xs) AllKeep
-parted = record { to = λ l x xs w v. All-cons (Keeps l) x xs w v; from = λ l x xs v. (All-head (Keeps l) x xs v, All-tail (Keeps l) x xs v) }
+pub parted : Parted KeepsDepth (λ l x xs. AllKeepDepth l xs) AllKeepDepth
+parted = record { to = λ l x xs w v. All-cons (KeepsDepth l) x xs w v; from = λ l x xs v. (All-head (KeepsDepth l) x xs v, All-tail (KeepsDepth l) x xs v) }
 
-pub has_listed : Has (listed whole) AllKeep
+pub has_listed : Has (comma_list whole_expression) AllKeepDepth
 has_listed = record { tree = []; tokens = []; is = refl; known = tt; within = none_within }
 
 pub closes : Lets (tok.Sign sign.CloseParen) Closed
 closes t e = e
 
-pub has_closed : Has (λ es. listed whole es ⨾ one (tok.Sign sign.CloseParen)) AllKeep
-has_closed = has_suf (tok.Sign sign.CloseParen) (listed whole) tt has_listed
+pub has_closed : Has (λ es. comma_list whole_expression es ⨾ one_token (tok.Sign sign.CloseParen)) AllKeepDepth
+has_closed = has_suf (tok.Sign sign.CloseParen) (comma_list whole_expression) tt has_listed
 
-pub has_arguments : Has arguments AllKeep
-has_arguments = has_pre (tok.Sign sign.OpenParen) (λ es. listed whole es ⨾ one (tok.Sign sign.CloseParen)) tt has_closed
+pub has_arguments : Has arguments AllKeepDepth
+has_arguments = has_pre (tok.Sign sign.OpenParen) (λ es. comma_list whole_expression es ⨾ one_token (tok.Sign sign.CloseParen)) tt has_closed
 
 -- ---- calls
 
-called_along : (ts : Tokens) → Along called (Both groups (ended arguments)) KeepsCalled (Pair Free AllKeep) ts (λ q. q)
+called_along : (ts : Tokens) → Along call_rest (Both groups (with_semicolon arguments)) KeepsCalled (Pair Free AllKeepDepth) ts (λ q. q)
 called_along ts = record { intro = λ q us d. d; cases = λ y us r d h. (y, refl, d); to = λ q us d l v. v.1; from = λ q us d l v. (tt, v) }
 
-pub called_took : {F : _} (ts rest : Tokens) (q : List NameAt × List Expression) → Took (Both groups (ended arguments)) (Pair Free AllKeep) F ts q rest → Took called KeepsCalled F ts q rest
-called_took ts rest q t = took_as called (Both groups (ended arguments)) (λ q. q) (called_along ts) t
+pub called_took : {F : _} (ts rest : Tokens) (q : List NameAt × List Expression) → Took (Both groups (with_semicolon arguments)) (Pair Free AllKeepDepth) F ts q rest → Took call_rest KeepsCalled F ts q rest
+called_took ts rest q t = took_as call_rest (Both groups (with_semicolon arguments)) (λ q. q) (called_along ts) t
 
-pub called_failed : {F : _} (ts : Tokens) (e : Fail) → Failed (Both groups (ended arguments)) (Pair Free AllKeep) F ts e → Failed called KeepsCalled F ts e
-called_failed ts e f = failed_as called (Both groups (ended arguments)) (λ q. q) (called_along ts) f
+pub called_failed : {F : _} (ts : Tokens) (e : Fail) → Failed (Both groups (with_semicolon arguments)) (Pair Free AllKeepDepth) F ts e → Failed call_rest KeepsCalled F ts e
+called_failed ts e f = failed_as call_rest (Both groups (with_semicolon arguments)) (λ q. q) (called_along ts) f
 
-pub has_ended_arguments : Has (ended arguments) AllKeep
+pub has_ended_arguments : Has (with_semicolon arguments) AllKeepDepth
 has_ended_arguments = has_suf (tok.Sign sign.Semicolon) arguments tt has_arguments
 
 paren_no_less : tok.Sign sign.OpenParen ≡ tok.Sign sign.Less → ⊥
 paren_no_less e = cc
 
-pub no_less : Links (ended arguments) Always (Isnt (tok.Sign sign.Less))
+pub no_less : Links (with_semicolon arguments) Always (Isnt (tok.Sign sign.Less))
 no_less y us r d f = opens_isnt us r (opens_first us r d (opens_mark d.front (d.back ++ r) d.first)) paren_no_less
 
 pub last_snoc : (root x : NameAt) (xs : List NameAt) → last root (xs ++ x ∷ []) ≡ x

@@ -10,15 +10,15 @@ use Rattle.ae_tree.specs.declared.tree.NameAt.{NameAt}
 use Rattle.ae_tree.specs.declared.tree.Path.{Path}
 use Rattle.ae_tree.specs.Names.{this}
 use Rattle.ae_tree.specs.Plain.{Expression, Invocation, RightSide, Value, Returned}
-use Rattle.ae_tree.specs.Grammar.{Tokens, each, root, step, path, receiver, whole, call, right_side}
-use Rattle.ae_tree.specs.Limits.{KeepsRight, AllKeep, early}
+use Rattle.ae_tree.specs.Grammar.{Tokens, one_by_one, root, path_step, path, receiver, whole_expression, call_written, right_of_equals}
+use Rattle.ae_tree.specs.Limits.{KeepsRight, AllKeepDepth, early}
 use Rattle.ae_reading.specs.declared.fail.Why.TheVariants.{Unexpected}
-use Rattle.ae_reading.specs.Reads.{head, Always, Is, Isnt, IsName, IsWithin, NoEnd, Stopped}
+use Rattle.ae_reading.specs.Reads.{head, Always, Is, Isnt, IsName, IsWithinAll, EndIsNone, Stopped}
 use Rattle.ae_reading.proofs.ReadsLemmas.{NoEnd-append, lead_here, name_token}
 use Rattle.ae_reading.proofs.UniquePaths.{IsRoot}
 use Rattle.ae_reading.proofs.Begins.{isnt_of}
-use Rattle.ae_statements.specs.Productions.{ended}
-use Rattle.ae_statements.specs.Deciding.{Calling, IsCall, IsCallable, IsCallTail, IsPlain, IsValue, starts, follows_path, follows_compared, follows_group}
+use Rattle.ae_statements.specs.Productions.{with_semicolon}
+use Rattle.ae_statements.specs.Deciding.{Calling, IsCall, IsCallable, IsCallTail, IsPlainSide, IsValue, starts, follows_path, follows_compared, follows_group}
 use Rattle.ae_statements.proofs.CallLemmas.{none_within}
 use Rattle.ae_statements.proofs.UniqueRightSides.{begins_call, joined}
 use Rattle.ae_statements.proofs.MarkLemmas.{path_marks}
@@ -34,35 +34,35 @@ Paren = tok.Sign sign.OpenParen
 abbrev pub Less : Lexical
 Less = tok.Sign sign.Less
 
-root_no_end : (x : NameAt) (us : Tokens) → root x us → NoEnd us
-root_no_end x us (inl d) = let P : Tokens → Type 0 = NoEnd in subst P (sym d) ((λ e. cc), tt)
-root_no_end x us (inr d) = let P : Tokens → Type 0 = NoEnd in subst P (sym d.1) ((λ e. cc), tt)
+root_no_end : (x : NameAt) (us : Tokens) → root x us → EndIsNone us
+root_no_end x us (inl d) = let P : Tokens → Type 0 = EndIsNone in subst P (sym d) ((λ e. cc), tt)
+root_no_end x us (inr d) = let P : Tokens → Type 0 = EndIsNone in subst P (sym d.1) ((λ e. cc), tt)
 
-step_no_end : (x : NameAt) (us : Tokens) → step x us → NoEnd us
+step_no_end : (x : NameAt) (us : Tokens) → path_step x us → EndIsNone us
 step_no_end x us d =
-    let P : Tokens → Type 0 = NoEnd in
+    let P : Tokens → Type 0 = EndIsNone in
     subst P (sym d.parts) (NoEnd-append d.front d.back (subst P (sym d.first.1) ((λ e. cc), tt)) (subst P (sym d.second) ((λ e. cc), tt)))
 
-steps_no_end : (xs : List NameAt) (us : Tokens) → each step xs us → NoEnd us
-steps_no_end [] us d = let P : Tokens → Type 0 = NoEnd in subst P (sym d) tt
-steps_no_end (x ∷ xs) us d = let P : Tokens → Type 0 = NoEnd in subst P (sym d.parts) (NoEnd-append d.front d.back (step_no_end x d.front d.first) (steps_no_end xs d.back d.second))
+steps_no_end : (xs : List NameAt) (us : Tokens) → one_by_one path_step xs us → EndIsNone us
+steps_no_end [] us d = let P : Tokens → Type 0 = EndIsNone in subst P (sym d) tt
+steps_no_end (x ∷ xs) us d = let P : Tokens → Type 0 = EndIsNone in subst P (sym d.parts) (NoEnd-append d.front d.back (step_no_end x d.front d.first) (steps_no_end xs d.back d.second))
 
-pub path_no_end : (p : Path) (us : Tokens) → path p us → NoEnd us
-path_no_end p us d = let P : Tokens → Type 0 = NoEnd in subst P (sym d.parts) (NoEnd-append d.front d.back (root_no_end p.root d.front d.first) (steps_no_end p.steps d.back d.second))
+pub path_no_end : (p : Path) (us : Tokens) → path p us → EndIsNone us
+path_no_end p us d = let P : Tokens → Type 0 = EndIsNone in subst P (sym d.parts) (NoEnd-append d.front d.back (root_no_end p.root d.front d.first) (steps_no_end p.steps d.back d.second))
 
 kind_no_end : (k : Lexical) (t : Lexeme) → (k ≢ tok.End) → t.kind ≡ k → t.kind ≡ tok.End → ⊥
 kind_no_end k t other i e = other (sym i ∙ e)
 
-pub calling_within : (c : Invocation) → c.args ≡ [] → IsWithin KeepsRight (Returned c)
-calling_within c none l = let P : List Expression → Type 0 = AllKeep l in subst P (sym none) (none_within l)
+pub calling_within : (c : Invocation) → c.args ≡ [] → IsWithinAll KeepsRight (Returned c)
+calling_within c none l = let P : List Expression → Type 0 = AllKeepDepth l in subst P (sym none) (none_within l)
 
 -- ---- neither
 
 -- no expression and no call goes on with these tokens and the next one
 abbrev pub NoSide : Tokens → Tokens → Type 0
-NoSide before rest = (y : RightSide) (us r other : Tokens) → ended right_side y us → us ++ r ≡ before ++ other → head other ≡ head rest → ⊥
+NoSide before rest = (y : RightSide) (us r other : Tokens) → with_semicolon right_of_equals y us → us ++ r ≡ before ++ other → head other ≡ head rest → ⊥
 
-neither : (before rest : Tokens) → Calling before → NoEnd before → NoSide before rest → Stopped (ended right_side) KeepsRight Always (before ++ rest) Unexpected (length rest)
+neither : (before rest : Tokens) → Calling before → EndIsNone before → NoSide before rest → Stopped (with_semicolon right_of_equals) KeepsRight Always (before ++ rest) Unexpected (length rest)
 neither before rest c no_end none = record {
   before = before;
   rest = rest;
@@ -83,11 +83,11 @@ neither before rest c no_end none = record {
 pub record Front (e : Expression) (us r : Tokens) : Type 0 where
   pub front : Tokens
   pub back : Tokens
-  pub is : whole e front
+  pub is : whole_expression e front
   pub ends : Ended back
   pub same : us ++ r ≡ front ++ back
 
-pub front_of : (e : Expression) (us r : Tokens) → ended whole e us → Front e us r
+pub front_of : (e : Expression) (us r : Tokens) → with_semicolon whole_expression e us → Front e us r
 front_of e us r d =
     let P : Tokens → Type 0 = λ z. Is semicolon (head (z ++ r)) in
     record { front = d.front; back = d.back ++ r; is = d.first; ends = subst P (sym d.second.1) refl; same = ap (λ z. z ++ r) d.parts ∙ append_assoc d.front d.back r }
@@ -141,7 +141,7 @@ pub isnt_transported : (k : Lexical) (other rest : Tokens) → head other ≡ he
 isnt_transported k other rest h n = isnt_of k (head other) (λ i. n (transported k other rest h i))
 
 -- nothing goes on behind a path
-pub neither_path : (p : Path) (ps rest : Tokens) → path p ps → IsCallable p ps → (Is (tok.Sign sign.Dot) (head rest) → ⊥) → (Is (tok.Sign sign.OpenParen) (head rest) → ⊥) → (Is (tok.Sign sign.Less) (head rest) → ⊥) → (Follows follows_path (head rest) → ⊥) → Stopped (ended right_side) KeepsRight Always (ps ++ rest) Unexpected (length rest)
+pub neither_path : (p : Path) (ps rest : Tokens) → path p ps → IsCallable p ps → (Is (tok.Sign sign.Dot) (head rest) → ⊥) → (Is (tok.Sign sign.OpenParen) (head rest) → ⊥) → (Is (tok.Sign sign.Less) (head rest) → ⊥) → (Follows follows_path (head rest) → ⊥) → Stopped (with_semicolon right_of_equals) KeepsRight Always (ps ++ rest) Unexpected (length rest)
 neither_path p ps rest q k no_dot no_paren no_less none = neither ps rest (calling_path p ps k) (path_no_end p ps q) no_side
   where
     no_tail : (other : Tokens) → head other ≡ head rest → Is (tok.Sign sign.OpenParen) (head other) ⊎ Is (tok.Sign sign.Less) (head other) → ⊥
@@ -160,9 +160,9 @@ neither_path p ps rest q k no_dot no_paren no_less none = neither ps rest (calli
             no_tail other h (tail_head other b.tail)
 
 -- behind the path and `.`
-pub neither_dot : (p : Path) (ps rest : Tokens) (dot : Lexeme) → path p ps → dot.kind ≡ tok.Sign sign.Dot → (IsName (head rest) → ⊥) → Stopped (ended right_side) KeepsRight Always (ps ++ (dot ∷ rest)) Unexpected (length rest)
+pub neither_dot : (p : Path) (ps rest : Tokens) (dot : Lexeme) → path p ps → dot.kind ≡ tok.Sign sign.Dot → (IsName (head rest) → ⊥) → Stopped (with_semicolon right_of_equals) KeepsRight Always (ps ++ (dot ∷ rest)) Unexpected (length rest)
 neither_dot p ps rest dot q k none =
-    let P : Tokens → Type 0 = λ z. Stopped (ended right_side) KeepsRight Always z Unexpected (length rest) in
+    let P : Tokens → Type 0 = λ z. Stopped (with_semicolon right_of_equals) KeepsRight Always z Unexpected (length rest) in
     subst P (append_assoc ps (dot ∷ []) rest) (neither (ps ++ dot ∷ []) rest (calling_dot p ps dot q k) (NoEnd-append ps (dot ∷ []) (path_no_end p ps q) (kind_no_end Dot dot (λ e. cc) k, tt)) no_side)
   where
     no_side : NoSide (ps ++ dot ∷ []) rest
@@ -179,9 +179,9 @@ neither_dot p ps rest dot q k none =
         by_side (inr s) = no_name (call_goes s.0 us r p ps other dot s.2 here q k)
 
 -- behind the path and `<`
-pub neither_less : (p : Path) (ps rest : Tokens) (less : Lexeme) → path p ps → IsCallable p ps → less.kind ≡ tok.Sign sign.Less → (IsName (head rest) → ⊥) → (Follows starts (head rest) → ⊥) → Stopped (ended right_side) KeepsRight Always (ps ++ (less ∷ rest)) Unexpected (length rest)
+pub neither_less : (p : Path) (ps rest : Tokens) (less : Lexeme) → path p ps → IsCallable p ps → less.kind ≡ tok.Sign sign.Less → (IsName (head rest) → ⊥) → (Follows starts (head rest) → ⊥) → Stopped (with_semicolon right_of_equals) KeepsRight Always (ps ++ (less ∷ rest)) Unexpected (length rest)
 neither_less p ps rest less q c k no_name none =
-    let P : Tokens → Type 0 = λ z. Stopped (ended right_side) KeepsRight Always z Unexpected (length rest) in
+    let P : Tokens → Type 0 = λ z. Stopped (with_semicolon right_of_equals) KeepsRight Always z Unexpected (length rest) in
     subst P (append_assoc ps (less ∷ []) rest) (neither (ps ++ less ∷ []) rest (calling_less p ps less c k) (NoEnd-append ps (less ∷ []) (path_no_end p ps q) (kind_no_end Less less (λ e. cc) k, tt)) no_side)
   where
     no_side : NoSide (ps ++ less ∷ []) rest
@@ -200,9 +200,9 @@ neither_less p ps rest less q c k no_name none =
             no_name (subst P h (tail_name less other k b.tail))
 
 -- behind the path, `<` and a name
-pub neither_name : (p : Path) (ps rest : Tokens) (less n : Lexeme) (m : ℕ) → path p ps → IsCallable p ps → less.kind ≡ tok.Sign sign.Less → n.kind ≡ tok.Name m → (Follows follows_compared (head rest) → ⊥) → (Follows follows_group (head rest) → ⊥) → Stopped (ended right_side) KeepsRight Always (ps ++ (less ∷ n ∷ rest)) Unexpected (length rest)
+pub neither_name : (p : Path) (ps rest : Tokens) (less n : Lexeme) (m : ℕ) → path p ps → IsCallable p ps → less.kind ≡ tok.Sign sign.Less → n.kind ≡ tok.Name m → (Follows follows_compared (head rest) → ⊥) → (Follows follows_group (head rest) → ⊥) → Stopped (with_semicolon right_of_equals) KeepsRight Always (ps ++ (less ∷ n ∷ rest)) Unexpected (length rest)
 neither_name p ps rest less n m q c k i none no_group =
-    let P : Tokens → Type 0 = λ z. Stopped (ended right_side) KeepsRight Always z Unexpected (length rest) in
+    let P : Tokens → Type 0 = λ z. Stopped (with_semicolon right_of_equals) KeepsRight Always z Unexpected (length rest) in
     subst P (append_assoc ps (less ∷ n ∷ []) rest) (neither (ps ++ less ∷ n ∷ []) rest (calling_name p ps less n m c k i)
     (NoEnd-append ps (less ∷ n ∷ []) (path_no_end p ps q) (kind_no_end Less less (λ e. cc) k, (kind_no_end (tok.Name m) n (λ e. cc) i, tt))) no_side)
   where
@@ -230,11 +230,11 @@ neither_name p ps rest less n m q c k i none no_group =
 -- ---- expressions
 
 abbrev OnlyValue : Tokens → Tokens → Type 0
-OnlyValue before rest = (y : RightSide) (us r other : Tokens) → ended right_side y us → us ++ r ≡ before ++ other → head other ≡ head rest → (e : Expression) × (y ≡ Value e)
+OnlyValue before rest = (y : RightSide) (us r other : Tokens) → with_semicolon right_of_equals y us → us ++ r ≡ before ++ other → head other ≡ head rest → (e : Expression) × (y ≡ Value e)
 
 -- where no call goes on, only expressions do
-value_only : (before rest : Tokens) → ((other : Tokens) → head other ≡ head rest → IsPlain (before ++ other)) →
-    ((c : Invocation) (us r other : Tokens) → ended call c us → us ++ r ≡ before ++ other → head other ≡ head rest → ⊥) → OnlyValue before rest
+value_only : (before rest : Tokens) → ((other : Tokens) → head other ≡ head rest → IsPlainSide (before ++ other)) →
+    ((c : Invocation) (us r other : Tokens) → with_semicolon call_written c us → us ++ r ≡ before ++ other → head other ≡ head rest → ⊥) → OnlyValue before rest
 value_only before rest plain no_call y us r other d e h = by_side (plain_side y us r (before ++ other) d e (plain other h))
   where
     by_side : PlainSide y us → (e : Expression) × (y ≡ Value e)
@@ -256,7 +256,7 @@ value_path p ps later t q k no_dot no_paren no_less f = record {
     no_tail other h (inl i) = no_paren (transported Paren other (t ∷ later) h i)
     no_tail other h (inr i) = no_less (transported Less other (t ∷ later) h i)
 
-    no_call : (c : Invocation) (us r other : Tokens) → ended call c us → us ++ r ≡ ps ++ other → head other ≡ Some t → ⊥
+    no_call : (c : Invocation) (us r other : Tokens) → with_semicolon call_written c us → us ++ r ≡ ps ++ other → head other ≡ Some t → ⊥
     no_call c us r other d e h =
         let b = call_behind c us r p ps other d e q (isnt_transported Dot other (t ∷ later) h no_dot) in
         no_tail other h (tail_head other b.tail)
@@ -267,12 +267,12 @@ value_less p ps later less t q c k no_name f = record {
   rest = t ∷ later;
   whole = sym (append_assoc ps (less ∷ []) (t ∷ later));
   left_is = refl;
-  only = value_only (ps ++ less ∷ []) (t ∷ later) (λ other h. let P : Tokens → Type 0 = IsPlain in subst P (sym (append_assoc ps (less ∷ []) other)) (path_plain p ps (less ∷ other) q)) no_call;
+  only = value_only (ps ++ less ∷ []) (t ∷ later) (λ other h. let P : Tokens → Type 0 = IsPlainSide in subst P (sym (append_assoc ps (less ∷ []) other)) (path_plain p ps (less ∷ other) q)) no_call;
   undecided = inr (p, inr (inl (record { front = ps; back = less ∷ []; parts = refl; first = q; second = one_of Less less k })));
   both = inr (calling_less p ps less c k, comparing_less p ps later less t q k f);
 }
   where
-    no_call : (c : Invocation) (us r other : Tokens) → ended call c us → us ++ r ≡ (ps ++ less ∷ []) ++ other → head other ≡ Some t → ⊥
+    no_call : (c : Invocation) (us r other : Tokens) → with_semicolon call_written c us → us ++ r ≡ (ps ++ less ∷ []) ++ other → head other ≡ Some t → ⊥
     no_call c us r other d e h =
         let b = call_behind c us r p ps (less ∷ other) d (e ∙ append_assoc ps (less ∷ []) other) q (λ i. let g : tok.Sign sign.Less ≡ Dot = sym k ∙ i in cc) in
         let P : Option Lexeme → Type 0 = IsName in
@@ -284,18 +284,18 @@ value_name p ps later less n t m q c k i no_group f = record {
   rest = t ∷ later;
   whole = sym (append_assoc ps (less ∷ n ∷ []) (t ∷ later));
   left_is = refl;
-  only = value_only (ps ++ less ∷ n ∷ []) (t ∷ later) (λ other h. let P : Tokens → Type 0 = IsPlain in subst P (sym (append_assoc ps (less ∷ n ∷ []) other)) (path_plain p ps (less ∷ n ∷ other) q)) no_call;
+  only = value_only (ps ++ less ∷ n ∷ []) (t ∷ later) (λ other h. let P : Tokens → Type 0 = IsPlainSide in subst P (sym (append_assoc ps (less ∷ n ∷ []) other)) (path_plain p ps (less ∷ n ∷ other) q)) no_call;
   undecided = inr (p, inr (inr (named n m, record { front = ps; back = less ∷ n ∷ []; parts = refl; first = q; second = record { front = less ∷ []; back = n ∷ []; parts = refl; first = one_of Less less k; second = name_of n m i } })));
   both = inr (calling_name p ps less n m c k i, comparing_name p ps later less n t m q k i f);
 }
   where
-    no_call : (c : Invocation) (us r other : Tokens) → ended call c us → us ++ r ≡ (ps ++ less ∷ n ∷ []) ++ other → head other ≡ Some t → ⊥
+    no_call : (c : Invocation) (us r other : Tokens) → with_semicolon call_written c us → us ++ r ≡ (ps ++ less ∷ n ∷ []) ++ other → head other ≡ Some t → ⊥
     no_call c us r other d e h =
         let b = call_behind c us r p ps (less ∷ n ∷ other) d (e ∙ append_assoc ps (less ∷ n ∷ []) other) q (λ i. let g : tok.Sign sign.Less ≡ Dot = sym k ∙ i in cc) in
         refused follows_group (t ∷ later) other (NoFollow-some follows_group (t ∷ later) later t refl no_group) h (tail_group less n other k b.tail)
 
 -- a call whose path is one token begins with a name
-one_named : (c : Invocation) (us r : Tokens) → ended call c us → c.on ≡ None → IsName (head (us ++ r))
+one_named : (c : Invocation) (us r : Tokens) → with_semicolon call_written c us → c.on ≡ None → IsName (head (us ++ r))
 one_named c us r d none =
     let P : Option Path → Type 0 = λ o. receiver o d.first.front in
     let gone : d.first.front ≡ [] = subst P none d.first.first in
@@ -331,7 +331,7 @@ value_this rest first k no_dot = record {
     alone_is : path alone (first ∷ [])
     alone_is = record { front = first ∷ []; back = []; parts = refl; first = inr (refl, ap (λ j. record { kind = j; at = first.at } ∷ []) k); second = refl }
 
-    no_call : (c : Invocation) (us r other : Tokens) → ended call c us → us ++ r ≡ first ∷ other → head other ≡ head rest → ⊥
+    no_call : (c : Invocation) (us r other : Tokens) → with_semicolon call_written c us → us ++ r ≡ first ∷ other → head other ≡ head rest → ⊥
     no_call c us r other d e h =
         let b = call_behind c us r alone (first ∷ []) other d e alone_is (isnt_transported Dot other rest h no_dot) in
         let P : Tokens → Type 0 = λ z. IsName (head z) in
@@ -339,7 +339,7 @@ value_this rest first k no_dot = record {
         let kinds : tok.Name n.0 ≡ tok.Word word.This = sym n.1 ∙ k in cc
 
 -- no call begins with another token
-pub value_other : (ts : Tokens) → IsPlain ts → (IsName (head ts) → ⊥) → (Is (tok.Word word.This) (head ts) → ⊥) → IsValue ts (length ts)
+pub value_other : (ts : Tokens) → IsPlainSide ts → (IsName (head ts) → ⊥) → (Is (tok.Word word.This) (head ts) → ⊥) → IsValue ts (length ts)
 value_other ts plain no_name no_this = record {
   before = [];
   rest = ts;
@@ -354,7 +354,7 @@ value_other ts plain no_name no_this = record {
     no_root (inl i) = no_name i
     no_root (inr i) = no_this i
 
-    no_call : (c : Invocation) (us r other : Tokens) → ended call c us → us ++ r ≡ other → head other ≡ head ts → ⊥
+    no_call : (c : Invocation) (us r other : Tokens) → with_semicolon call_written c us → us ++ r ≡ other → head other ≡ head ts → ⊥
     no_call c us r other d e h =
         let P : Option Lexeme → Type 0 = IsRoot in
         no_root (subst P (ap head (sym (append_assoc d.front d.back r) ∙ ap (λ l. l ++ r) (sym d.parts) ∙ e) ∙ h) (begins_call c d.front (d.back ++ r) d.first))

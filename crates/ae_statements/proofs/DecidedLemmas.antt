@@ -8,11 +8,11 @@ use Rattle.ae_tree.specs.declared.lexeme.Lexical.TheVariants as tok
 use Rattle.ae_tree.specs.declared.tree.NameAt.{NameAt}
 use Rattle.ae_tree.specs.declared.tree.Path.{Path}
 use Rattle.ae_tree.specs.Names.{this}
-use Rattle.ae_tree.specs.Grammar.{Tokens, each, root, step}
+use Rattle.ae_tree.specs.Grammar.{Tokens, one_by_one, root, path_step}
 use Rattle.ae_reading.specs.Reads.{head, Is, IsName}
 use Rattle.ae_statements.specs.declared.decide.Decided.{Decided}
 use Rattle.ae_statements.specs.declared.decide.Decided.TheVariants as decided
-use Rattle.ae_statements.specs.Deciding.{BehindName, BehindLess, BehindPath, Decides, IsCallable, IsPlain, IsValue, AllSteps, starts, follows_path, follows_compared, follows_group}
+use Rattle.ae_statements.specs.Deciding.{BehindName, BehindLess, BehindPath, Decides, IsCallable, IsPlainSide, IsValue, AllSteps, starts, follows_path, follows_compared, follows_group}
 use Rattle.ae_statements.proofs.SideLemmas.{callable_name, callable_steps, name_of}
 use Rattle.ae_statements.proofs.DecideLemmas.{NoFollow-none, NoFollow-some, neither_path, neither_dot, neither_less, neither_name, value_path, value_less, value_name, value_this, value_other}
 
@@ -112,11 +112,11 @@ rooted x t ts rest d r s c f =
     let P : Tokens → Type 0 = λ z. Decides (t ∷ z) d in
     subst P (sym s.whole) (f (record { root = x; steps = s.fields }) (t ∷ s.taken) (record { front = t ∷ []; back = s.taken; parts = refl; first = r; second = s.are }) c s.no_more)
 
-named_callable : (x : NameAt) (t : Lexeme) (fields : List NameAt) (taken : Tokens) → t ∷ [] ≡ record { kind = tok.Name x.name; at = x.at } ∷ [] → each step fields taken → IsCallable (record { root = x; steps = fields }) (t ∷ taken)
+named_callable : (x : NameAt) (t : Lexeme) (fields : List NameAt) (taken : Tokens) → t ∷ [] ≡ record { kind = tok.Name x.name; at = x.at } ∷ [] → one_by_one path_step fields taken → IsCallable (record { root = x; steps = fields }) (t ∷ taken)
 named_callable x t [] taken e s = let P : Tokens → Type 0 = λ z. IsCallable (record { root = x; steps = [] }) (t ∷ z) in subst P (sym s) (callable_name x (t ∷ []) e)
 named_callable x t (y ∷ ys) taken e s = callable_steps x y ys (t ∷ []) taken (inl e) s
 
-this_callable : (x : NameAt) (t : Lexeme) (fields : List NameAt) (taken ts rest : Tokens) → root x (t ∷ []) → each step fields taken → ts ≡ taken ++ rest → Is (tok.Sign sign.Dot) (head ts) → IsCallable (record { root = x; steps = fields }) (t ∷ taken) ⊎ Is (tok.Sign sign.Dot) (head rest)
+this_callable : (x : NameAt) (t : Lexeme) (fields : List NameAt) (taken ts rest : Tokens) → root x (t ∷ []) → one_by_one path_step fields taken → ts ≡ taken ++ rest → Is (tok.Sign sign.Dot) (head ts) → IsCallable (record { root = x; steps = fields }) (t ∷ taken) ⊎ Is (tok.Sign sign.Dot) (head rest)
 this_callable x t [] taken ts rest r s e i = let P : Tokens → Type 0 = λ z. Is (tok.Sign sign.Dot) (head z) in inr (subst P (e ∙ ap (λ z. z ++ rest) s) i)
 this_callable x t (y ∷ ys) taken ts rest r s e i = inl (callable_steps x y ys (t ∷ []) taken r s)
 
@@ -141,5 +141,5 @@ from_name ts mid rest t d e i s f =
 pub from_this : (ts mid : Tokens) (t : Lexeme) (d : Decided) → ts ≡ t ∷ mid → Is (tok.Word word.This) (head ts) → ((first : Lexeme) → first.kind ≡ tok.Word word.This → Decides (first ∷ mid) d) → Decides ts d
 from_this ts mid t d e i f = let Q : Tokens → Type 0 = λ z. Decides z d in subst Q (sym e) (f t (here (tok.Word word.This) ts mid t e i))
 
-pub from_none : (ts : Tokens) → IsPlain ts → ts ≡ [] → IsValue ts (length ts)
+pub from_none : (ts : Tokens) → IsPlainSide ts → ts ≡ [] → IsValue ts (length ts)
 from_none ts plain e = value_other ts plain (no_name_here ts e) (nothing_here (tok.Word word.This) ts e)

@@ -16,16 +16,16 @@ use Rattle.ae_tree.specs.declared.tree.Op.{Op}
 use Rattle.ae_tree.specs.declared.tree.Op.TheVariants as op
 use Rattle.ae_tree.specs.Plain.{Expression, Number, Truth, Nothing, Read, Item, Length, Grouped, Negated, Minus, Binary, End}
 use Rattle.ae_tree.specs.Plain.{Action, Chooses, ChoosesElse, Repeats, Splits, Locks, Groups}
-use Rattle.ae_tree.specs.Grammar.{Tokens, Then, ◌⨾◌, one, one_at, name, root, step, path, each, further, separated, whole, expression, sign_of, statement}
-use Rattle.ae_tree.specs.Limits.{Keeps, KeepsIn, early, rank}
-use Rattle.ae_tree.specs.Refused.{AreKnown, OpensBlock, NoOpen, IsHead, IsTypeWord}
+use Rattle.ae_tree.specs.Grammar.{Tokens, Then, ◌⨾◌, one_token, one_at, name, root, path_step, path, one_by_one, further, separated, whole_expression, expression_at, sign_of, statement}
+use Rattle.ae_tree.specs.Limits.{KeepsDepth, KeepsIn, early, rank}
+use Rattle.ae_tree.specs.Refused.{AreSpellable, OpensBlock, NoOpen, IsHead, IsTypeWord}
 use Rattle.ae_reading.specs.declared.fail.Fail.{Fail}
 use Rattle.ae_reading.specs.declared.fail.Why.{Why}
 use Rattle.ae_reading.specs.declared.fail.Why.TheVariants.{Unexpected, Over}
-use Rattle.ae_reading.specs.Reads.{head, Always, Free, Is, Isnt, Took, Lead, Stopped, Failed, Counts, Beyond, Token, IsWithin}
+use Rattle.ae_reading.specs.Reads.{head, Always, Free, Is, Isnt, Took, Lead, Stopped, Failed, Counts, Beyond, Token, IsWithinAll}
 use Rattle.ae_reading.proofs.ReadsLemmas.{Lang, Bound, Follow, Both, Pair, Along, AreKnown-append, same_head, counts_by, failed_by, nowhere, io_name, took_as, failed_as, both, first, second, free, has_name}
 use Rattle.ae_expressions.specs.Ends.{Ends}
-use Rattle.ae_statements.specs.Productions.{stmt, KeepsStmt, NoElse, Opening, braced}
+use Rattle.ae_statements.specs.Productions.{stmt, KeepsStmt, NoElse, Opening, numbered_block}
 use Rattle.ae_statements.specs.Blocks.{KeepsCondition, condition, split_groups, locked_group}
 use Rattle.ae_statements.proofs.ShapeLemmas.{Lets, sign_ends, has_whole}
 use Rattle.ae_statements.proofs.FormLemmas.{Formed, formed}
@@ -57,15 +57,15 @@ no_open_root : (x : NameAt) (us : Tokens) → root x us → NoOpen us
 no_open_root x us (inl d) = no_open_name x us d
 no_open_root x us (inr d) = no_open_at us d.1 (λ e. cc) (λ e. e)
 
-no_open_each : {A : Type 0} (D : Lang A) → ((x : A) (us : Tokens) → D x us → NoOpen us) → (xs : List A) (us : Tokens) → each D xs us → NoOpen us
+no_open_each : {A : Type 0} (D : Lang A) → ((x : A) (us : Tokens) → D x us → NoOpen us) → (xs : List A) (us : Tokens) → one_by_one D xs us → NoOpen us
 no_open_each D f [] us d = no_open_none us d
 no_open_each D f (x ∷ xs) us d = no_open_then us d (f x d.front d.first) (no_open_each D f xs d.back d.second)
 
-no_open_step : (x : NameAt) (us : Tokens) → step x us → NoOpen us
+no_open_step : (x : NameAt) (us : Tokens) → path_step x us → NoOpen us
 no_open_step x us d = no_open_then us d (no_open_at d.front d.first.1 (λ e. cc) (λ e. e)) (no_open_name x d.back d.second)
 
 no_open_path : (p : Path) (us : Tokens) → path p us → NoOpen us
-no_open_path p us d = no_open_then us d (no_open_root p.root d.front d.first) (no_open_each step no_open_step p.steps d.back d.second)
+no_open_path p us d = no_open_then us d (no_open_root p.root d.front d.first) (no_open_each path_step no_open_step p.steps d.back d.second)
 
 no_open_further : (x : NameAt) (us : Tokens) → further name x us → NoOpen us
 no_open_further x us d = no_open_then us d (no_open_at d.front d.first.1 (λ e. cc) (λ e. e)) (no_open_name x d.back d.second)
@@ -74,7 +74,7 @@ no_open_names : (xs : List NameAt) (us : Tokens) → separated name xs us → No
 no_open_names [] us d = absurd d
 no_open_names (x ∷ xs) us d = no_open_then us d (no_open_name x d.front d.first) (no_open_each (further name) no_open_further xs d.back d.second)
 
-no_open_truth : (b : Bool) (at : Spot) (l : ℕ) (us : Tokens) → expression (Truth b at) l us → NoOpen us
+no_open_truth : (b : Bool) (at : Spot) (l : ℕ) (us : Tokens) → expression_at (Truth b at) l us → NoOpen us
 no_open_truth true at l us d = no_open_at us d (λ e. cc) (λ e. e)
 no_open_truth false at l us d = no_open_at us d (λ e. cc) (λ e. e)
 
@@ -93,10 +93,10 @@ no_open_operator op.Mul e = cc
 no_open_operator op.Div e = cc
 no_open_operator op.Rem e = cc
 
-no_open_mark : {k : Lexical} (us : Tokens) → one k us → (k ≡ opening → ⊥) → (IsTypeWord k → ⊥) → NoOpen us
+no_open_mark : {k : Lexical} (us : Tokens) → one_token k us → (k ≡ opening → ⊥) → (IsTypeWord k → ⊥) → NoOpen us
 no_open_mark us d other word = no_open_at us d.1 other word
 
-no_open_expression : (e : Expression) (l : ℕ) (us : Tokens) → expression e l us → NoOpen us
+no_open_expression : (e : Expression) (l : ℕ) (us : Tokens) → expression_at e l us → NoOpen us
 no_open_expression (Number n at) l us d = no_open_at us d (λ e. cc) (λ e. e)
 no_open_expression (Truth b at) l us d = no_open_truth b at l us d
 no_open_expression (Nothing at) l us d = no_open_at us d (λ e. cc) (λ e. e)
@@ -179,7 +179,7 @@ close_at = record { kind = closing; at = nowhere }
 abbrev empty : Tokens
 empty = brace_at ∷ close_at ∷ []
 
-known_empty : AreKnown empty
+known_empty : AreSpellable empty
 known_empty = (tt, (tt, tt))
 
 some_group : (n : ℕ) → stmt n (nowhere, Groups io_name) (record { kind = tok.Word word.Group; at = nowhere } ∷ record { kind = tok.Name io_name.name; at = nowhere } ∷ record { kind = tok.Sign sign.Semicolon; at = nowhere } ∷ [])
@@ -254,7 +254,7 @@ pub head_failed : {B : Type 0} {E : Lang B} {V : Bound B} {F : Follow} {ts : Tok
     Heads E V F ts n build → Failed E V F ts e → Failed (stmt n) (KeepsStmt 0) NoElse ts e
 head_failed h f = failed_by (λ why left s. head_stopped h s) f
 
-opened_beyond : {B : Type 0} {E : Lang B} {V : Bound B} {F : Follow} {ts : Tokens} {n : ℕ} {build : B → Spot × Action} (q : B) (taken rest : Tokens) → Heads E V F ts n build → E q taken → IsWithin V q → Is opening (head rest) → Beyond (stmt n) (KeepsStmt 0) taken rest (Over limit.Levels)
+opened_beyond : {B : Type 0} {E : Lang B} {V : Bound B} {F : Follow} {ts : Tokens} {n : ℕ} {build : B → Spot × Action} (q : B) (taken rest : Tokens) → Heads E V F ts n build → E q taken → IsWithinAll V q → Is opening (head rest) → Beyond (stmt n) (KeepsStmt 0) taken rest (Over limit.Levels)
 opened_beyond q taken [] h d w is = absurd is
 opened_beyond {build = build} q taken (t ∷ rest) h d w is = record {
   others = λ m k. h.to m k q (w m);
@@ -306,7 +306,7 @@ head_read {ts = ts} {rest} {n} {build} {q} (Over l) h t over =
 
 -- ---- the four forms
 
-empty_block : (n : ℕ) (t : Lexeme) → t.kind ≡ opening → braced n End (t ∷ close_at ∷ [])
+empty_block : (n : ℕ) (t : Lexeme) → t.kind ≡ opening → numbered_block n End (t ∷ close_at ∷ [])
 empty_block n t is = record {
   front = t ∷ [];
   back = close_at ∷ [];
@@ -332,7 +332,7 @@ block_head : {p q r : Tokens → Type 0} (us : Tokens) (d : (p ⨾ q ⨾ r) us) 
 block_head us d = record { front = d.front; back = d.second.front; parts = refl; first = d.first; second = d.second.first }
 
 -- a block, and more behind it
-braced_first : {p q r s : Tokens → Type 0} (us : Tokens) (d : (p ⨾ q ⨾ (one opening ⨾ r) ⨾ s) us) → (p ⨾ q ⨾ (one opening ⨾ (r ⨾ s))) us
+braced_first : {p q r s : Tokens → Type 0} (us : Tokens) (d : (p ⨾ q ⨾ (one_token opening ⨾ r) ⨾ s) us) → (p ⨾ q ⨾ (one_token opening ⨾ (r ⨾ s))) us
 braced_first us d = record {
   front = d.front;
   back = d.back;
@@ -353,7 +353,7 @@ braced_first us d = record {
   };
 }
 
-headed_by : {B : Type 0} {p q r : Tokens → Type 0} (E : Lang B) (V : Bound B) (y : Spot × Action) (us : Tokens) (x : B) (d : (p ⨾ q ⨾ (one opening ⨾ r)) us) → E x (d.front ++ d.second.front) →
+headed_by : {B : Type 0} {p q r : Tokens → Type 0} (E : Lang B) (V : Bound B) (y : Spot × Action) (us : Tokens) (x : B) (d : (p ⨾ q ⨾ (one_token opening ⨾ r)) us) → E x (d.front ++ d.second.front) →
     ((l : Limit) → KeepsIn l 0 y.1 → V l x) → (KeepsIn limit.Levels 0 y.1 → ⊥) → Headed E V y us
 headed_by E V y us x d derives from deep = record {
   head_is = x;
@@ -374,7 +374,7 @@ none_below h = omega (arith, h)
 zero_few : 0 ≤ 1024
 zero_few = omega arith
 
-zero_kept : (l : Limit) (e : Expression) (n : ℕ) → rank l < 3 → Keeps l e → KeepsIn l 0 (Chooses e n End)
+zero_kept : (l : Limit) (e : Expression) (n : ℕ) → rank l < 3 → KeepsDepth l e → KeepsIn l 0 (Chooses e n End)
 zero_kept limit.Statements e n h k = (k, tt, zero_few, tt)
 zero_kept limit.Levels e n h k = absurd (omega (arith, h))
 zero_kept limit.Depth e n h k = (k, tt, tt, tt)
@@ -486,17 +486,17 @@ lock_heads ts n is = record {
 
 -- ---- how the heads are read
 
-condition_along : (w : Keyword) (ts : Tokens) → Along (condition w) (Both (Token (tok.Word w)) whole) KeepsCondition (Pair Free Keeps) ts (λ q. q)
+condition_along : (w : Keyword) (ts : Tokens) → Along (condition w) (Both (Token (tok.Word w)) whole_expression) KeepsCondition (Pair Free KeepsDepth) ts (λ q. q)
 condition_along w ts = record { intro = λ q us d. d; cases = λ y us r d h. (y, refl, d); to = λ q us d l v. v.1; from = λ q us d l v. (tt, v) }
 
-pub condition_took : {w : Keyword} {ts mid rest : Tokens} {at : Spot} {e : Expression} → Took (Token (tok.Word w)) Free Always ts at mid → Took whole Keeps (Ends 0) mid e rest → Took (condition w) KeepsCondition (Ends 0) ts (at, e) rest
-condition_took {w} {ts} t u = took_as (condition w) (Both (Token (tok.Word w)) whole) (λ q. q) (condition_along w ts) (both (free whole (Ends 0)) t u)
+pub condition_took : {w : Keyword} {ts mid rest : Tokens} {at : Spot} {e : Expression} → Took (Token (tok.Word w)) Free Always ts at mid → Took whole_expression KeepsDepth (Ends 0) mid e rest → Took (condition w) KeepsCondition (Ends 0) ts (at, e) rest
+condition_took {w} {ts} t u = took_as (condition w) (Both (Token (tok.Word w)) whole_expression) (λ q. q) (condition_along w ts) (both (free whole_expression (Ends 0)) t u)
 
 pub condition_first : {w : Keyword} {ts : Tokens} {e : Fail} → Failed (Token (tok.Word w)) Free Always ts e → Failed (condition w) KeepsCondition (Ends 0) ts e
-condition_first {w} {ts} f = failed_as (condition w) (Both (Token (tok.Word w)) whole) (λ q. q) (condition_along w ts) (first (free whole (Ends 0)) has_whole f)
+condition_first {w} {ts} f = failed_as (condition w) (Both (Token (tok.Word w)) whole_expression) (λ q. q) (condition_along w ts) (first (free whole_expression (Ends 0)) has_whole f)
 
-pub condition_second : {w : Keyword} {ts mid : Tokens} {at : Spot} {e : Fail} → Took (Token (tok.Word w)) Free Always ts at mid → Failed whole Keeps (Ends 0) mid e → Failed (condition w) KeepsCondition (Ends 0) ts e
-condition_second {w} {ts} t f = failed_as (condition w) (Both (Token (tok.Word w)) whole) (λ q. q) (condition_along w ts) (second (free whole (Ends 0)) t f)
+pub condition_second : {w : Keyword} {ts mid : Tokens} {at : Spot} {e : Fail} → Took (Token (tok.Word w)) Free Always ts at mid → Failed whole_expression KeepsDepth (Ends 0) mid e → Failed (condition w) KeepsCondition (Ends 0) ts e
+condition_second {w} {ts} t f = failed_as (condition w) (Both (Token (tok.Word w)) whole_expression) (λ q. q) (condition_along w ts) (second (free whole_expression (Ends 0)) t f)
 
 abbrev NoComma : Follow
 NoComma = Isnt (tok.Sign sign.Comma)

@@ -10,7 +10,7 @@ use Rattle.ae_tree.specs.declared.tree.Path.{Path}
 use Rattle.ae_tree.specs.declared.tree.Ty.{Ty}
 use Rattle.ae_tree.specs.Plain.{Expression, RightSide, Lines}
 use Rattle.ae_tree.specs.Plain.{Action, Declares, Assigns, Stores, StoresAt, Calls, Chooses, ChoosesElse, Repeats, Groups, Splits, Locks, Freezes, Shares, Prints, PrintsText, Asserts, Returns}
-use Rattle.ae_tree.specs.Grammar.{Tokens, Then, ◌⨾◌, one_at, name, root, step, path, receiver, statement}
+use Rattle.ae_tree.specs.Grammar.{Tokens, Then, ◌⨾◌, one_at, name, root, path_step, path, receiver, statement}
 use Rattle.ae_reading.specs.Reads.{head, Is}
 use Rattle.ae_reading.proofs.ReadsLemmas.{NoneAt}
 use Rattle.ae_reading.proofs.Runs.{each-append, each-one}
@@ -23,13 +23,13 @@ use Rattle.ae_statements.proofs.UniqueRightSides.{joined}
 regroup : (a b c d : Tokens) → (a ++ b) ++ (c ++ d) ≡ (a ++ (b ++ c)) ++ d
 regroup a b c d = append_assoc a b (c ++ d) ∙ ap (λ l. a ++ l) (sym (append_assoc b c d)) ∙ sym (append_assoc a (b ++ c) d)
 
-pub path_more : (p : Path) (m : NameAt) (us vs : Tokens) → path p us → step m vs → path (record { root = p.root; steps = p.steps ++ m ∷ [] }) (us ++ vs)
+pub path_more : (p : Path) (m : NameAt) (us vs : Tokens) → path p us → path_step m vs → path (record { root = p.root; steps = p.steps ++ m ∷ [] }) (us ++ vs)
 path_more p m us vs d s = record {
   front = d.front;
   back = d.back ++ vs;
   parts = ap (λ l. l ++ vs) d.parts ∙ append_assoc d.front d.back vs;
   first = d.first;
-  second = each-append step p.steps (m ∷ []) d.back vs d.second (each-one step m vs s);
+  second = each-append path_step p.steps (m ∷ []) d.back vs d.second (each-one path_step m vs s);
 }
 
 -- a call begins with its path

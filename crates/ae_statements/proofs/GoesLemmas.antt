@@ -13,8 +13,8 @@ use Rattle.ae_tree.specs.declared.tree.Op.{Op}
 use Rattle.ae_tree.specs.declared.tree.Op.TheVariants as op
 use Rattle.ae_tree.specs.Names.{this}
 use Rattle.ae_tree.specs.Plain.{Expression, Number, Truth, Nothing, Read, Item, Length, Grouped, Negated, Minus, Binary}
-use Rattle.ae_tree.specs.Grammar.{Tokens, path, level, left_level, sign_of, whole, expression}
-use Rattle.ae_tree.specs.Refused.{AreKnown}
+use Rattle.ae_tree.specs.Grammar.{Tokens, path, level, left_level, sign_of, whole_expression, expression_at}
+use Rattle.ae_tree.specs.Refused.{AreSpellable}
 use Rattle.ae_reading.specs.Reads.{head, Is, Isnt, IsName}
 use Rattle.ae_reading.proofs.ReadsLemmas.{nowhere, io_name, AreKnown-append}
 use Rattle.ae_reading.proofs.UniquePaths.{IsRoot, begins_path}
@@ -23,7 +23,7 @@ use Rattle.ae_expressions.proofs.UniqueExpressions.{Form, kind_form, word_form, 
 use Rattle.ae_expressions.proofs.LeadingOperands.{operator_at, Outer, Operated, IsStart, leads_path, begins_expression, led_by_path}
 use Rattle.ae_expressions.specs.Productions.{at_level}
 use Rattle.ae_expressions.proofs.OperatorLemmas.{same_operator}
-use Rattle.ae_statements.specs.Productions.{ended}
+use Rattle.ae_statements.specs.Productions.{with_semicolon}
 use Rattle.ae_statements.specs.Deciding.{Comparing, starts, follows_path, follows_compared}
 use Rattle.ae_statements.proofs.SideLemmas.{Dot, one_of, name_of, path_goes}
 use Rattle.ae_statements.proofs.SplitLemmas.{sign_at, io_at, zero_at, nought, named, compared}
@@ -153,8 +153,8 @@ is_follows f k (Some t) h i = (t, refl, ap f i ∙ h)
 pub record Operand (t : Lexeme) : Type 0 where
   pub tree : Expression
   pub more : Tokens
-  pub is : (l : ℕ) → expression tree l (t ∷ more)
-  pub known : AreKnown more
+  pub is : (l : ℕ) → expression_at tree l (t ∷ more)
+  pub known : AreSpellable more
 
 word_operand : (w : Keyword) (at : Spot) → starts (tok.Word w) ≡ true → Operand (record { kind = tok.Word w; at = at })
 word_operand word.True at e = record { tree = Truth true at; more = []; is = λ l. refl; known = tt }
@@ -216,10 +216,10 @@ operand_from t e = kind_operand t.kind t.at e
 abbrev pub end : Tokens
 end = sign_at sign.Semicolon ∷ []
 
-pub closed : (e : Expression) (ps us : Tokens) → whole e (ps ++ us) → ended whole e (ps ++ (us ++ end))
+pub closed : (e : Expression) (ps us : Tokens) → whole_expression e (ps ++ us) → with_semicolon whole_expression e (ps ++ (us ++ end))
 closed e ps us d = record { front = ps ++ us; back = end; parts = sym (append_assoc ps us end); first = d; second = (nowhere, refl) }
 
-indexed : (p : Path) (ps : Tokens) (t : Lexeme) (l : ℕ) → path p ps → t.kind ≡ tok.Sign sign.OpenBracket → expression (Item p nought) l (ps ++ t ∷ zero_at ∷ sign_at sign.CloseBracket ∷ [])
+indexed : (p : Path) (ps : Tokens) (t : Lexeme) (l : ℕ) → path p ps → t.kind ≡ tok.Sign sign.OpenBracket → expression_at (Item p nought) l (ps ++ t ∷ zero_at ∷ sign_at sign.CloseBracket ∷ [])
 indexed p ps t l d k = record {
   front = ps;
   back = t ∷ zero_at ∷ sign_at sign.CloseBracket ∷ [];
@@ -228,7 +228,7 @@ indexed p ps t l d k = record {
   second = record { front = t ∷ []; back = zero_at ∷ sign_at sign.CloseBracket ∷ []; parts = refl; first = one_of (tok.Sign sign.OpenBracket) t k; second = record { front = zero_at ∷ []; back = sign_at sign.CloseBracket ∷ []; parts = refl; first = refl; second = (nowhere, refl) } };
 }
 
-joined : (o : Op) (a : Expression) (us : Tokens) (t : Lexeme) (l : ℕ) → l ≤ level o → expression a (left_level o) us → t.kind ≡ tok.Sign (sign_of o) → expression (Binary o a nought) l (us ++ t ∷ zero_at ∷ [])
+joined : (o : Op) (a : Expression) (us : Tokens) (t : Lexeme) (l : ℕ) → l ≤ level o → expression_at a (left_level o) us → t.kind ≡ tok.Sign (sign_of o) → expression_at (Binary o a nought) l (us ++ t ∷ zero_at ∷ [])
 joined o a us t l h d k = (h, record { front = us; back = t ∷ zero_at ∷ []; parts = refl; first = d; second = record { front = t ∷ []; back = zero_at ∷ []; parts = refl; first = one_of (tok.Sign (sign_of o)) t k; second = refl } })
 
 pub comparing_path : (p : Path) (ps later : Tokens) (t : Lexeme) → path p ps → follows_path t.kind ≡ true → Comparing ps (t ∷ later)
@@ -267,7 +267,7 @@ pub comparing_less : (p : Path) (ps later : Tokens) (less t : Lexeme) → path p
 comparing_less p ps later less t d k e =
     let o = operand_from t e in
     let tree : Expression = Binary op.Lt (Read p) o.tree in
-    let P : Tokens → Type 0 = ended whole tree in
+    let P : Tokens → Type 0 = with_semicolon whole_expression tree in
     record {
       next = t;
       later = later;
@@ -293,10 +293,10 @@ comparing_name p ps later less n t m d k i e = by_kind (compared_kind t.kind e)
     longer_is : t.kind ≡ tok.Sign sign.Dot → path longer (n ∷ t ∷ io_at ∷ [])
     longer_is j = record { front = n ∷ []; back = t ∷ io_at ∷ []; parts = refl; first = inl (name_of n m i); second = record { front = t ∷ io_at ∷ []; back = []; parts = refl; first = record { front = t ∷ []; back = io_at ∷ []; parts = refl; first = one_of Dot t j; second = refl }; second = refl } }
 
-    more : (e : Expression) (us : Tokens) → whole e (ps ++ less ∷ n ∷ t ∷ us) → ended whole e ((ps ++ less ∷ n ∷ []) ++ (t ∷ (us ++ end)))
-    more e us w = let P : Tokens → Type 0 = ended whole e in subst P (sym (append_assoc ps (less ∷ n ∷ []) (t ∷ (us ++ end)))) (closed e ps (less ∷ n ∷ t ∷ us) w)
+    more : (e : Expression) (us : Tokens) → whole_expression e (ps ++ less ∷ n ∷ t ∷ us) → with_semicolon whole_expression e ((ps ++ less ∷ n ∷ []) ++ (t ∷ (us ++ end)))
+    more e us w = let P : Tokens → Type 0 = with_semicolon whole_expression e in subst P (sym (append_assoc ps (less ∷ n ∷ []) (t ∷ (us ++ end)))) (closed e ps (less ∷ n ∷ t ∷ us) w)
 
-    made : (e : Expression) (us : Tokens) → AreKnown us → expression e 3 (n ∷ t ∷ us) → Comparing (ps ++ less ∷ n ∷ []) (t ∷ later)
+    made : (e : Expression) (us : Tokens) → AreSpellable us → expression_at e 3 (n ∷ t ∷ us) → Comparing (ps ++ less ∷ n ∷ []) (t ∷ later)
     made e us a w = record {
       next = t;
       later = later;
@@ -307,10 +307,10 @@ comparing_name p ps later less n t m d k i e = by_kind (compared_kind t.kind e)
       known = AreKnown-append us end a (tt, tt);
     }
 
-    outer : (o : Op) → t.kind ≡ tok.Sign (sign_of o) → left_level o ≤ 2 → whole (Binary o (Binary op.Lt (Read p) (Read local)) nought) (ps ++ less ∷ n ∷ t ∷ zero_at ∷ [])
+    outer : (o : Op) → t.kind ≡ tok.Sign (sign_of o) → left_level o ≤ 2 → whole_expression (Binary o (Binary op.Lt (Read p) (Read local)) nought) (ps ++ less ∷ n ∷ t ∷ zero_at ∷ [])
     outer o j low =
         let c = compared p ps (n ∷ []) less (Read local) d k local_is in
-        let P : Tokens → Type 0 = whole (Binary o (Binary op.Lt (Read p) (Read local)) nought) in
+        let P : Tokens → Type 0 = whole_expression (Binary o (Binary op.Lt (Read p) (Read local)) nought) in
         subst P (append_assoc ps (less ∷ n ∷ []) (t ∷ zero_at ∷ [])) (joined o (Binary op.Lt (Read p) (Read local)) (ps ++ less ∷ n ∷ []) t 0 (omega arith) (low, c.1) j)
 
     by_kind : ComparedKind t.kind → Comparing (ps ++ less ∷ n ∷ []) (t ∷ later)
@@ -350,7 +350,7 @@ operated_follows l ts r other f w same h =
     is_follows f (tok.Sign (sign_of w.op)) (head other) h (subst P (sym (ap (λ z. z ++ r) w.parts) ∙ same) refl)
 
 -- behind the path
-pub expression_path : (e : Expression) (us r : Tokens) (p : Path) (ps other : Tokens) → whole e us → Ended r → us ++ r ≡ ps ++ other → path p ps → Isnt (tok.Sign sign.Dot) (head other) → Follows follows_path (head other)
+pub expression_path : (e : Expression) (us r : Tokens) (p : Path) (ps other : Tokens) → whole_expression e us → Ended r → us ++ r ≡ ps ++ other → path p ps → Isnt (tok.Sign sign.Dot) (head other) → Follows follows_path (head other)
 expression_path e us r p ps other d f same q n = elim (leads_path 0 e us r p ps other d q same n (no_dot_behind r f)) [
   | inl bracket ↦ is_follows follows_path (tok.Sign sign.OpenBracket) (head other) refl bracket
   | inr b ↦ behind b.back b.behind b.same
@@ -369,7 +369,7 @@ record RightOf (r other : Tokens) : Type 0 where
   outer : Outer 2 rest
   same : text ++ (rest ++ r) ≡ other
 
-right_of : (e : Expression) (us r : Tokens) (p : Path) (ps other : Tokens) (less : Lexeme) → whole e us → Ended r → us ++ r ≡ ps ++ (less ∷ other) → path p ps → less.kind ≡ tok.Sign sign.Less → RightOf r other
+right_of : (e : Expression) (us r : Tokens) (p : Path) (ps other : Tokens) (less : Lexeme) → whole_expression e us → Ended r → us ++ r ≡ ps ++ (less ∷ other) → path p ps → less.kind ≡ tok.Sign sign.Less → RightOf r other
 right_of e us r p ps other less d f same q k = elim (leads_path 0 e us r p ps (less ∷ other) d q same (of_other (tok.Sign sign.Less) Dot (λ e. cc) (Some less) k) (no_dot_behind r f)) [
   | inl bracket ↦ absurd (not_both (tok.Sign sign.Less) (tok.Sign sign.OpenBracket) (λ e. cc) (Some less) k bracket)
   | inr b ↦ behind b.back b.behind b.same
@@ -390,7 +390,7 @@ right_of e us r p ps other less d f same q k = elim (leads_path 0 e us r p ps (l
         record { right = w.right; text = w.text; rest = w.rest; derives = subst A (sym is_less) w.derives; outer = subst B (sym is_less) w.outer; same = sym (append_assoc w.text w.rest r) ∙ tails }
 
 -- behind the path and `<`
-pub expression_less : (e : Expression) (us r : Tokens) (p : Path) (ps other : Tokens) (less : Lexeme) → whole e us → Ended r → us ++ r ≡ ps ++ (less ∷ other) → path p ps → less.kind ≡ tok.Sign sign.Less → Follows starts (head other)
+pub expression_less : (e : Expression) (us r : Tokens) (p : Path) (ps other : Tokens) (less : Lexeme) → whole_expression e us → Ended r → us ++ r ≡ ps ++ (less ∷ other) → path p ps → less.kind ≡ tok.Sign sign.Less → Follows starts (head other)
 expression_less e us r p ps other less d f same q k =
     let w = right_of e us r p ps other less d f same q k in
     let P : Tokens → Type 0 = λ z. IsStart (head z) in
@@ -412,7 +412,7 @@ outer_no_dot rest r (inr w) f =
     no_dot_operator o e = let h : follows_path (tok.Sign (sign_of o)) ≡ false = ap follows_path e in let g : true ≡ false = sym (operator_follows o) ∙ h in cc
 
 -- behind the path, `<` and a name
-pub expression_name : (e : Expression) (us r : Tokens) (p : Path) (ps other : Tokens) (less n : Lexeme) (m : ℕ) → whole e us → Ended r → us ++ r ≡ ps ++ (less ∷ n ∷ other) → path p ps → less.kind ≡ tok.Sign sign.Less → n.kind ≡ tok.Name m → Isnt (tok.Sign sign.Dot) (head other) → Follows follows_compared (head other)
+pub expression_name : (e : Expression) (us r : Tokens) (p : Path) (ps other : Tokens) (less n : Lexeme) (m : ℕ) → whole_expression e us → Ended r → us ++ r ≡ ps ++ (less ∷ n ∷ other) → path p ps → less.kind ≡ tok.Sign sign.Less → n.kind ≡ tok.Name m → Isnt (tok.Sign sign.Dot) (head other) → Follows follows_compared (head other)
 expression_name e us r p ps other less n m d f same q k i no_dot =
     let w = right_of e us r p ps (n ∷ other) less d f same q k in
     let local : path (record { root = named n m; steps = [] }) (n ∷ []) = record { front = n ∷ []; back = []; parts = refl; first = inl (name_of n m i); second = refl } in
@@ -426,7 +426,7 @@ expression_name e us r p ps other less n m d f same q k i no_dot =
     behind rest outer ts (inr o) s = operated_follows 3 ts (rest ++ r) other follows_compared o s (beside_follows o.op (inl o.high))
 
 -- behind the path and `.`
-pub expression_dot : (e : Expression) (us r : Tokens) (p : Path) (ps other : Tokens) (dot : Lexeme) → whole e us → Ended r → us ++ r ≡ ps ++ (dot ∷ other) → path p ps → dot.kind ≡ tok.Sign sign.Dot → IsName (head other)
+pub expression_dot : (e : Expression) (us r : Tokens) (p : Path) (ps other : Tokens) (dot : Lexeme) → whole_expression e us → Ended r → us ++ r ≡ ps ++ (dot ∷ other) → path p ps → dot.kind ≡ tok.Sign sign.Dot → IsName (head other)
 expression_dot e us r p ps other dot d f same q k =
     let R : Tokens → Type 0 = λ z. IsRoot (head z) in
     let w = led_by_path 0 e us r d (subst R (sym same) (begins_path p ps (dot ∷ other) q)) (no_dot_behind r f) in

@@ -11,8 +11,8 @@ use Rattle.ae_tree.specs.declared.tree.NameAt.{NameAt}
 use Rattle.ae_tree.specs.declared.tree.Path.{Path}
 use Rattle.ae_tree.specs.Plain.{Expression, RightSide, Invocation}
 use Rattle.ae_tree.specs.Plain.{Action, Declares, Assigns, Stores, StoresAt, Calls, Chooses, ChoosesElse, Repeats, Groups, Splits, Locks, Freezes, Shares, Prints, PrintsText, Asserts, Returns}
-use Rattle.ae_tree.specs.Grammar.{Tokens, ◌⨾◌, a_sign, name, step, path, each, whole, receiver, call, statement, spot_or}
-use Rattle.ae_tree.specs.Limits.{Keeps, KeepsRight, KeepsIn}
+use Rattle.ae_tree.specs.Grammar.{Tokens, ◌⨾◌, a_sign, name, path_step, path, one_by_one, whole_expression, receiver, call_written, statement, spot_or}
+use Rattle.ae_tree.specs.Limits.{KeepsDepth, KeepsRight, KeepsIn}
 use Rattle.ae_reading.specs.declared.fail.Fail.{Fail}
 use Rattle.ae_reading.specs.Reads.{head, Always, Free, Is, Isnt, IsName, Took, Failed}
 use Rattle.ae_reading.proofs.ReadsLemmas.{Lang, Bound, Follow, Links, Both, Limits, Pair, Has, Along, failed_by, has_both, After, AfterLinks, HasEach, took_after, after_first, after_second}
@@ -20,7 +20,7 @@ use Rattle.ae_reading.proofs.Begins.{Opens, is_isnt, opens_mark, opens_first, op
 use Rattle.ae_expressions.specs.Ends.{Ends}
 use Rattle.ae_statements.specs.declared.led.Front.{Front}
 use Rattle.ae_statements.specs.declared.led.Front.TheVariants as front
-use Rattle.ae_statements.specs.Productions.{ended, value, called, KeepsCalled, stored, indexed, KeepsIndexed, Tailed, Assigned, Stored, StoredAt, Called, tail, KeepsTail, Only, front_at, front_of, action_of, invoked, last, but_last, receiver_of, stmt, KeepsStmt, IsRoot}
+use Rattle.ae_statements.specs.Productions.{with_semicolon, local_value, call_rest, KeepsCalled, stored_value, indexed, KeepsIndexed, Tailed, Assigned, Stored, StoredAt, Called, tail, KeepsTail, Only, front_at, front_of, action_of, invoked, last, but_last, receiver_of, stmt, KeepsStmt, IsRoot}
 use Rattle.ae_statements.proofs.ShapeLemmas.{Pre, Lets, begins_lets, has_pre, has_whole, sign_ends}
 use Rattle.ae_statements.proofs.CallLemmas.{invoked_some}
 use Rattle.ae_statements.proofs.FormLemmas.{formed, is_led, call_path}
@@ -33,30 +33,30 @@ use Rattle.ae_statements.proofs.UniqueRightSides.{joined}
 pub pre_link : {A : Type 0} (k : Lexical) (D : Lang A) (F G : Follow) → Lets k F → Links (Pre k D) G F
 pre_link k D F G lets y us r d g = begins_lets F us r lets (opens_mark us r d)
 
-pub has_stored : Has stored Keeps
-has_stored = has_pre (tok.Sign sign.Assign) (ended whole) tt (has_ended whole has_whole)
+pub has_stored : Has stored_value KeepsDepth
+has_stored = has_pre (tok.Sign sign.Assign) (with_semicolon whole_expression) tt (has_ended whole_expression has_whole)
 
 abbrev pub bracketed : Lang Expression
-bracketed = Pre (tok.Sign sign.CloseBracket) stored
+bracketed = Pre (tok.Sign sign.CloseBracket) stored_value
 
-pub has_bracketed : Has bracketed Keeps
-has_bracketed = has_pre (tok.Sign sign.CloseBracket) stored tt has_stored
+pub has_bracketed : Has bracketed KeepsDepth
+has_bracketed = has_pre (tok.Sign sign.CloseBracket) stored_value tt has_stored
 
 abbrev pub inside : Lang (Expression × Expression)
-inside = Both whole bracketed
+inside = Both whole_expression bracketed
 
-pub has_inside : Has inside (Pair Keeps Keeps)
+pub has_inside : Has inside (Pair KeepsDepth KeepsDepth)
 has_inside = has_both has_whole has_bracketed
 
 pub bracket_ends : Links bracketed Always (Ends 0)
-bracket_ends = pre_link (tok.Sign sign.CloseBracket) stored (Ends 0) Always (sign_ends sign.CloseBracket refl)
+bracket_ends = pre_link (tok.Sign sign.CloseBracket) stored_value (Ends 0) Always (sign_ends sign.CloseBracket refl)
 
 pub has_indexed : Has indexed KeepsIndexed
 has_indexed = has_pre (tok.Sign sign.OpenBracket) inside tt has_inside
 
 -- ---- what a tail begins with
 
-called_begins : (gs : List NameAt) (es : List Expression) (us r : Tokens) → called (gs, es) us → Opens us r (tok.Sign sign.OpenParen) ⊎ Opens us r (tok.Sign sign.Less)
+called_begins : (gs : List NameAt) (es : List Expression) (us r : Tokens) → call_rest (gs, es) us → Opens us r (tok.Sign sign.OpenParen) ⊎ Opens us r (tok.Sign sign.Less)
 called_begins [] es us r d =
     let P : Tokens → Type 0 = λ l. Opens l r (tok.Sign sign.OpenParen) in
     let same : d.back ≡ us = sym (d.parts ∙ ap (λ l. l ++ d.back) d.first) in
@@ -82,7 +82,7 @@ assign_dot e = cc
 bracket_dot : tok.Sign sign.OpenBracket ≡ Dot → ⊥
 bracket_dot e = cc
 
-pub called_no_dot : (q : List NameAt × List Expression) (us r : Tokens) → called q us → Isnt Dot (head (us ++ r))
+pub called_no_dot : (q : List NameAt × List Expression) (us r : Tokens) → call_rest q us → Isnt Dot (head (us ++ r))
 called_no_dot q us r d = either_isnt Dot us r paren_dot less_dot (called_begins q.0 q.1 us r d)
 
 -- no field is named behind the path
@@ -166,41 +166,41 @@ paren_assign e = cc
 less_assign : tok.Sign sign.Less ≡ tok.Sign sign.Assign → ⊥
 less_assign e = cc
 
-not_called : (gs : List NameAt) (es : List Expression) (us r ts : Tokens) → called (gs, es) us → head (us ++ r) ≡ head ts → Is (tok.Sign sign.Assign) (head ts) → ⊥
+not_called : (gs : List NameAt) (es : List Expression) (us r ts : Tokens) → call_rest (gs, es) us → head (us ++ r) ≡ head ts → Is (tok.Sign sign.Assign) (head ts) → ⊥
 not_called gs es us r ts d h is = by_first (called_begins gs es us r d)
   where
     by_first : Opens us r (tok.Sign sign.OpenParen) ⊎ Opens us r (tok.Sign sign.Less) → ⊥
     by_first (inl b) = paren_assign (opens_is us r ts b h is)
     by_first (inr b) = less_assign (opens_is us r ts b h is)
 
-local_cases : (ts : Tokens) → Is (tok.Sign sign.Assign) (head ts) → (t : Tailed) (us r : Tokens) → tail front.Local t us → head (us ++ r) ≡ head ts → (e : RightSide) × (t ≡ Assigned e) × value e us
+local_cases : (ts : Tokens) → Is (tok.Sign sign.Assign) (head ts) → (t : Tailed) (us r : Tokens) → tail front.Local t us → head (us ++ r) ≡ head ts → (e : RightSide) × (t ≡ Assigned e) × local_value e us
 local_cases ts is (Assigned e) us r d h = (e, refl, d)
 local_cases ts is (Stored e) us r d h = absurd d
 local_cases ts is (StoredAt i e) us r d h = absurd (bracket_assign (opens_is us r ts (opens_mark us r d) h is))
 local_cases ts is (Called gs es) us r d h = absurd (not_called gs es us r ts d h is)
 
-pub local_along : (ts : Tokens) → Is (tok.Sign sign.Assign) (head ts) → Along (tail front.Local) value KeepsTail KeepsRight ts Assigned
+pub local_along : (ts : Tokens) → Is (tok.Sign sign.Assign) (head ts) → Along (tail front.Local) local_value KeepsTail KeepsRight ts Assigned
 local_along ts is = record { intro = λ q us d. d; cases = λ y us r d h. local_cases ts is y us r d h; to = λ q us d l v. v; from = λ q us d l v. v }
 
-member_cases : (ts : Tokens) → Is (tok.Sign sign.Assign) (head ts) → (t : Tailed) (us r : Tokens) → tail front.Member t us → head (us ++ r) ≡ head ts → (e : Expression) × (t ≡ Stored e) × stored e us
+member_cases : (ts : Tokens) → Is (tok.Sign sign.Assign) (head ts) → (t : Tailed) (us r : Tokens) → tail front.Member t us → head (us ++ r) ≡ head ts → (e : Expression) × (t ≡ Stored e) × stored_value e us
 member_cases ts is (Assigned e) us r d h = absurd d
 member_cases ts is (Stored e) us r d h = (e, refl, d)
 member_cases ts is (StoredAt i e) us r d h = absurd (bracket_assign (opens_is us r ts (opens_mark us r d) h is))
 member_cases ts is (Called gs es) us r d h = absurd (not_called gs es us r ts d h is)
 
-pub member_along : (ts : Tokens) → Is (tok.Sign sign.Assign) (head ts) → Along (tail front.Member) stored KeepsTail Keeps ts Stored
+pub member_along : (ts : Tokens) → Is (tok.Sign sign.Assign) (head ts) → Along (tail front.Member) stored_value KeepsTail KeepsDepth ts Stored
 member_along ts is = record { intro = λ q us d. d; cases = λ y us r d h. member_cases ts is y us r d h; to = λ q us d l v. v; from = λ q us d l v. v }
 
 abbrev pub calling : List NameAt × List Expression → Tailed
 calling q = Called q.0 q.1
 
-call_intro : (f : Front) → (f ≡ front.This → ⊥) → (gs : List NameAt) (es : List Expression) (us : Tokens) → called (gs, es) us → tail f (Called gs es) us
+call_intro : (f : Front) → (f ≡ front.This → ⊥) → (gs : List NameAt) (es : List Expression) (us : Tokens) → call_rest (gs, es) us → tail f (Called gs es) us
 call_intro front.Local no_this gs es us d = d
 call_intro front.Member no_this gs es us d = d
 call_intro front.This no_this gs es us d = absurd (no_this refl)
 
 call_cases : (f : Front) (ts : Tokens) → (Is (tok.Sign sign.Assign) (head ts) → ⊥) → (Is (tok.Sign sign.OpenBracket) (head ts) → ⊥) →
-    (t : Tailed) (us r : Tokens) → tail f t us → head (us ++ r) ≡ head ts → (q : List NameAt × List Expression) × (t ≡ calling q) × called q us
+    (t : Tailed) (us r : Tokens) → tail f t us → head (us ++ r) ≡ head ts → (q : List NameAt × List Expression) × (t ≡ calling q) × call_rest q us
 call_cases front.Local ts no_assign no_index (Assigned e) us r d h = absurd (opens_other us r ts (opens_mark us r d) h no_assign)
 call_cases front.Local ts no_assign no_index (Stored e) us r d h = absurd d
 call_cases front.Local ts no_assign no_index (StoredAt i e) us r d h = absurd (opens_other us r ts (opens_mark us r d) h no_index)
@@ -214,7 +214,7 @@ call_cases front.This ts no_assign no_index (Stored e) us r d h = absurd d
 call_cases front.This ts no_assign no_index (StoredAt i e) us r d h = absurd (opens_other us r ts (opens_mark us r d) h no_index)
 call_cases front.This ts no_assign no_index (Called gs es) us r d h = absurd d
 
-pub call_along : (f : Front) (ts : Tokens) → (f ≡ front.This → ⊥) → (Is (tok.Sign sign.Assign) (head ts) → ⊥) → (Is (tok.Sign sign.OpenBracket) (head ts) → ⊥) → Along (tail f) called KeepsTail KeepsCalled ts calling
+pub call_along : (f : Front) (ts : Tokens) → (f ≡ front.This → ⊥) → (Is (tok.Sign sign.Assign) (head ts) → ⊥) → (Is (tok.Sign sign.OpenBracket) (head ts) → ⊥) → Along (tail f) call_rest KeepsTail KeepsCalled ts calling
 call_along f ts no_this no_assign no_index = record {
   intro = λ q us d. call_intro f no_this q.0 q.1 us d;
   cases = λ y us r d h. call_cases f ts no_assign no_index y us r d h;
@@ -263,8 +263,8 @@ snoc_some : (x : NameAt) (xs : List NameAt) → xs ++ x ∷ [] ≡ [] → ⊥
 snoc_some x [] e = cc
 snoc_some x (y ∷ xs) e = cc
 
-steps_apart : (x : NameAt) (xs : List NameAt) (us : Tokens) → each step (x ∷ xs) us → (each step (but_last x xs) ⨾ step (last x xs)) us
-steps_apart x [] us d = record { front = []; back = us; parts = refl; first = refl; second = (let P : Tokens → Type 0 = step x in subst P (sym (d.parts ∙ ap (λ l. d.front ++ l) d.second ∙ append-nil d.front)) d.first) }
+steps_apart : (x : NameAt) (xs : List NameAt) (us : Tokens) → one_by_one path_step (x ∷ xs) us → (one_by_one path_step (but_last x xs) ⨾ path_step (last x xs)) us
+steps_apart x [] us d = record { front = []; back = us; parts = refl; first = refl; second = (let P : Tokens → Type 0 = path_step x in subst P (sym (d.parts ∙ ap (λ l. d.front ++ l) d.second ∙ append-nil d.front)) d.first) }
 steps_apart x (y ∷ ys) us d =
     let r = steps_apart y ys d.back d.second in
     record {
@@ -293,8 +293,8 @@ path_call root x xs us d =
     }
 
 -- the last part of a call's language is a sequence of its own
-call_ended : (on : Option Path) (m : NameAt) (gs : List NameAt) (es : List Expression) (us : Tokens) → (receiver on ⨾ name m ⨾ called (gs, es)) us →
-    (call (record { on = on; method = m; groups = gs; args = es }) ⨾ a_sign sign.Semicolon) us
+call_ended : (on : Option Path) (m : NameAt) (gs : List NameAt) (es : List Expression) (us : Tokens) → (receiver on ⨾ name m ⨾ call_rest (gs, es)) us →
+    (call_written (record { on = on; method = m; groups = gs; args = es }) ⨾ a_sign sign.Semicolon) us
 call_ended on m gs es us d = record {
   front = d.front ++ (d.second.front ++ (d.second.second.front ++ d.second.second.second.front));
   back = d.second.second.second.back;
@@ -321,7 +321,7 @@ call_ended on m gs es us d = record {
     out : (a b c e f : Tokens) → a ++ (b ++ (c ++ (e ++ f))) ≡ (a ++ (b ++ (c ++ e))) ++ f
     out a b c e f = sym (append_assoc a (b ++ (c ++ e)) f ∙ ap (λ l. a ++ l) (append_assoc b (c ++ e) f ∙ ap (λ l. b ++ l) (append_assoc c e f)))
 
-ended_call : (c : Invocation) (us : Tokens) → (call c ⨾ a_sign sign.Semicolon) us → (receiver c.on ⨾ name c.method ⨾ called (c.groups, c.args)) us
+ended_call : (c : Invocation) (us : Tokens) → (call_written c ⨾ a_sign sign.Semicolon) us → (receiver c.on ⨾ name c.method ⨾ call_rest (c.groups, c.args)) us
 ended_call c us d = record {
   front = d.first.front;
   back = d.first.back ++ d.back;
@@ -344,7 +344,7 @@ ended_call c us d = record {
 
 -- ---- from a path and a tail to a statement
 
-alone : {q : Tokens → Type 0} (p : Tokens → Type 0) (us : Tokens) → ((p ⨾ each step []) ⨾ q) us → (p ⨾ q) us
+alone : {q : Tokens → Type 0} (p : Tokens → Type 0) (us : Tokens) → ((p ⨾ one_by_one path_step []) ⨾ q) us → (p ⨾ q) us
 alone p us d = record {
   front = d.first.front;
   back = d.back;
@@ -401,7 +401,7 @@ call_is : (on : Option Path) (m : NameAt) (gs : List NameAt) (es : List Expressi
 call_is None m gs es = refl
 call_is (Some p) m gs es = invoked_some p.root m (p.steps ++ m ∷ []) p.steps gs es refl
 
-call_cases_of : (at : Spot) (on : Option Path) (m : NameAt) (gs : List NameAt) (es : List Expression) (us : Tokens) → spot_or m.at on ≡ at → (receiver on ⨾ name m ⨾ called (gs, es)) us →
+call_cases_of : (at : Spot) (on : Option Path) (m : NameAt) (gs : List NameAt) (es : List Expression) (us : Tokens) → spot_or m.at on ≡ at → (receiver on ⨾ name m ⨾ call_rest (gs, es)) us →
     (q : (Bool × Path) × Tailed) × ((at, Calls (record { on = on; method = m; groups = gs; args = es })) ≡ led_tree q) × led q us
 call_cases_of at None m gs es us e d = (
   ((true, record { root = m; steps = [] }), Called gs es),

@@ -15,14 +15,14 @@ use Rattle.ae_tree.specs.declared.tree.Ty.TheVariants as ty
 use Rattle.ae_tree.specs.Plain.{Expression, Number, Lines, End, Next, Value}
 use Rattle.ae_tree.specs.Plain.{Action, Declares, Assigns, Stores, StoresAt, Calls, Chooses, ChoosesElse, Repeats, Groups, Splits, Locks, Freezes, Shares, Prints, PrintsText, Asserts, Returns}
 use Rattle.ae_tree.specs.Shown as shown
-use Rattle.ae_tree.specs.Grammar.{Tokens, Then, ◌⨾◌, one, name, whole, statement, statements, opened, opened_in}
-use Rattle.ae_tree.specs.Limits.{KeepsIn, IsFew, EachKeeps, KeepsBlock, count}
-use Rattle.ae_tree.specs.Refused.{AreKnown}
+use Rattle.ae_tree.specs.Grammar.{Tokens, Then, ◌⨾◌, one_token, name, whole_expression, statement, statements, blocks_opened, opened_in}
+use Rattle.ae_tree.specs.Limits.{KeepsIn, IsFew, EachKeeps, KeepsBlock, statement_count}
+use Rattle.ae_tree.specs.Refused.{AreSpellable}
 use Rattle.ae_tree.specs.Names.{io, this}
 use Rattle.ae_reading.specs.declared.fail.Fail.{Fail}
 use Rattle.ae_reading.specs.declared.fail.Why.{Why}
 use Rattle.ae_reading.specs.declared.fail.Why.TheVariants.{Unexpected, Over}
-use Rattle.ae_reading.specs.Reads.{head, Is, IsWithin, Took, Stopped, Failed, Beyond, chain, after}
+use Rattle.ae_reading.specs.Reads.{head, Is, IsWithinAll, Took, Stopped, Failed, Beyond, chain, state_after}
 use Rattle.ae_reading.proofs.ReadsLemmas.{Bound, Follow, Along, Has, took_as, failed_as, stopped_as, stopped_here, failed_by, nowhere, io_name}
 use Rattle.ae_reading.proofs.Chains.{Chain, ChainTurns, chain_start, chain_more, chain_full, chain_stopped, chain_end}
 use Rattle.ae_reading.proofs.Begins.{opens_at}
@@ -47,7 +47,7 @@ listed_is n (q ∷ qs) us m = record { front = m.front; back = m.back; parts = m
 is_listed : (n : ℕ) (b : Lines) (us : Tokens) → statements n b us → (qs : Items) × (b ≡ lines_of qs) × chain stmt behind n qs us
 is_listed n End us m = ([], refl, m)
 is_listed n (Next at a rest) us m =
-    let p = is_listed (n + opened a) rest m.back m.second in
+    let p = is_listed (n + blocks_opened a) rest m.back m.second in
     ((at, a) ∷ p.0, ap (λ l. Next at a l) p.1, record { front = m.front; back = m.back; parts = m.parts; first = m.first; second = p.2 })
 
 lines_along : (n levels : ℕ) (ts : Tokens) → Along (statements n) (chain stmt behind n) (KeepsLines levels) (KeepsItems levels) ts lines_of
@@ -57,13 +57,13 @@ pub lines_listed : (xs : List Stmt) → shown.lines_from xs ≡ lines_of (map sh
 lines_listed [] = refl
 lines_listed (x ∷ xs) = ap (λ l. Next x.at (shown.action x.kind) l) (lines_listed xs)
 
-count-listed : (qs : Items) → count (lines_of qs) ≡ length qs
+count-listed : (qs : Items) → statement_count (lines_of qs) ≡ length qs
 count-listed [] = refl
-count-listed (q ∷ qs) = let h : count (lines_of qs) ≡ length qs = count-listed qs in omega (arith, h)
+count-listed (q ∷ qs) = let h : statement_count (lines_of qs) ≡ length qs = count-listed qs in omega (arith, h)
 
-opened_after : (n : ℕ) (qs : Items) → after behind n qs ≡ n + opened_in (lines_of qs)
+opened_after : (n : ℕ) (qs : Items) → state_after behind n qs ≡ n + opened_in (lines_of qs)
 opened_after n [] = omega arith
-opened_after n (q ∷ qs) = let h : after behind (behind n q) qs ≡ behind n q + opened_in (lines_of qs) = opened_after (behind n q) qs in omega (arith, h)
+opened_after n (q ∷ qs) = let h : state_after behind (behind n q) qs ≡ behind n q + opened_in (lines_of qs) = opened_after (behind n q) qs in omega (arith, h)
 
 each-push : (l : Limit) (levels : ℕ) (qs : Items) (q : Spot × Action) → EachKeeps l levels (lines_of qs) → KeepsIn l levels q.1 → EachKeeps l levels (lines_of (qs ++ q ∷ []))
 each-push l levels [] q all k = (k, tt)
@@ -79,7 +79,7 @@ few-push limit.Levels qs q few = tt
 few-push limit.Depth qs q few = tt
 few-push limit.Params qs q few = tt
 
-one_fits : (levels : ℕ) (qs : Items) → length qs < 1024 → IsWithin (KeepsItems levels) qs → (l : Limit) (q : Spot × Action) → KeepsStmt levels l q → KeepsItems levels l (qs ++ q ∷ [])
+one_fits : (levels : ℕ) (qs : Items) → length qs < 1024 → IsWithinAll (KeepsItems levels) qs → (l : Limit) (q : Spot × Action) → KeepsStmt levels l q → KeepsItems levels l (qs ++ q ∷ [])
 one_fits levels qs few w l q k = (few-push l qs q few, each-push l levels qs q ((w l).1) k)
 
 -- ---- what follows
@@ -152,18 +152,18 @@ pub record Body (n levels : ℕ) (ts : Tokens) (qs : Items) (rest : Tokens) (m :
 pub body_start : (n levels : ℕ) (ts : Tokens) → Body n levels ts [] ts n
 body_start n levels ts = record { items = chain_start stmt behind (KeepsItems levels) Closes n ts (none_keep levels); number = omega arith }
 
-number_at : (n m : ℕ) (qs : Items) → m ≡ n + opened_in (lines_of qs) → after behind n qs ≡ m
+number_at : (n m : ℕ) (qs : Items) → m ≡ n + opened_in (lines_of qs) → state_after behind n qs ≡ m
 number_at n m qs e = opened_after n qs ∙ sym e
 
-opened-push : (qs : Items) (q : Spot × Action) → opened_in (lines_of (qs ++ q ∷ [])) ≡ opened_in (lines_of qs) + opened q.1
+opened-push : (qs : Items) (q : Spot × Action) → opened_in (lines_of (qs ++ q ∷ [])) ≡ opened_in (lines_of qs) + blocks_opened q.1
 opened-push [] q = omega arith
-opened-push (p ∷ qs) q = let h : opened_in (lines_of (qs ++ q ∷ [])) ≡ opened_in (lines_of qs) + opened q.1 = opened-push qs q in omega (arith, h)
+opened-push (p ∷ qs) q = let h : opened_in (lines_of (qs ++ q ∷ [])) ≡ opened_in (lines_of qs) + blocks_opened q.1 = opened-push qs q in omega (arith, h)
 
 pub body_more : (n levels : ℕ) (ts rest rest' : Tokens) (qs : Items) (q : Spot × Action) (m next : ℕ) → (Closes (head rest) → ⊥) → length qs < 1024 →
-    Body n levels ts qs rest m → Took (stmt m) (KeepsStmt levels) NoElse rest q rest' → next ≡ m + opened q.1 → Body n levels ts (qs ++ q ∷ []) rest' next
+    Body n levels ts qs rest m → Took (stmt m) (KeepsStmt levels) NoElse rest q rest' → next ≡ m + blocks_opened q.1 → Body n levels ts (qs ++ q ∷ []) rest' next
 body_more n levels ts rest rest' qs q m next go few b t e =
     let P : ℕ → Type 0 = λ m. Took (stmt m) (KeepsStmt levels) NoElse rest q rest' in
-    let at : after behind n qs ≡ m = number_at n m qs b.number in
+    let at : state_after behind n qs ≡ m = number_at n m qs b.number in
     record {
       items = chain_more turns go (λ l. one_fits levels qs few b.items.within l q (t.within l)) b.items (subst P (sym at) t);
       number = omega (arith, e, b.number, opened-push qs q);
@@ -173,13 +173,13 @@ pub body_failed : (n levels : ℕ) (ts rest : Tokens) (qs : Items) (m : ℕ) (e 
     Body n levels ts qs rest m → Failed (stmt m) (KeepsStmt levels) NoElse rest e → Failed (statements n) (KeepsLines levels) Closes ts e
 body_failed n levels ts rest qs m e go few b f =
     let P : ℕ → Type 0 = λ m. Failed (stmt m) (KeepsStmt levels) NoElse rest e in
-    let g : Failed (stmt (after behind n qs)) (KeepsStmt levels) NoElse rest e = subst P (sym (number_at n m qs b.number)) f in
+    let g : Failed (stmt (state_after behind n qs)) (KeepsStmt levels) NoElse rest e = subst P (sym (number_at n m qs b.number)) f in
     failed_as (statements n) (chain stmt behind n) lines_of (lines_along n levels ts)
     (failed_by (λ why left s. chain_stopped turns go (λ l z w. one_fits levels qs few b.items.within l z w) (λ l z zs v. each-at l levels qs zs z v.1) b.items s) g)
 
 pub body_end : (n levels : ℕ) (ts rest : Tokens) (qs : Items) (m : ℕ) → Closes (head rest) → Body n levels ts qs rest m → Took (statements n) (KeepsLines levels) Closes ts (lines_of qs) rest
 body_end n levels ts rest qs m c b = took_as (statements n) (chain stmt behind n) lines_of (lines_along n levels ts)
-    (chain_end (no_stmt (after behind n qs) rest (begins_open (head rest) c)) b.items)
+    (chain_end (no_stmt (state_after behind n qs) rest (begins_open (head rest) c)) b.items)
 
 -- ---- a statement that begins here
 
@@ -187,8 +187,8 @@ body_end n levels ts rest qs m c b = took_as (statements n) (chain stmt behind n
 pub record Starts (n : ℕ) (t : Lexeme) : Type 0 where
   pub tree : Spot × Action
   pub after : Tokens
-  pub is : stmt n tree (t ∷ after)
-  pub known : AreKnown after
+  pub is : stmt n tree (t ∷ state_after)
+  pub known : AreSpellable state_after
 
 at_word : (n : ℕ) (t : Lexeme) (k : Lexical) → t.kind ≡ k → Starts n (record { kind = k; at = t.at }) → Starts n t
 at_word n t k e s = let P : Lexeme → Type 0 = Starts n in subst P (ap (λ j. record { kind = j; at = t.at }) (sym e)) s
@@ -215,16 +215,16 @@ no_block = sign_at sign.OpenBrace ∷ sign_at sign.CloseBrace ∷ []
 before : {p q : Tokens → Type 0} (t : Lexeme) (us : Tokens) → p (t ∷ []) → q us → (p ⨾ q) (t ∷ us)
 before t us a b = record { front = t ∷ []; back = us; parts = refl; first = a; second = b }
 
-empty_block : (n : ℕ) → productions.braced n End no_block
+empty_block : (n : ℕ) → productions.numbered_block n End no_block
 empty_block n = before (sign_at sign.OpenBrace) (sign_at sign.CloseBrace ∷ []) (nowhere, refl) (record { front = []; back = sign_at sign.CloseBrace ∷ []; parts = refl; first = refl; second = (nowhere, refl) })
 
-zero_semicolon : (whole zero_number ⨾ one (tok.Sign sign.Semicolon)) (zero_at ∷ sign_at sign.Semicolon ∷ [])
+zero_semicolon : (whole_expression zero_number ⨾ one_token (tok.Sign sign.Semicolon)) (zero_at ∷ sign_at sign.Semicolon ∷ [])
 zero_semicolon = before zero_at (sign_at sign.Semicolon ∷ []) refl (nowhere, refl)
 
-assign_zero : (one (tok.Sign sign.Assign) ⨾ whole zero_number ⨾ one (tok.Sign sign.Semicolon)) (sign_at sign.Assign ∷ zero_at ∷ sign_at sign.Semicolon ∷ [])
+assign_zero : (one_token (tok.Sign sign.Assign) ⨾ whole_expression zero_number ⨾ one_token (tok.Sign sign.Semicolon)) (sign_at sign.Assign ∷ zero_at ∷ sign_at sign.Semicolon ∷ [])
 assign_zero = before (sign_at sign.Assign) (zero_at ∷ sign_at sign.Semicolon ∷ []) (nowhere, refl) zero_semicolon
 
-io_semicolon : (name io_name ⨾ one (tok.Sign sign.Semicolon)) (io_at ∷ sign_at sign.Semicolon ∷ [])
+io_semicolon : (name io_name ⨾ one_token (tok.Sign sign.Semicolon)) (io_at ∷ sign_at sign.Semicolon ∷ [])
 io_semicolon = before io_at (sign_at sign.Semicolon ∷ []) refl (nowhere, refl)
 
 starts_if : (n : ℕ) (at : Spot) → Starts n (record { kind = tok.Word word.If; at = at })
@@ -337,18 +337,18 @@ one_more W n (t ∷ rest) b = let s = starts n t b in record { next = t; later =
 -- ---- the statement behind the 1,024th
 
 too_many : (levels : ℕ) (qs zs : Items) (z : Spot × Action) → 1024 ≤ length qs → KeepsItems levels limit.Statements (qs ++ z ∷ zs) → ⊥
-too_many levels qs zs z full k = let f : count (lines_of (qs ++ z ∷ zs)) ≤ 1024 = k.0 in absurd (omega (arith, f, full, count-listed (qs ++ z ∷ zs), length-append qs (z ∷ zs)))
+too_many levels qs zs z full k = let f : statement_count (lines_of (qs ++ z ∷ zs)) ≤ 1024 = k.0 in absurd (omega (arith, f, full, count-listed (qs ++ z ∷ zs), length-append qs (z ∷ zs)))
 
 pub body_full : (n levels : ℕ) (ts rest : Tokens) (qs : Items) (m : ℕ) (why : Why) → (Closes (head rest) → ⊥) → 1024 ≤ length qs → Further rest why →
     Body n levels ts qs rest m → Stopped (statements n) (KeepsLines levels) Closes ts why (length rest)
-body_full n levels ts rest qs m Unexpected go full f b = stopped_lines (chain_full Unexpected go (λ z zs us r d h w. no_stmt (after behind n qs) rest f z us r d h) tt b.items)
+body_full n levels ts rest qs m Unexpected go full f b = stopped_lines (chain_full Unexpected go (λ z zs us r d h w. no_stmt (state_after behind n qs) rest f z us r d h) tt b.items)
   where
     stopped_lines : Stopped (chain stmt behind n) (KeepsItems levels) Closes ts Unexpected (length rest) → Stopped (statements n) (KeepsLines levels) Closes ts Unexpected (length rest)
     stopped_lines s = stopped_as (statements n) (chain stmt behind n) lines_of (lines_along n levels ts) s
 body_full n levels ts rest qs m (Over l) go full f b =
     let P : Limit → Type 0 = λ k. Stopped (statements n) (KeepsLines levels) Closes ts (Over k) (length rest) in
     subst P (sym f.0) (stopped_as (statements n) (chain stmt behind n) lines_of (lines_along n levels ts)
-    (chain_full (Over limit.Statements) go (λ z zs us r d h w. too_many levels qs zs z full w) (one_more (λ l z. KeepsItems levels l (qs ++ z ∷ [])) (after behind n qs) rest f.1) b.items))
+    (chain_full (Over limit.Statements) go (λ z zs us r d h w. too_many levels qs zs z full w) (one_more (λ l z. KeepsItems levels l (qs ++ z ∷ [])) (state_after behind n qs) rest f.1) b.items))
 
 -- ---- numbers
 
@@ -356,20 +356,20 @@ back_long : {p q : Tokens → Type 0} (us : Tokens) (d : Then p q us) → length
 back_long us d = omega (arith, ap length d.parts, length-append d.front d.back)
 
 -- a block has more tokens than blocks are opened in it
-braced_long : (n : ℕ) (b : Lines) (us : Tokens) (d : productions.braced n b us) → opened_in b ≤ length d.second.front → 1 + opened_in b ≤ length us
+braced_long : (n : ℕ) (b : Lines) (us : Tokens) (d : productions.numbered_block n b us) → opened_in b ≤ length d.second.front → 1 + opened_in b ≤ length us
 braced_long n b us d h = omega (arith, h, ap length d.parts, length-append d.front d.back, ap length d.first.1, ap length d.second.parts, length-append d.second.front d.second.back)
 
-one_block : {p q : Tokens → Type 0} (n : ℕ) (b : Lines) (us : Tokens) (d : (p ⨾ q ⨾ productions.braced n b) us) → opened_in b ≤ length d.second.second.second.front → 1 + opened_in b ≤ length us
+one_block : {p q : Tokens → Type 0} (n : ℕ) (b : Lines) (us : Tokens) (d : (p ⨾ q ⨾ productions.numbered_block n b) us) → opened_in b ≤ length d.second.second.second.front → 1 + opened_in b ≤ length us
 one_block n b us d h = omega (arith, braced_long n b d.second.back d.second.second h, back_long d.back d.second, back_long us d)
 
-two_blocks : {p q r : Tokens → Type 0} (n m : ℕ) (b c : Lines) (us : Tokens) (d : (p ⨾ q ⨾ productions.braced n b ⨾ r ⨾ productions.braced m c) us) →
+two_blocks : {p q r : Tokens → Type 0} (n m : ℕ) (b c : Lines) (us : Tokens) (d : (p ⨾ q ⨾ productions.numbered_block n b ⨾ r ⨾ productions.numbered_block m c) us) →
     opened_in b ≤ length d.second.second.first.second.front → opened_in c ≤ length d.second.second.second.second.second.front → 1 + opened_in b + 1 + opened_in c ≤ length us
 two_blocks n m b c us d h k =
     let s = d.second.second in
     omega (arith, braced_long n b s.front s.first h, braced_long m c s.second.back s.second.second k, back_long s.back s.second, ap length s.parts, length-append s.front s.back, back_long d.back d.second, back_long us d)
 
 mutual
-  pub opened_fits : (n : ℕ) (at : Spot) (a : Action) (us : Tokens) → statement n at a us → opened a ≤ length us
+  pub opened_fits : (n : ℕ) (at : Spot) (a : Action) (us : Tokens) → statement n at a us → blocks_opened a ≤ length us
   opened_fits n at (Declares t x e) us d = omega arith
   opened_fits n at (Assigns x e) us d = omega arith
   opened_fits n at (Stores p e) us d = omega arith
@@ -392,10 +392,10 @@ mutual
 
   pub opened_in_fits : (n : ℕ) (b : Lines) (us : Tokens) → statements n b us → opened_in b ≤ length us
   opened_in_fits n End us d = omega arith
-  opened_in_fits n (Next at a rest) us d = omega (arith, opened_fits n at a d.front d.first, opened_in_fits (n + opened a) rest d.back d.second, ap length d.parts, length-append d.front d.back)
+  opened_in_fits n (Next at a rest) us d = omega (arith, opened_fits n at a d.front d.first, opened_in_fits (n + blocks_opened a) rest d.back d.second, ap length d.parts, length-append d.front d.back)
 
 -- behind a block its tokens leave room for the numbers of more
-pub braced_room : {W : Bound Lines} {F : Follow} (n most : ℕ) (ts rest : Tokens) (b : Lines) → Took (productions.braced n) W F ts b rest → n + length ts ≤ most → n + 1 + opened_in b + length rest ≤ most
+pub braced_room : {W : Bound Lines} {F : Follow} (n most : ℕ) (ts rest : Tokens) (b : Lines) → Took (productions.numbered_block n) W F ts b rest → n + length ts ≤ most → n + 1 + opened_in b + length rest ≤ most
 braced_room n most ts rest b t room =
     let s = t.derives.second in
     omega (arith, room, braced_long n b t.taken t.derives (opened_in_fits (n + 1) b s.front s.first), ap length t.whole, length-append t.taken rest)
@@ -428,7 +428,7 @@ stmt_smaller n ts rest q t = omega (arith, stmt_long n q t.taken t.derives, ap l
 is_opener : (t : Lexeme) (k : Lexical) (ts : Tokens) → Some t ≡ head ts → t.kind ≡ k → ((u : Lexeme) → u.kind ≡ k → IsOpener (Some u)) → IsOpener (head ts)
 is_opener t k ts h e f = let P : Option Lexeme → Type 0 = IsOpener in subst P h (f t e)
 
-opens_none : (n : ℕ) (at : Spot) (a : Action) (us r ts : Tokens) → statement n at a us → head (us ++ r) ≡ head ts → (IsOpener (head ts) → ⊥) → opened a ≡ 0
+opens_none : (n : ℕ) (at : Spot) (a : Action) (us r ts : Tokens) → statement n at a us → head (us ++ r) ≡ head ts → (IsOpener (head ts) → ⊥) → blocks_opened a ≡ 0
 opens_none n at (Declares t x e) us r ts d h none = refl
 opens_none n at (Assigns x e) us r ts d h none = refl
 opens_none n at (Stores p e) us r ts d h none = refl
@@ -448,9 +448,9 @@ opens_none n at (Asserts e) us r ts d h none = refl
 opens_none n at (Returns e) us r ts d h none = absurd d
 
 -- the number behind a statement that begins with no word of a block
-pub simple_number : (n : ℕ) {W : Bound (Spot × Action)} {F : Follow} (ts rest : Tokens) (q : Spot × Action) → (IsOpener (head ts) → ⊥) → Took (stmt n) W F ts q rest → n ≡ n + opened q.1
+pub simple_number : (n : ℕ) {W : Bound (Spot × Action)} {F : Follow} (ts rest : Tokens) (q : Spot × Action) → (IsOpener (head ts) → ⊥) → Took (stmt n) W F ts q rest → n ≡ n + blocks_opened q.1
 simple_number n ts rest q none t =
-    let e : opened q.1 ≡ 0 = opens_none n q.0 q.1 t.taken rest ts t.derives (ap head (sym t.whole)) none in
+    let e : blocks_opened q.1 ≡ 0 = opens_none n q.0 q.1 t.taken rest ts t.derives (ap head (sym t.whole)) none in
     omega (arith, e)
 
 -- the last word of a block that is left

@@ -10,9 +10,9 @@ use Rattle.ae_tree.specs.declared.limits.Limit.{Limit}
 use Rattle.ae_tree.specs.declared.tree.NameAt.{NameAt}
 use Rattle.ae_tree.specs.declared.tree.Path.{Path}
 use Rattle.ae_tree.specs.Plain.{Expression, Invocation, RightSide, Value, Taken, Zeros, Made, Returned}
-use Rattle.ae_tree.specs.Grammar.{Tokens, ◌⨾◌, one, one_at, name, step, path, whole, call, right_side}
-use Rattle.ae_tree.specs.Limits.{Keeps, KeepsRight}
-use Rattle.ae_tree.specs.Refused.{AreKnown}
+use Rattle.ae_tree.specs.Grammar.{Tokens, ◌⨾◌, one_token, one_at, name, path_step, path, whole_expression, call_written, right_of_equals}
+use Rattle.ae_tree.specs.Limits.{KeepsDepth, KeepsRight}
+use Rattle.ae_tree.specs.Refused.{AreSpellable}
 use Rattle.ae_reading.specs.declared.fail.Fail.{Fail}
 use Rattle.ae_reading.specs.declared.fail.Fail.TheVariants.{Refused}
 use Rattle.ae_reading.specs.declared.fail.Why.{Why}
@@ -21,8 +21,8 @@ use Rattle.ae_reading.specs.Reads.{head, Always, Free, Is, Isnt, IsName, Took, S
 use Rattle.ae_reading.proofs.ReadsLemmas.{Lang, Both, Pair, Limits, Has, Along, AreKnown-append, lead_here, failed_by, took_as, stopped_as, nowhere, io_name, After, AfterLinks, HasEach, took_after, after_first, after_second}
 use Rattle.ae_reading.proofs.Runs.{each-append, each-one}
 use Rattle.ae_reading.proofs.Begins.{not_both}
-use Rattle.ae_statements.specs.Productions.{ended, member, sized, filled, made, called, KeepsCalled}
-use Rattle.ae_statements.specs.Deciding.{IsPlain}
+use Rattle.ae_statements.specs.Productions.{with_semicolon, member, sized, filled, made_side, call_rest, KeepsCalled}
+use Rattle.ae_statements.specs.Deciding.{IsPlainSide}
 use Rattle.ae_statements.proofs.ShapeLemmas.{Lets, Pre, Suf, has_pre, has_suf, has_whole}
 use Rattle.ae_statements.proofs.CallLemmas.{none_within}
 use Rattle.ae_statements.proofs.UniqueRightSides.{joined, ints_are_no_name}
@@ -58,7 +58,7 @@ behind us f d = record { front = d.front; back = d.back; parts = d.parts; first 
 
 -- ---- paths with a step
 
-io_step : step io_name (sign_at sign.Dot ∷ io_at ∷ [])
+io_step : path_step io_name (sign_at sign.Dot ∷ io_at ∷ [])
 io_step = record { front = sign_at sign.Dot ∷ []; back = io_at ∷ []; parts = refl; first = (nowhere, refl); second = refl }
 
 abbrev io_text : Tokens
@@ -72,7 +72,7 @@ longer p us vs d = (
     back = d.back ++ io_text;
     parts = sym (append_assoc us vs io_text) ∙ ap (λ l. l ++ io_text) d.parts ∙ append_assoc d.front d.back io_text;
     first = d.first;
-    second = each-append step p.steps (io_name ∷ []) d.back io_text d.second (each-one step io_name io_text io_step);
+    second = each-append path_step p.steps (io_name ∷ []) d.back io_text d.second (each-one path_step io_name io_text io_step);
   },
 )
   where
@@ -80,7 +80,7 @@ longer p us vs d = (
     not_nil [] e = cc
     not_nil (x ∷ xs) e = cc
 
-io_known : AreKnown io_text
+io_known : AreSpellable io_text
 io_known = (tt, (refl, tt))
 
 pub member_took : (ts rest : Tokens) (p : Path) → (p.steps ≡ [] → ⊥) → Took path Free (Isnt (tok.Sign sign.Dot)) ts p rest → Took member Free (Isnt (tok.Sign sign.Dot)) ts p rest
@@ -174,7 +174,7 @@ has_member = record {
   within = λ l. tt;
 }
 
-pub ended_member : Has (ended member) Free
+pub ended_member : Has (with_semicolon member) Free
 ended_member = has_suf (tok.Sign sign.Semicolon) member tt has_member
 
 pub no_dot : Lets (tok.Sign sign.Semicolon) (Isnt (tok.Sign sign.Dot))
@@ -188,15 +188,15 @@ word_at k {at} us r ts d h =
     subst P (sym (ap (λ l. head (l ++ r)) (d.parts ∙ ap (λ l. l ++ d.back) (d.first.parts ∙ ap (λ l. l ++ d.first.back) d.first.first))) ∙ h) refl
 
 -- neither word begins an expression or a call
-plain_head : (us r ts : Tokens) → IsPlain (us ++ r) → head (us ++ r) ≡ head ts → IsPlain ts
+plain_head : (us r ts : Tokens) → IsPlainSide (us ++ r) → head (us ++ r) ≡ head ts → IsPlainSide ts
 plain_head us r ts p h =
     let P : Option Lexeme → Type 0 = λ o. (Is (tok.Word word.Take) o → ⊥) × (Is (tok.Word word.New) o → ⊥) in
     subst P h p
 
-call_plain : (c : Invocation) (us r : Tokens) → ended call c us → IsPlain (us ++ r)
+call_plain : (c : Invocation) (us r : Tokens) → with_semicolon call_written c us → IsPlainSide (us ++ r)
 call_plain c us r d =
     let t = call_elim c us d in
-    let P : Tokens → Type 0 = IsPlain in
+    let P : Tokens → Type 0 = IsPlainSide in
     subst P (sym (append_assoc t.front (t.middle ++ t.end) r) ∙ ap (λ l. l ++ r) (sym t.parts)) (path_plain (joined c.on c.method) t.front ((t.middle ++ t.end) ++ r) t.is_path)
 
 take_new : (o : Option Lexeme) → Is (tok.Word word.Take) o → Is (tok.Word word.New) o → ⊥
@@ -205,12 +205,12 @@ take_new o i j = not_both (tok.Word word.Take) (tok.Word word.New) (λ e. cc) o 
 -- ---- `take`
 
 abbrev pub taking : Lang (Spot × Path)
-taking = Both (Token (tok.Word word.Take)) (ended member)
+taking = Both (Token (tok.Word word.Take)) (with_semicolon member)
 
 abbrev pub taken : Spot × Path → RightSide
 taken q = Taken q.1 q.0
 
-take_intro : (q : Spot × Path) (us : Tokens) → taking q us → ended right_side (taken q) us
+take_intro : (q : Spot × Path) (us : Tokens) → taking q us → with_semicolon right_of_equals (taken q) us
 take_intro q us d =
     let e = d.second in
     record {
@@ -221,7 +221,7 @@ take_intro q us d =
       second = e.second;
     }
 
-take_elim : (p : Path) (at : Spot) (us : Tokens) → ended right_side (Taken p at) us → taking (at, p) us
+take_elim : (p : Path) (at : Spot) (us : Tokens) → with_semicolon right_of_equals (Taken p at) us → taking (at, p) us
 take_elim p at us d =
     let f = d.first.1 in
     record {
@@ -232,22 +232,22 @@ take_elim p at us d =
       second = record { front = f.back; back = d.back; parts = refl; first = (d.first.0, f.second); second = d.second };
     }
 
-take_cases : (ts : Tokens) → Is (tok.Word word.Take) (head ts) → (y : RightSide) (us r : Tokens) → ended right_side y us → head (us ++ r) ≡ head ts → (q : Spot × Path) × (y ≡ taken q) × taking q us
+take_cases : (ts : Tokens) → Is (tok.Word word.Take) (head ts) → (y : RightSide) (us r : Tokens) → with_semicolon right_of_equals y us → head (us ++ r) ≡ head ts → (q : Spot × Path) × (y ≡ taken q) × taking q us
 take_cases ts i (Value e) us r d h = absurd ((plain_head us r ts (value_plain e us r d) h).0 i)
 take_cases ts i (Taken p at) us r d h = ((at, p), refl, take_elim p at us d)
 take_cases ts i (Zeros e at) us r d h = absurd (take_new (head ts) i (word_at (tok.Word word.New) us r ts d h))
 take_cases ts i (Made c gs es at) us r d h = absurd (take_new (head ts) i (word_at (tok.Word word.New) us r ts d h))
 take_cases ts i (Returned c) us r d h = absurd ((plain_head us r ts (call_plain c us r d) h).0 i)
 
-pub take_along : (ts : Tokens) → Is (tok.Word word.Take) (head ts) → Along (ended right_side) taking KeepsRight (Pair Free Free) ts taken
+pub take_along : (ts : Tokens) → Is (tok.Word word.Take) (head ts) → Along (with_semicolon right_of_equals) taking KeepsRight (Pair Free Free) ts taken
 take_along ts i = record { intro = take_intro; cases = λ y us r d h. take_cases ts i y us r d h; to = λ q us d l v. tt; from = λ q us d l v. (tt, tt) }
 
 -- ---- `new`
 
 abbrev pub making : Lang (Spot × RightSide)
-making = After (Token (tok.Word word.New)) made
+making = After (Token (tok.Word word.New)) made_side
 
-made_right : (at : Spot) (y : RightSide) (us vs ws : Tokens) → one_at (tok.Word word.New) at us → made at y vs → ws ≡ us ++ vs → ended right_side y ws
+made_right : (at : Spot) (y : RightSide) (us vs ws : Tokens) → one_at (tok.Word word.New) at us → made_side at y vs → ws ≡ us ++ vs → with_semicolon right_of_equals y ws
 made_right at (Zeros e k) us vs ws d m s =
     let P : Spot → Type 0 = λ z. one_at (tok.Word word.New) z us in
     to_left ws (record { front = us; back = vs; parts = s; first = subst P (sym m.0) d; second = m.1 })
@@ -258,18 +258,18 @@ made_right at (Value e) us vs ws d m s = absurd m
 made_right at (Taken p k) us vs ws d m s = absurd m
 made_right at (Returned c) us vs ws d m s = absurd m
 
-new_cases : (ts : Tokens) → Is (tok.Word word.New) (head ts) → (y : RightSide) (us r : Tokens) → ended right_side y us → head (us ++ r) ≡ head ts → (q : Spot × RightSide) × (y ≡ q.1) × making q us
+new_cases : (ts : Tokens) → Is (tok.Word word.New) (head ts) → (y : RightSide) (us r : Tokens) → with_semicolon right_of_equals y us → head (us ++ r) ≡ head ts → (q : Spot × RightSide) × (y ≡ q.1) × making q us
 new_cases ts i (Value e) us r d h = absurd ((plain_head us r ts (value_plain e us r d) h).1 i)
 new_cases ts i (Taken p at) us r d h =
     let f : (one_at (tok.Word word.Take) at ⨾ path p) d.front = d.first.1 in
-    absurd (take_new (head ts) (word_at (tok.Word word.Take) {s = one (tok.Sign sign.Semicolon)} us r ts (record { front = d.front; back = d.back; parts = d.parts; first = f; second = d.second }) h) i)
+    absurd (take_new (head ts) (word_at (tok.Word word.Take) {s = one_token (tok.Sign sign.Semicolon)} us r ts (record { front = d.front; back = d.back; parts = d.parts; first = f; second = d.second }) h) i)
 new_cases ts i (Zeros e at) us r d h = let f = to_right us d in ((at, Zeros e at), refl, record { front = f.front; back = f.back; parts = f.parts; first = f.first; second = (refl, f.second) })
 new_cases ts i (Made c gs es at) us r d h =
     let f = to_right us d in
     ((at, Made c gs es at), refl, record { front = f.front; back = f.back; parts = f.parts; first = f.first; second = (refl, behind f.back (λ zs z. to_right zs z) (to_right f.back f.second)) })
 new_cases ts i (Returned c) us r d h = absurd ((plain_head us r ts (call_plain c us r d) h).1 i)
 
-pub new_along : (ts : Tokens) → Is (tok.Word word.New) (head ts) → Along (ended right_side) making KeepsRight (Limits Free (λ l at. KeepsRight l)) ts (λ q. q.1)
+pub new_along : (ts : Tokens) → Is (tok.Word word.New) (head ts) → Along (with_semicolon right_of_equals) making KeepsRight (Limits Free (λ l at. KeepsRight l)) ts (λ q. q.1)
 new_along ts i = record {
   intro = λ q us d. made_right q.0 q.1 d.front d.back us d.first d.second d.parts;
   cases = λ y us r d h. new_cases ts i y us r d h;
@@ -277,10 +277,10 @@ new_along ts i = record {
   from = λ q us d l v. (tt, v);
 }
 
-pub has_called : Has called KeepsCalled
+pub has_called : Has call_rest KeepsCalled
 has_called = record { tree = ([], []); tokens = closing; is = called_none; known = closing_known; within = none_within }
 
-pub has_made : HasEach made Free (λ l at. KeepsRight l)
+pub has_made : HasEach made_side Free (λ l at. KeepsRight l)
 has_made = record {
   tree = λ at. Made io_name [] [] at;
   tokens = λ at. io_at ∷ closing;
@@ -289,7 +289,7 @@ has_made = record {
   within = λ l at w. none_within l;
 }
 
-pub new_links : AfterLinks made Always Always
+pub new_links : AfterLinks made_side Always Always
 new_links at y us r d f = tt
 
 filled_name : (q : NameAt × (List NameAt × List Expression)) (us r ts : Tokens) → filled q us → head (us ++ r) ≡ head ts → IsName (head ts)
@@ -297,20 +297,20 @@ filled_name q us r ts d h =
     let P : Option Lexeme → Type 0 = IsName in
     subst P (sym (ap (λ l. head (l ++ r)) (d.parts ∙ ap (λ l. l ++ d.back) d.first)) ∙ h) (q.0.name, refl)
 
-sized_ints : (e : Expression) (us r ts : Tokens) → ended sized e us → head (us ++ r) ≡ head ts → Is (tok.Word word.Ints) (head ts)
+sized_ints : (e : Expression) (us r ts : Tokens) → with_semicolon sized e us → head (us ++ r) ≡ head ts → Is (tok.Word word.Ints) (head ts)
 sized_ints e us r ts d h =
     let P : Option Lexeme → Type 0 = Is (tok.Word word.Ints) in
     let f = d.first in
     subst P (sym (ap (λ l. head (l ++ r)) (d.parts ∙ ap (λ l. l ++ d.back) (f.parts ∙ ap (λ l. l ++ f.back) f.first.1))) ∙ h) refl
 
-zeros_cases : (at : Spot) (ts : Tokens) → Is (tok.Word word.Ints) (head ts) → (y : RightSide) (us r : Tokens) → made at y us → head (us ++ r) ≡ head ts → (e : Expression) × (y ≡ Zeros e at) × ended sized e us
+zeros_cases : (at : Spot) (ts : Tokens) → Is (tok.Word word.Ints) (head ts) → (y : RightSide) (us r : Tokens) → made_side at y us → head (us ++ r) ≡ head ts → (e : Expression) × (y ≡ Zeros e at) × with_semicolon sized e us
 zeros_cases at ts i (Zeros e k) us r d h = (e, ap (λ a. Zeros e a) d.0, d.1)
 zeros_cases at ts i (Made c gs es k) us r d h = absurd (ints_are_no_name (head ts) i (filled_name (c, (gs, es)) us r ts d.1 h))
 zeros_cases at ts i (Value e) us r d h = absurd d
 zeros_cases at ts i (Taken p k) us r d h = absurd d
 zeros_cases at ts i (Returned c) us r d h = absurd d
 
-pub zeros_along : (at : Spot) (ts : Tokens) → Is (tok.Word word.Ints) (head ts) → Along (made at) (ended sized) KeepsRight Keeps ts (λ e. Zeros e at)
+pub zeros_along : (at : Spot) (ts : Tokens) → Is (tok.Word word.Ints) (head ts) → Along (made_side at) (with_semicolon sized) KeepsRight KeepsDepth ts (λ e. Zeros e at)
 zeros_along at ts i = record { intro = λ q us d. (refl, d); cases = λ y us r d h. zeros_cases at ts i y us r d h; to = λ q us d l v. v; from = λ q us d l v. v }
 
 abbrev pub Filled : Type 0
@@ -319,37 +319,37 @@ Filled = NameAt × (List NameAt × List Expression)
 abbrev pub object_of : Spot → Filled → RightSide
 object_of at q = Made q.0 q.1.0 q.1.1 at
 
-object_cases : (at : Spot) (ts : Tokens) → (Is (tok.Word word.Ints) (head ts) → ⊥) → (y : RightSide) (us r : Tokens) → made at y us → head (us ++ r) ≡ head ts → (q : Filled) × (y ≡ object_of at q) × Both name called q us
+object_cases : (at : Spot) (ts : Tokens) → (Is (tok.Word word.Ints) (head ts) → ⊥) → (y : RightSide) (us r : Tokens) → made_side at y us → head (us ++ r) ≡ head ts → (q : Filled) × (y ≡ object_of at q) × Both name call_rest q us
 object_cases at ts i (Zeros e k) us r d h = absurd (i (sized_ints e us r ts d.1 h))
 object_cases at ts i (Made c gs es k) us r d h = ((c, (gs, es)), ap (λ a. Made c gs es a) d.0, d.1)
 object_cases at ts i (Value e) us r d h = absurd d
 object_cases at ts i (Taken p k) us r d h = absurd d
 object_cases at ts i (Returned c) us r d h = absurd d
 
-pub object_along : (at : Spot) (ts : Tokens) → (Is (tok.Word word.Ints) (head ts) → ⊥) → Along (made at) (Both name called) KeepsRight (Pair Free KeepsCalled) ts (object_of at)
+pub object_along : (at : Spot) (ts : Tokens) → (Is (tok.Word word.Ints) (head ts) → ⊥) → Along (made_side at) (Both name call_rest) KeepsRight (Pair Free KeepsCalled) ts (object_of at)
 object_along at ts i = record { intro = λ q us d. (refl, d); cases = λ y us r d h. object_cases at ts i y us r d h; to = λ q us d l v. v.1; from = λ q us d l v. (tt, v) }
 
 -- ---- the length of a new array
 
 abbrev pub parted : Lang Expression
-parted = Pre (tok.Sign sign.OpenParen) (Suf whole (tok.Sign sign.CloseParen))
+parted = Pre (tok.Sign sign.OpenParen) (Suf whole_expression (tok.Sign sign.CloseParen))
 
-pub has_closed : Has (Suf whole (tok.Sign sign.CloseParen)) Keeps
-has_closed = has_suf (tok.Sign sign.CloseParen) whole tt has_whole
+pub has_closed : Has (Suf whole_expression (tok.Sign sign.CloseParen)) KeepsDepth
+has_closed = has_suf (tok.Sign sign.CloseParen) whole_expression tt has_whole
 
-pub has_parted : Has parted Keeps
-has_parted = has_pre (tok.Sign sign.OpenParen) (Suf whole (tok.Sign sign.CloseParen)) tt has_closed
+pub has_parted : Has parted KeepsDepth
+has_parted = has_pre (tok.Sign sign.OpenParen) (Suf whole_expression (tok.Sign sign.CloseParen)) tt has_closed
 
 -- ---- what is read behind `new`
 
 abbrev new_limit : Limit → Spot → RightSide → Type 0
 new_limit l at = KeepsRight l
 
-pub new_first : (ts : Tokens) (e : Fail) → Is (tok.Word word.New) (head ts) → Failed (Token (tok.Word word.New)) Free Always ts e → Failed (ended right_side) KeepsRight Always ts e
-new_first ts e i f = failed_by (λ why left s. stopped_as (ended right_side) making (λ q. q.1) (new_along ts i) (after_first {F = Always} {G = Always} new_limit new_links has_made s)) f
+pub new_first : (ts : Tokens) (e : Fail) → Is (tok.Word word.New) (head ts) → Failed (Token (tok.Word word.New)) Free Always ts e → Failed (with_semicolon right_of_equals) KeepsRight Always ts e
+new_first ts e i f = failed_by (λ why left s. stopped_as (with_semicolon right_of_equals) making (λ q. q.1) (new_along ts i) (after_first {F = Always} {G = Always} new_limit new_links has_made s)) f
 
-pub new_second : (ts mid : Tokens) (at : Spot) (e : Fail) → Is (tok.Word word.New) (head ts) → Took (Token (tok.Word word.New)) Free Always ts at mid → Failed (made at) KeepsRight Always mid e → Failed (ended right_side) KeepsRight Always ts e
-new_second ts mid at e i t f = failed_by (λ why left s. stopped_as (ended right_side) making (λ q. q.1) (new_along ts i) (after_second new_limit new_links t s)) f
+pub new_second : (ts mid : Tokens) (at : Spot) (e : Fail) → Is (tok.Word word.New) (head ts) → Took (Token (tok.Word word.New)) Free Always ts at mid → Failed (made_side at) KeepsRight Always mid e → Failed (with_semicolon right_of_equals) KeepsRight Always ts e
+new_second ts mid at e i t f = failed_by (λ why left s. stopped_as (with_semicolon right_of_equals) making (λ q. q.1) (new_along ts i) (after_second new_limit new_links t s)) f
 
-pub new_took : (ts mid rest : Tokens) (at : Spot) (y : RightSide) → Is (tok.Word word.New) (head ts) → Took (Token (tok.Word word.New)) Free Always ts at mid → Took (made at) KeepsRight Always mid y rest → Took (ended right_side) KeepsRight Always ts y rest
-new_took ts mid rest at y i t u = took_as (ended right_side) making (λ q. q.1) (new_along ts i) (took_after new_limit new_links t u)
+pub new_took : (ts mid rest : Tokens) (at : Spot) (y : RightSide) → Is (tok.Word word.New) (head ts) → Took (Token (tok.Word word.New)) Free Always ts at mid → Took (made_side at) KeepsRight Always mid y rest → Took (with_semicolon right_of_equals) KeepsRight Always ts y rest
+new_took ts mid rest at y i t u = took_as (with_semicolon right_of_equals) making (λ q. q.1) (new_along ts i) (took_after new_limit new_links t u)

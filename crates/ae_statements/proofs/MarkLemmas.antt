@@ -10,7 +10,7 @@ use Rattle.ae_tree.specs.declared.tree.Path.{Path}
 use Rattle.ae_tree.specs.declared.tree.Op.{Op}
 use Rattle.ae_tree.specs.declared.tree.Op.TheVariants as op
 use Rattle.ae_tree.specs.Plain.{Expression, Number, Truth, Nothing, Read, Item, Length, Grouped, Negated, Minus, Binary}
-use Rattle.ae_tree.specs.Grammar.{Tokens, one, one_at, each, root, step, path, sign_of, expression}
+use Rattle.ae_tree.specs.Grammar.{Tokens, one_token, one_at, one_by_one, root, path_step, path, sign_of, expression_at}
 use Rattle.ae_tree.specs.Limits.{marks}
 use Rattle.ae_tree.specs.Refused.{is_mark, marks_in}
 
@@ -27,21 +27,21 @@ in_parts us a b e = ap marks_in e ∙ marks_in-append a b
 pub one_token : (k : Lexical) (at : Spot) (us : Tokens) → one_at k at us → marks_in us ≡ weight k + 0
 one_token k at us d = ap marks_in d
 
-one_mark : (k : Lexical) (us : Tokens) → one k us → marks_in us ≡ weight k + 0
+one_mark : (k : Lexical) (us : Tokens) → one_token k us → marks_in us ≡ weight k + 0
 one_mark k us d = one_token k d.0 us d.1
 
 root_marks : (x : NameAt) (us : Tokens) → root x us → marks_in us ≡ 0
 root_marks x us (inl d) = one_token (tok.Name x.name) x.at us d
 root_marks x us (inr d) = one_token (tok.Word word.This) x.at us d.1
 
-step_marks : (x : NameAt) (us : Tokens) → step x us → marks_in us ≡ 1
+step_marks : (x : NameAt) (us : Tokens) → path_step x us → marks_in us ≡ 1
 step_marks x us d =
     let a : marks_in us ≡ marks_in d.front + marks_in d.back = in_parts us d.front d.back d.parts in
     let b : marks_in d.front ≡ 1 = one_mark (tok.Sign sign.Dot) d.front d.first in
     let c : marks_in d.back ≡ 0 = one_token (tok.Name x.name) x.at d.back d.second in
     omega (arith, a, b, c)
 
-steps_marks : (xs : List NameAt) (us : Tokens) → each step xs us → length xs ≡ marks_in us
+steps_marks : (xs : List NameAt) (us : Tokens) → one_by_one path_step xs us → length xs ≡ marks_in us
 steps_marks [] us d = ap marks_in (sym d)
 steps_marks (x ∷ xs) us d =
     let a : marks_in us ≡ marks_in d.front + marks_in d.back = in_parts us d.front d.back d.parts in
@@ -71,12 +71,12 @@ operator_counts op.Mul = refl
 operator_counts op.Div = refl
 operator_counts op.Rem = refl
 
-truth_marks : (b : Bool) (at : Spot) (l : ℕ) (us : Tokens) → expression (Truth b at) l us → 0 ≡ marks_in us
+truth_marks : (b : Bool) (at : Spot) (l : ℕ) (us : Tokens) → expression_at (Truth b at) l us → 0 ≡ marks_in us
 truth_marks true at l us d = sym (one_token (tok.Word word.True) at us d)
 truth_marks false at l us d = sym (one_token (tok.Word word.False) at us d)
 
 -- the marks of an expression are its tokens that count
-pub expression_marks : (e : Expression) (l : ℕ) (us : Tokens) → expression e l us → marks e ≡ marks_in us
+pub expression_marks : (e : Expression) (l : ℕ) (us : Tokens) → expression_at e l us → marks e ≡ marks_in us
 expression_marks (Number n at) l us d = sym (one_token (tok.Int n) at us d)
 expression_marks (Truth b at) l us d = truth_marks b at l us d
 expression_marks (Nothing at) l us d = sym (one_token (tok.Word word.Null) at us d)

@@ -8,7 +8,7 @@ use Rattle.ae_tree.specs.declared.lexeme.Lexical.TheVariants as tok
 use Rattle.ae_tree.specs.declared.tree.NameAt.{NameAt}
 use Rattle.ae_tree.specs.declared.tree.Path.{Path}
 use Rattle.ae_tree.specs.Names.{this}
-use Rattle.ae_tree.specs.Grammar.{Tokens, Then, ◌⨾◌, one_at, name, root, step, path, each}
+use Rattle.ae_tree.specs.Grammar.{Tokens, Then, ◌⨾◌, one_at, name, root, path_step, path, one_by_one}
 use Rattle.ae_tree.specs.Refused.{IsHead, OpensBlock}
 use Rattle.ae_reading.specs.declared.fail.Fail.{Fail}
 use Rattle.ae_reading.specs.declared.fail.Why.{Why}
@@ -24,7 +24,7 @@ rooted false x = λ ts. (x.name ≡ this) × one_at (tok.Word word.This) x.at ts
 
 -- a path, and whether its first token is a name
 abbrev pub spelled : Bool × Path → Tokens → Type 0
-spelled q = rooted q.0 q.1.root ⨾ each step q.1.steps
+spelled q = rooted q.0 q.1.root ⨾ one_by_one path_step q.1.steps
 
 -- whether the next token is a name, where it is that or `this`
 abbrev pub Named : Bool → Option Lexeme → Type 0

@@ -11,11 +11,11 @@ use Rattle.ae_tree.specs.declared.limits.Limit.TheVariants as limit
 use Rattle.ae_tree.specs.declared.tree.Op.{Op}
 use Rattle.ae_tree.specs.declared.tree.Op.TheVariants as op
 use Rattle.ae_tree.specs.Plain.{Number}
-use Rattle.ae_tree.specs.Grammar.{Tokens, ◌⨾◌, one, sign_of, whole}
-use Rattle.ae_tree.specs.Limits.{Keeps}
+use Rattle.ae_tree.specs.Grammar.{Tokens, ◌⨾◌, one_token, sign_of, whole_expression}
+use Rattle.ae_tree.specs.Limits.{KeepsDepth}
 use Rattle.ae_tree.specs.Refused.{IsKnown, counts_sign}
 use Rattle.ae_reading.specs.declared.fail.Fail.{Fail}
-use Rattle.ae_reading.specs.Reads.{head, Always, Free, Took, Failed, Token, Mark}
+use Rattle.ae_reading.specs.Reads.{head, Always, Free, Took, Failed, Token, TokenMark}
 use Rattle.ae_reading.proofs.ReadsLemmas.{Lang, Bound, Follow, Links, Both, Pair, Has, Along, AreKnown-append, took_as, failed_as, first, second, both, free, took_mark, failed_mark, has_mark, nowhere, at_once}
 use Rattle.ae_reading.proofs.Begins.{Opens}
 use Rattle.ae_expressions.specs.Ends.{Ends}
@@ -23,9 +23,9 @@ use Rattle.ae_expressions.specs.Ends.{Ends}
 -- ---- a token before a part
 
 abbrev pub Pre : {A : Type 0} → Lexical → Lang A → Lang A
-Pre k D x = one k ⨾ D x
+Pre k D x = one_token k ⨾ D x
 
-pre_along : {A : Type 0} (k : Lexical) (D : Lang A) (W : Bound A) (ts : Tokens) → Along (Pre k D) (Both (Mark k) D) W (Pair Free W) ts (λ q. q.1)
+pre_along : {A : Type 0} (k : Lexical) (D : Lang A) (W : Bound A) (ts : Tokens) → Along (Pre k D) (Both (TokenMark k) D) W (Pair Free W) ts (λ q. q.1)
 pre_along k D W ts = record {
   intro = λ q us d. d;
   cases = λ y us r d h. ((tt, y), refl, d);
@@ -35,15 +35,15 @@ pre_along k D W ts = record {
 
 pub took_pre : {A : Type 0} {k : Lexical} (D : Lang A) {W : Bound A} {F : Follow} {ts mid rest : Tokens} {at : Spot} {x : A} →
     Took (Token k) Free Always ts at mid → Took D W F mid x rest → Took (Pre k D) W F ts x rest
-took_pre {A} {k} D {W} {F} {ts} t u = took_as (Pre k D) (Both (Mark k) D) (λ q. q.1) (pre_along k D W ts) (both (free D F) (took_mark t) u)
+took_pre {A} {k} D {W} {F} {ts} t u = took_as (Pre k D) (Both (TokenMark k) D) (λ q. q.1) (pre_along k D W ts) (both (free D F) (took_mark t) u)
 
 pub pre_first : {A : Type 0} {k : Lexical} (D : Lang A) {W : Bound A} {F : Follow} {ts : Tokens} {e : Fail} →
     Has D W → Failed (Token k) Free Always ts e → Failed (Pre k D) W F ts e
-pre_first {A} {k} D {W} {F} {ts} has f = failed_as (Pre k D) (Both (Mark k) D) (λ q. q.1) (pre_along k D W ts) (first {F = Always} {G = F} (free D F) has (failed_mark f))
+pre_first {A} {k} D {W} {F} {ts} has f = failed_as (Pre k D) (Both (TokenMark k) D) (λ q. q.1) (pre_along k D W ts) (first {F = Always} {G = F} (free D F) has (failed_mark f))
 
 pub pre_second : {A : Type 0} {k : Lexical} (D : Lang A) {W : Bound A} {F : Follow} {ts mid : Tokens} {at : Spot} {e : Fail} →
     Took (Token k) Free Always ts at mid → Failed D W F mid e → Failed (Pre k D) W F ts e
-pre_second {A} {k} D {W} {F} {ts} t f = failed_as (Pre k D) (Both (Mark k) D) (λ q. q.1) (pre_along k D W ts) (second (free D F) (took_mark t) f)
+pre_second {A} {k} D {W} {F} {ts} t f = failed_as (Pre k D) (Both (TokenMark k) D) (λ q. q.1) (pre_along k D W ts) (second (free D F) (took_mark t) f)
 
 pub has_pre : {A : Type 0} (k : Lexical) (D : Lang A) {W : Bound A} → IsKnown k → Has D W → Has (Pre k D) W
 has_pre k D known x = record {
@@ -57,9 +57,9 @@ has_pre k D known x = record {
 -- ---- a token behind a part
 
 abbrev pub Suf : {A : Type 0} → Lang A → Lexical → Lang A
-Suf D k x = D x ⨾ one k
+Suf D k x = D x ⨾ one_token k
 
-suf_along : {A : Type 0} (k : Lexical) (D : Lang A) (W : Bound A) (ts : Tokens) → Along (Suf D k) (Both D (Mark k)) W (Pair W Free) ts (λ q. q.0)
+suf_along : {A : Type 0} (k : Lexical) (D : Lang A) (W : Bound A) (ts : Tokens) → Along (Suf D k) (Both D (TokenMark k)) W (Pair W Free) ts (λ q. q.0)
 suf_along k D W ts = record {
   intro = λ q us d. d;
   cases = λ y us r d h. ((y, tt), refl, d);
@@ -71,20 +71,20 @@ suf_along k D W ts = record {
 abbrev pub Lets : Lexical → Follow → Type 0
 Lets k F = (t : Lexeme) → t.kind ≡ k → F (Some t)
 
-mark_lets : {k : Lexical} (F : Follow) → Lets k F → Links (Mark k) Always F
+mark_lets : {k : Lexical} (F : Follow) → Lets k F → Links (TokenMark k) Always F
 mark_lets {k} F lets y us r d f = let P : Tokens → Type 0 = λ v. F (head (v ++ r)) in subst P (sym d.1) (lets (record { kind = k; at = d.0 }) refl)
 
 pub took_suf : {A : Type 0} {k : Lexical} (D : Lang A) {W : Bound A} {F : Follow} {ts mid rest : Tokens} {at : Spot} {x : A} →
     Lets k F → Took D W F ts x mid → Took (Token k) Free Always mid at rest → Took (Suf D k) W Always ts x rest
-took_suf {A} {k} D {W} {F} {ts} lets t u = took_as (Suf D k) (Both D (Mark k)) (λ q. q.0) (suf_along k D W ts) (both (mark_lets F lets) t (took_mark u))
+took_suf {A} {k} D {W} {F} {ts} lets t u = took_as (Suf D k) (Both D (TokenMark k)) (λ q. q.0) (suf_along k D W ts) (both (mark_lets F lets) t (took_mark u))
 
 pub suf_first : {A : Type 0} {k : Lexical} (D : Lang A) {W : Bound A} {F : Follow} {ts : Tokens} {e : Fail} →
     Lets k F → IsKnown k → Failed D W F ts e → Failed (Suf D k) W Always ts e
-suf_first {A} {k} D {W} {F} {ts} lets known f = failed_as (Suf D k) (Both D (Mark k)) (λ q. q.0) (suf_along k D W ts) (first (mark_lets F lets) (has_mark k known) f)
+suf_first {A} {k} D {W} {F} {ts} lets known f = failed_as (Suf D k) (Both D (TokenMark k)) (λ q. q.0) (suf_along k D W ts) (first (mark_lets F lets) (has_mark k known) f)
 
 pub suf_second : {A : Type 0} {k : Lexical} (D : Lang A) {W : Bound A} {F : Follow} {ts mid : Tokens} {x : A} {e : Fail} →
     Lets k F → Took D W F ts x mid → Failed (Token k) Free Always mid e → Failed (Suf D k) W Always ts e
-suf_second {A} {k} D {W} {F} {ts} lets t f = failed_as (Suf D k) (Both D (Mark k)) (λ q. q.0) (suf_along k D W ts) (second (mark_lets F lets) t (failed_mark f))
+suf_second {A} {k} D {W} {F} {ts} lets t f = failed_as (Suf D k) (Both D (TokenMark k)) (λ q. q.0) (suf_along k D W ts) (second (mark_lets F lets) t (failed_mark f))
 
 pub has_suf : {A : Type 0} (k : Lexical) (D : Lang A) {W : Bound A} → IsKnown k → Has D W → Has (Suf D k) W
 has_suf k D known x = record {
@@ -133,12 +133,12 @@ sign_ends g no_mark t e = (
 pub begins_lets : {k : Lexical} (F : Follow) (us r : Tokens) → Lets k F → Opens us r k → F (head (us ++ r))
 begins_lets {k} F us r lets b = let P : Option Lexeme → Type 0 = F in subst P (sym b.front) (lets b.token b.kind)
 
-none_keeps : (l : Limit) → Keeps l (Number (pos 0) nowhere)
+none_keeps : (l : Limit) → KeepsDepth l (Number (pos 0) nowhere)
 none_keeps limit.Statements = tt
 none_keeps limit.Levels = tt
 none_keeps limit.Depth = omega arith
 none_keeps limit.Params = tt
 
 -- the number 0
-pub has_whole : Has whole Keeps
+pub has_whole : Has whole_expression KeepsDepth
 has_whole = record { tree = Number (pos 0) nowhere; tokens = at_once (tok.Int (pos 0)); is = refl; known = (tt, tt); within = none_keeps }

@@ -9,19 +9,19 @@ use Rattle.ae_tree.specs.declared.lexeme.Lexical.TheVariants as tok
 use Rattle.ae_tree.specs.declared.tree.NameAt.{NameAt}
 use Rattle.ae_tree.specs.declared.tree.Path.{Path}
 use Rattle.ae_tree.specs.Plain.{Expression, Invocation, RightSide, Value, Taken, Zeros, Made, Returned}
-use Rattle.ae_tree.specs.Grammar.{Tokens, ◌⨾◌, one, one_at, each, name, root, step, path, groups, arguments, call, whole, right_side}
+use Rattle.ae_tree.specs.Grammar.{Tokens, ◌⨾◌, one_token, one_at, one_by_one, name, root, path_step, path, groups, arguments, call_written, whole_expression, right_of_equals}
 use Rattle.ae_reading.specs.Reads.{head, Always, Is, Isnt, IsName}
 use Rattle.ae_reading.proofs.ReadsLemmas.{Both}
 use Rattle.ae_reading.proofs.UniquePaths.{IsRoot, begins_path, unique_root, unique_path}
 use Rattle.ae_reading.proofs.Runs.{each-append, each-one}
-use Rattle.ae_statements.specs.Productions.{ended, called, invoked, receiver_of, last, but_last}
-use Rattle.ae_statements.specs.Deciding.{IsCallable, IsCallTail, IsPlain, Steps, AllSteps}
+use Rattle.ae_statements.specs.Productions.{with_semicolon, call_rest, invoked, receiver_of, last, but_last}
+use Rattle.ae_statements.specs.Deciding.{IsCallable, IsCallTail, IsPlainSide, Steps, AllSteps}
 use Rattle.ae_statements.proofs.UniqueRightSides.{joined, call_parts, call_tail, call_isnt, joined_on, joined_method}
 
 abbrev pub Dot : Lexical
 Dot = tok.Sign sign.Dot
 
-pub one_of : (k : Lexical) (t : Lexeme) → t.kind ≡ k → one k (t ∷ [])
+pub one_of : (k : Lexical) (t : Lexeme) → t.kind ≡ k → one_token k (t ∷ [])
 one_of k t e = (t.at, ap (λ j. record { kind = j; at = t.at } ∷ []) e)
 
 pub name_of : (t : Lexeme) (m : ℕ) → t.kind ≡ tok.Name m → name (record { name = m; at = t.at }) (t ∷ [])
@@ -37,11 +37,11 @@ record LastStep (x : NameAt) (xs : List NameAt) (us : Tokens) : Type 0 where
   dot : Tokens
   field : Tokens
   parts : us ≡ front ++ (dot ++ field)
-  steps : each step (but_last x xs) front
-  is_dot : one (tok.Sign sign.Dot) dot
+  steps : one_by_one path_step (but_last x xs) front
+  is_dot : one_token (tok.Sign sign.Dot) dot
   is_field : name (last x xs) field
 
-last_step : (x : NameAt) (xs : List NameAt) (us : Tokens) → each step (x ∷ xs) us → LastStep x xs us
+last_step : (x : NameAt) (xs : List NameAt) (us : Tokens) → one_by_one path_step (x ∷ xs) us → LastStep x xs us
 last_step x [] us d = record {
   front = [];
   dot = d.first.front;
@@ -63,7 +63,7 @@ last_step x (y ∷ ys) us d =
       is_field = q.is_field;
     }
 
-pub callable_steps : (r x : NameAt) (xs : List NameAt) (us vs : Tokens) → root r us → each step (x ∷ xs) vs → IsCallable (record { root = r; steps = x ∷ xs }) (us ++ vs)
+pub callable_steps : (r x : NameAt) (xs : List NameAt) (us vs : Tokens) → root r us → one_by_one path_step (x ∷ xs) vs → IsCallable (record { root = r; steps = x ∷ xs }) (us ++ vs)
 callable_steps r x xs us vs d e =
     let q = last_step x xs vs e in
     record {
@@ -84,7 +84,7 @@ abbrev pub Called : Type 0
 Called = List NameAt × List Expression
 
 -- a path that may be called, and what stands behind it, are a call
-pub call_intro : (p : Path) (q : Called) (ps qs : Tokens) → IsCallable p ps → called q qs → ended call (invoked p q) (ps ++ qs)
+pub call_intro : (p : Path) (q : Called) (ps qs : Tokens) → IsCallable p ps → call_rest q qs → with_semicolon call_written (invoked p q) (ps ++ qs)
 call_intro p q ps qs k d =
     let e = d.second in
     record {
@@ -115,9 +115,9 @@ pub record CallText (c : Invocation) (us : Tokens) : Type 0 where
   pub parts : us ≡ front ++ (middle ++ end)
   pub is_path : path (joined c.on c.method) front
   pub given : Both groups arguments (c.groups, c.args) middle
-  pub is_called : called (c.groups, c.args) (middle ++ end)
+  pub is_called : call_rest (c.groups, c.args) (middle ++ end)
 
-pub call_elim : (c : Invocation) (us : Tokens) → ended call c us → CallText c us
+pub call_elim : (c : Invocation) (us : Tokens) → with_semicolon call_written c us → CallText c us
 call_elim c us d =
     let q = call_parts c d.front d.first in
     let g = q.second in
@@ -148,10 +148,10 @@ pub record Behind (c : Invocation) (p : Path) (r other : Tokens) : Type 0 where
   pub callee : joined c.on c.method ≡ p
   pub text : Tokens
   pub same : text ++ r ≡ other
-  pub is_called : called (c.groups, c.args) text
+  pub is_called : call_rest (c.groups, c.args) text
   pub tail : IsCallTail other
 
-pub call_behind : (c : Invocation) (us r : Tokens) (p : Path) (ps other : Tokens) → ended call c us → us ++ r ≡ ps ++ other → path p ps → Isnt (tok.Sign sign.Dot) (head other) → Behind c p r other
+pub call_behind : (c : Invocation) (us r : Tokens) (p : Path) (ps other : Tokens) → with_semicolon call_written c us → us ++ r ≡ ps ++ other → path p ps → Isnt (tok.Sign sign.Dot) (head other) → Behind c p r other
 call_behind c us r p ps other d e q no_dot =
     let t = call_elim c us d in
     let all : t.front ++ (t.middle ++ (t.end ++ r)) ≡ ps ++ other =
@@ -169,7 +169,7 @@ call_behind c us r p ps other d e q no_dot =
 -- ---- what right sides begin with
 
 abbrev pub PlainSide : RightSide → Tokens → Type 0
-PlainSide y us = ((e : Expression) × (y ≡ Value e) × ended whole e us) ⊎ ((c : Invocation) × (y ≡ Returned c) × ended call c us)
+PlainSide y us = ((e : Expression) × (y ≡ Value e) × with_semicolon whole_expression e us) ⊎ ((c : Invocation) × (y ≡ Returned c) × with_semicolon call_written c us)
 
 begins_at : {k : Lexical} {at : Spot} {q s : Tokens → Type 0} (us r z : Tokens) → ((one_at k at ⨾ q) ⨾ s) us → us ++ r ≡ z → Is k (head z)
 begins_at {k} {at} us r z d e =
@@ -177,11 +177,11 @@ begins_at {k} {at} us r z d e =
     subst P (sym (ap (λ l. l ++ r) (d.parts ∙ ap (λ l. l ++ d.back) (d.first.parts ∙ ap (λ l. l ++ d.first.back) d.first.first))) ∙ e) refl
 
 -- a right side that begins with neither `take` nor `new` is an expression or a call
-pub plain_side : (y : RightSide) (us r z : Tokens) → ended right_side y us → us ++ r ≡ z → IsPlain z → PlainSide y us
+pub plain_side : (y : RightSide) (us r z : Tokens) → with_semicolon right_of_equals y us → us ++ r ≡ z → IsPlainSide z → PlainSide y us
 plain_side (Value e) us r z d same plain = inl (e, refl, d)
 plain_side (Taken p at) us r z d same plain =
     let f : (one_at (tok.Word word.Take) at ⨾ path p) d.front = d.first.1 in
-    absurd (plain.0 (begins_at {s = one (tok.Sign sign.Semicolon)} us r z (record { front = d.front; back = d.back; parts = d.parts; first = f; second = d.second }) same))
+    absurd (plain.0 (begins_at {s = one_token (tok.Sign sign.Semicolon)} us r z (record { front = d.front; back = d.back; parts = d.parts; first = f; second = d.second }) same))
 plain_side (Zeros e at) us r z d same plain = absurd (plain.1 (begins_at us r z d same))
 plain_side (Made c gs es at) us r z d same plain = absurd (plain.1 (begins_at us r z d same))
 plain_side (Returned c) us r z d same plain = inr (c, refl, d)
@@ -192,12 +192,12 @@ root_no_word (Some t) (inl i) = ((λ h. let e : tok.Name i.0 ≡ tok.Word word.T
 root_no_word (Some t) (inr i) = ((λ h. let e : tok.Word word.This ≡ tok.Word word.Take = sym i ∙ h in cc), (λ h. let e : tok.Word word.This ≡ tok.Word word.New = sym i ∙ h in cc))
 
 -- a path begins with neither
-pub path_plain : (p : Path) (ps other : Tokens) → path p ps → IsPlain (ps ++ other)
+pub path_plain : (p : Path) (ps other : Tokens) → path p ps → IsPlainSide (ps ++ other)
 path_plain p ps other d = root_no_word (head (ps ++ other)) (begins_path p ps other d)
 
 -- ---- a path behind which a `.` stands
 
-each_goes : (xs ys : List NameAt) (us vs z other : Tokens) (d : Lexeme) → each step xs us → each step ys vs → us ++ z ≡ vs ++ (d ∷ other) → d.kind ≡ tok.Sign sign.Dot → Isnt (tok.Sign sign.Dot) (head z) → IsName (head other)
+each_goes : (xs ys : List NameAt) (us vs z other : Tokens) (d : Lexeme) → one_by_one path_step xs us → one_by_one path_step ys vs → us ++ z ≡ vs ++ (d ∷ other) → d.kind ≡ tok.Sign sign.Dot → Isnt (tok.Sign sign.Dot) (head z) → IsName (head other)
 each_goes [] [] us vs z other d e f same k n =
     let P : Option Lexeme → Type 0 = Isnt Dot in
     let all : z ≡ d ∷ other = sym (ap (λ l. l ++ z) e) ∙ same ∙ ap (λ l. l ++ (d ∷ other)) f in
@@ -241,7 +241,7 @@ path_goes p q us vs z other d e f same k n =
     let o = unique_root p.root q.root e.front f.front (e.back ++ z) (f.back ++ (d ∷ other)) e.first f.first all tt tt in
     each_goes p.steps q.steps e.back f.back z other d e.second f.second o.1 k n
 
-pub call_goes : (c : Invocation) (us r : Tokens) (p : Path) (ps other : Tokens) (d : Lexeme) → ended call c us → us ++ r ≡ ps ++ (d ∷ other) → path p ps → d.kind ≡ tok.Sign sign.Dot → IsName (head other)
+pub call_goes : (c : Invocation) (us r : Tokens) (p : Path) (ps other : Tokens) (d : Lexeme) → with_semicolon call_written c us → us ++ r ≡ ps ++ (d ∷ other) → path p ps → d.kind ≡ tok.Sign sign.Dot → IsName (head other)
 call_goes c us r p ps other d e same q k =
     let t = call_elim c us e in
     let all : t.front ++ (t.middle ++ (t.end ++ r)) ≡ ps ++ (d ∷ other) =
@@ -255,7 +255,7 @@ pub record Through (ts rest : Tokens) : Type 0 where
   pub fields : List NameAt
   pub taken : Tokens
   pub whole : ts ≡ taken ++ rest
-  pub are : each step fields taken
+  pub are : one_by_one path_step fields taken
 
 pub through_none : (ts : Tokens) → Through ts ts
 through_none ts = record { fields = []; taken = []; whole = refl; are = refl }
@@ -263,13 +263,13 @@ through_none ts = record { fields = []; taken = []; whole = refl; are = refl }
 pub through_more : (ts rest later : Tokens) → Through ts rest → Steps rest later → Through ts later
 through_more ts rest later t s =
     let x : NameAt = record { name = s.number; at = s.field.at } in
-    let one : each step (x ∷ []) (s.dot ∷ s.field ∷ []) = each-one step x (s.dot ∷ s.field ∷ [])
+    let one_token : one_by_one path_step (x ∷ []) (s.dot ∷ s.field ∷ []) = each-one path_step x (s.dot ∷ s.field ∷ [])
     (record { front = s.dot ∷ []; back = s.field ∷ []; parts = refl; first = one_of Dot s.dot s.is_dot; second = name_of s.field s.number s.is_name }) in
     record {
       fields = t.fields ++ x ∷ [];
       taken = t.taken ++ (s.dot ∷ s.field ∷ []);
       whole = t.whole ∙ ap (λ l. t.taken ++ l) s.whole ∙ sym (append_assoc t.taken (s.dot ∷ s.field ∷ []) later);
-      are = each-append step t.fields (x ∷ []) t.taken (s.dot ∷ s.field ∷ []) t.are one;
+      are = each-append path_step t.fields (x ∷ []) t.taken (s.dot ∷ s.field ∷ []) t.are one_token;
     }
 
 pub through_smaller : (rest later : Tokens) → Steps rest later → length later < length rest

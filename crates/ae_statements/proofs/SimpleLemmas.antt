@@ -12,14 +12,14 @@ use Rattle.ae_tree.specs.declared.tree.NameAt.{NameAt}
 use Rattle.ae_tree.specs.declared.tree.Ty.{Ty}
 use Rattle.ae_tree.specs.Plain.{Expression, RightSide, Value}
 use Rattle.ae_tree.specs.Plain.{Action, Declares, Assigns, Stores, StoresAt, Calls, Chooses, ChoosesElse, Repeats, Groups, Splits, Locks, Freezes, Shares, Prints, PrintsText, Asserts, Returns}
-use Rattle.ae_tree.specs.Grammar.{Tokens, name, type_, whole, right_side, statement}
-use Rattle.ae_tree.specs.Limits.{Keeps, KeepsRight, KeepsIn}
+use Rattle.ae_tree.specs.Grammar.{Tokens, name, type_, whole_expression, right_of_equals, statement}
+use Rattle.ae_tree.specs.Limits.{KeepsDepth, KeepsRight, KeepsIn}
 use Rattle.ae_reading.specs.declared.fail.Fail.{Fail}
 use Rattle.ae_reading.specs.declared.fail.Why.TheVariants.{Unexpected}
 use Rattle.ae_reading.specs.Reads.{head, Always, Free, Is, Isnt, Took, Stopped, Failed, Token}
 use Rattle.ae_reading.proofs.ReadsLemmas.{Lang, Bound, Links, Both, Pair, Has, Along, NoneAt, took_as, failed_as, has_both, has_name, stopped_here, nowhere, at_once, took_before, failed_before}
 use Rattle.ae_reading.proofs.Begins.{opens_at, opens_isnt}
-use Rattle.ae_statements.specs.Productions.{ended, value, text, printed, IsText, KeepsPrinted, stmt, KeepsStmt, NoElse}
+use Rattle.ae_statements.specs.Productions.{with_semicolon, local_value, text, print_operand, IsText, KeepsPrinted, stmt, KeepsStmt, NoElse}
 use Rattle.ae_statements.proofs.ShapeLemmas.{Pre, has_pre, has_suf, has_whole}
 use Rattle.ae_statements.proofs.CallLemmas.{no_whole}
 use Rattle.ae_statements.proofs.FormLemmas.{Formed, formed}
@@ -39,14 +39,14 @@ semicolon = tok.Sign sign.Semicolon
 
 -- ---- completions
 
-pub has_ended : {A : Type 0} (D : Lang A) {W : Bound A} → Has D W → Has (ended D) W
+pub has_ended : {A : Type 0} (D : Lang A) {W : Bound A} → Has D W → Has (with_semicolon D) W
 has_ended D x = has_suf semicolon D tt x
 
-pub has_right_side : Has right_side KeepsRight
+pub has_right_side : Has right_of_equals KeepsRight
 has_right_side = record { tree = Value has_whole.tree; tokens = has_whole.tokens; is = has_whole.is; known = has_whole.known; within = has_whole.within }
 
-pub has_value : Has value KeepsRight
-has_value = has_pre (tok.Sign sign.Assign) (ended right_side) tt (has_ended right_side has_right_side)
+pub has_value : Has local_value KeepsRight
+has_value = has_pre (tok.Sign sign.Assign) (with_semicolon right_of_equals) tt (has_ended right_of_equals has_right_side)
 
 -- ---- a new local
 
@@ -54,7 +54,7 @@ abbrev pub Declaration : Type 0
 Declaration = Spot × (Ty × (NameAt × RightSide))
 
 abbrev pub declaration : Lang Declaration
-declaration = Both (Token (tok.Word word.Let)) (Both type_ (Both name value))
+declaration = Both (Token (tok.Word word.Let)) (Both type_ (Both name local_value))
 
 abbrev pub declaration_limit : Bound Declaration
 declaration_limit = Pair Free (Pair Free (Pair Free KeepsRight))
@@ -73,17 +73,17 @@ declaration_along n levels ts is = record {
   from = λ q us d l v. (tt, (tt, (tt, v)));
 }
 
-pub has_bound : Has (Both name value) (Pair Free KeepsRight)
+pub has_bound : Has (Both name local_value) (Pair Free KeepsRight)
 has_bound = has_both has_name has_value
 
-pub has_typed : Has (Both type_ (Both name value)) (Pair Free (Pair Free KeepsRight))
+pub has_typed : Has (Both type_ (Both name local_value)) (Pair Free (Pair Free KeepsRight))
 has_typed = has_both has_type has_bound
 
 name_no_less : (n : ℕ) → tok.Name n ≡ tok.Sign sign.Less → ⊥
 name_no_less n e = cc
 
 -- a name may follow a type
-pub name_follows : Links (Both name value) Always (Isnt (tok.Sign sign.Less))
+pub name_follows : Links (Both name local_value) Always (Isnt (tok.Sign sign.Less))
 name_follows y us r d f = opens_isnt us r (opens_at us r d) (name_no_less y.0.name)
 
 -- ---- a word, and one part that ends by itself
@@ -94,10 +94,10 @@ Worded w E = Both (Token (tok.Word w)) E
 abbrev pub grouped : Spot × NameAt → Spot × Action
 grouped q = (q.0, Groups q.1)
 
-grouped_cases : (n : ℕ) (y : Spot × Action) (us : Tokens) → stmt n y us → Formed (tok.Word word.Group) y.1 → (q : Spot × NameAt) × (y ≡ grouped q) × Worded word.Group (ended name) q us
+grouped_cases : (n : ℕ) (y : Spot × Action) (us : Tokens) → stmt n y us → Formed (tok.Word word.Group) y.1 → (q : Spot × NameAt) × (y ≡ grouped q) × Worded word.Group (with_semicolon name) q us
 grouped_cases n y us d f = ((y.0, f.0), ap (λ a. (y.0, a)) f.1, (let P : Action → Type 0 = λ a. statement n y.0 a us in subst P f.1 d))
 
-pub group_along : (n levels : ℕ) (ts : Tokens) → Is (tok.Word word.Group) (head ts) → Along (stmt n) (Worded word.Group (ended name)) (KeepsStmt levels) (Pair Free Free) ts grouped
+pub group_along : (n levels : ℕ) (ts : Tokens) → Is (tok.Word word.Group) (head ts) → Along (stmt n) (Worded word.Group (with_semicolon name)) (KeepsStmt levels) (Pair Free Free) ts grouped
 group_along n levels ts is = record {
   intro = λ q us d. d;
   cases = λ y us r d h. grouped_cases n y us d (formed (tok.Word word.Group) n y us r ts d h is);
@@ -108,10 +108,10 @@ group_along n levels ts is = record {
 abbrev pub frozen : Spot × NameAt → Spot × Action
 frozen q = (q.0, Freezes q.1)
 
-frozen_cases : (n : ℕ) (y : Spot × Action) (us : Tokens) → stmt n y us → Formed (tok.Word word.Freeze) y.1 → (q : Spot × NameAt) × (y ≡ frozen q) × Worded word.Freeze (ended name) q us
+frozen_cases : (n : ℕ) (y : Spot × Action) (us : Tokens) → stmt n y us → Formed (tok.Word word.Freeze) y.1 → (q : Spot × NameAt) × (y ≡ frozen q) × Worded word.Freeze (with_semicolon name) q us
 frozen_cases n y us d f = ((y.0, f.0), ap (λ a. (y.0, a)) f.1, (let P : Action → Type 0 = λ a. statement n y.0 a us in subst P f.1 d))
 
-pub freezing_along : (n levels : ℕ) (ts : Tokens) → Is (tok.Word word.Freeze) (head ts) → Along (stmt n) (Worded word.Freeze (ended name)) (KeepsStmt levels) (Pair Free Free) ts frozen
+pub freezing_along : (n levels : ℕ) (ts : Tokens) → Is (tok.Word word.Freeze) (head ts) → Along (stmt n) (Worded word.Freeze (with_semicolon name)) (KeepsStmt levels) (Pair Free Free) ts frozen
 freezing_along n levels ts is = record {
   intro = λ q us d. d;
   cases = λ y us r d h. frozen_cases n y us d (formed (tok.Word word.Freeze) n y us r ts d h is);
@@ -122,10 +122,10 @@ freezing_along n levels ts is = record {
 abbrev pub asserted : Spot × Expression → Spot × Action
 asserted q = (q.0, Asserts q.1)
 
-asserted_cases : (n : ℕ) (y : Spot × Action) (us : Tokens) → stmt n y us → Formed (tok.Word word.Assert) y.1 → (q : Spot × Expression) × (y ≡ asserted q) × Worded word.Assert (ended whole) q us
+asserted_cases : (n : ℕ) (y : Spot × Action) (us : Tokens) → stmt n y us → Formed (tok.Word word.Assert) y.1 → (q : Spot × Expression) × (y ≡ asserted q) × Worded word.Assert (with_semicolon whole_expression) q us
 asserted_cases n y us d f = ((y.0, f.0), ap (λ a. (y.0, a)) f.1, (let P : Action → Type 0 = λ a. statement n y.0 a us in subst P f.1 d))
 
-pub assertion_along : (n levels : ℕ) (ts : Tokens) → Is (tok.Word word.Assert) (head ts) → Along (stmt n) (Worded word.Assert (ended whole)) (KeepsStmt levels) (Pair Free Keeps) ts asserted
+pub assertion_along : (n levels : ℕ) (ts : Tokens) → Is (tok.Word word.Assert) (head ts) → Along (stmt n) (Worded word.Assert (with_semicolon whole_expression)) (KeepsStmt levels) (Pair Free KeepsDepth) ts asserted
 assertion_along n levels ts is = record {
   intro = λ q us d. d;
   cases = λ y us r d h. asserted_cases n y us d (formed (tok.Word word.Assert) n y us r ts d h is);
@@ -136,7 +136,7 @@ assertion_along n levels ts is = record {
 -- ---- a local that is shared
 
 abbrev pub into : Lang NameAt
-into = Pre (tok.Word word.Into) (ended name)
+into = Pre (tok.Word word.Into) (with_semicolon name)
 
 abbrev pub sharing : Lang (Spot × (NameAt × NameAt))
 sharing = Worded word.Share (Both name into)
@@ -159,7 +159,7 @@ sharing_along n levels ts is = record {
 }
 
 pub has_into : Has into Free
-has_into = has_pre (tok.Word word.Into) (ended name) tt (has_ended name has_name)
+has_into = has_pre (tok.Word word.Into) (with_semicolon name) tt (has_ended name has_name)
 
 pub has_shared : Has (Both name into) (Pair Free Free)
 has_shared = has_both has_name has_into
@@ -220,7 +220,7 @@ other_text ts rest t e other i = let P : Tokens → Type 0 = λ l. IsText (head 
 pub text_other : (ts rest : Tokens) (t : Lexeme) → ts ≡ t ∷ rest → ((s : List ℕ) → t.kind ≡ tok.Text s → ⊥) → Stopped text Free Always ts Unexpected (length ts)
 text_other ts rest t e other = text_stopped ts (other_text ts rest t e other)
 
-printed_cases : (y : Action) (us : Tokens) → printed y us → ((e : Expression) × (y ≡ Prints e) × ended whole e us) ⊎ ((s : List ℕ) × (y ≡ PrintsText s) × ended text s us)
+printed_cases : (y : Action) (us : Tokens) → print_operand y us → ((e : Expression) × (y ≡ Prints e) × with_semicolon whole_expression e us) ⊎ ((s : List ℕ) × (y ≡ PrintsText s) × with_semicolon text s us)
 printed_cases (Prints e) us d = inl (e, refl, d)
 printed_cases (PrintsText s) us d = inr (s, refl, d)
 printed_cases (Declares t x e) us d = absurd d
@@ -240,7 +240,7 @@ printed_cases (Asserts e) us d = absurd d
 printed_cases (Returns e) us d = absurd d
 
 -- no expression begins with a text
-no_expression : (e : Expression) (us r ts : Tokens) → ended whole e us → head (us ++ r) ≡ head ts → IsText (head ts) → ⊥
+no_expression : (e : Expression) (us r ts : Tokens) → with_semicolon whole_expression e us → head (us ++ r) ≡ head ts → IsText (head ts) → ⊥
 no_expression e us r ts d h is = at_text (head ts) is refl
   where
     at_text : (o : Option Lexeme) → IsText o → o ≡ head ts → ⊥
@@ -249,20 +249,20 @@ no_expression e us r ts d h is = at_text (head ts) is refl
         let P : Option Lexeme → Type 0 = Is (tok.Text i.0) in
         no_whole (tok.Text i.0) ts refl (subst P same i.1) e d.front (d.back ++ r) d.first (ap head (sym (append_assoc d.front d.back r) ∙ ap (λ l. l ++ r) (sym d.parts)) ∙ h)
 
-no_text_here : (s : List ℕ) (us r ts : Tokens) → ended text s us → head (us ++ r) ≡ head ts → (IsText (head ts) → ⊥) → ⊥
+no_text_here : (s : List ℕ) (us r ts : Tokens) → with_semicolon text s us → head (us ++ r) ≡ head ts → (IsText (head ts) → ⊥) → ⊥
 no_text_here s us r ts d h other = no_text ts other s d.front (d.back ++ r) d.first (ap head (sym (append_assoc d.front d.back r) ∙ ap (λ l. l ++ r) (sym d.parts)) ∙ h)
 
 texted_case : (y : Action) (us r ts : Tokens) → head (us ++ r) ≡ head ts → IsText (head ts) →
-    ((e : Expression) × (y ≡ Prints e) × ended whole e us) ⊎ ((s : List ℕ) × (y ≡ PrintsText s) × ended text s us) → (s : List ℕ) × (y ≡ PrintsText s) × ended text s us
+    ((e : Expression) × (y ≡ Prints e) × with_semicolon whole_expression e us) ⊎ ((s : List ℕ) × (y ≡ PrintsText s) × with_semicolon text s us) → (s : List ℕ) × (y ≡ PrintsText s) × with_semicolon text s us
 texted_case y us r ts h is (inl c) = absurd (no_expression c.0 us r ts c.2 h is)
 texted_case y us r ts h is (inr c) = c
 
 shown_case : (y : Action) (us r ts : Tokens) → head (us ++ r) ≡ head ts → (IsText (head ts) → ⊥) →
-    ((e : Expression) × (y ≡ Prints e) × ended whole e us) ⊎ ((s : List ℕ) × (y ≡ PrintsText s) × ended text s us) → (e : Expression) × (y ≡ Prints e) × ended whole e us
+    ((e : Expression) × (y ≡ Prints e) × with_semicolon whole_expression e us) ⊎ ((s : List ℕ) × (y ≡ PrintsText s) × with_semicolon text s us) → (e : Expression) × (y ≡ Prints e) × with_semicolon whole_expression e us
 shown_case y us r ts h other (inl c) = c
 shown_case y us r ts h other (inr c) = absurd (no_text_here c.0 us r ts c.2 h other)
 
-pub text_along : (ts : Tokens) → IsText (head ts) → Along printed (ended text) KeepsPrinted Free ts texted
+pub text_along : (ts : Tokens) → IsText (head ts) → Along print_operand (with_semicolon text) KeepsPrinted Free ts texted
 text_along ts is = record {
   intro = λ q us d. d;
   cases = λ y us r d h. texted_case y us r ts h is (printed_cases y us d);
@@ -270,7 +270,7 @@ text_along ts is = record {
   from = λ q us d l v. tt;
 }
 
-pub shown_along : (ts : Tokens) → (IsText (head ts) → ⊥) → Along printed (ended whole) KeepsPrinted Keeps ts Prints
+pub shown_along : (ts : Tokens) → (IsText (head ts) → ⊥) → Along print_operand (with_semicolon whole_expression) KeepsPrinted KeepsDepth ts Prints
 shown_along ts other = record {
   intro = λ q us d. d;
   cases = λ y us r d h. shown_case y us r ts h other (printed_cases y us d);
@@ -278,31 +278,31 @@ shown_along ts other = record {
   from = λ q us d l v. v;
 }
 
-pub has_printed : Has printed KeepsPrinted
-has_printed = let x = has_ended whole has_whole in record { tree = Prints x.tree; tokens = x.tokens; is = x.is; known = x.known; within = x.within }
+pub has_printed : Has print_operand KeepsPrinted
+has_printed = let x = has_ended whole_expression has_whole in record { tree = Prints x.tree; tokens = x.tokens; is = x.is; known = x.known; within = x.within }
 
 abbrev pub print_tree : Spot × Action → Spot × Action
 print_tree q = q
 
-print_case : (n : ℕ) (y : Spot × Action) (us : Tokens) → stmt n y us → Formed (tok.Word word.Print) y.1 → Worded word.Print printed y us
-print_case n y us d (inl f) = let P : Action → Type 0 = λ a. Worded word.Print printed (y.0, a) us in let Q : Action → Type 0 = λ a. statement n y.0 a us in subst P (sym f.1) (subst Q f.1 d)
-print_case n y us d (inr f) = let P : Action → Type 0 = λ a. Worded word.Print printed (y.0, a) us in let Q : Action → Type 0 = λ a. statement n y.0 a us in subst P (sym f.1) (subst Q f.1 d)
+print_case : (n : ℕ) (y : Spot × Action) (us : Tokens) → stmt n y us → Formed (tok.Word word.Print) y.1 → Worded word.Print print_operand y us
+print_case n y us d (inl f) = let P : Action → Type 0 = λ a. Worded word.Print print_operand (y.0, a) us in let Q : Action → Type 0 = λ a. statement n y.0 a us in subst P (sym f.1) (subst Q f.1 d)
+print_case n y us d (inr f) = let P : Action → Type 0 = λ a. Worded word.Print print_operand (y.0, a) us in let Q : Action → Type 0 = λ a. statement n y.0 a us in subst P (sym f.1) (subst Q f.1 d)
 
-print_intro : (n : ℕ) (at : Spot) (a : Action) (us : Tokens) → Worded word.Print printed (at, a) us → stmt n (at, a) us
+print_intro : (n : ℕ) (at : Spot) (a : Action) (us : Tokens) → Worded word.Print print_operand (at, a) us → stmt n (at, a) us
 print_intro n at a us d = by_case (printed_cases a d.back d.second)
   where
-    by_case : ((e : Expression) × (a ≡ Prints e) × ended whole e d.back) ⊎ ((s : List ℕ) × (a ≡ PrintsText s) × ended text s d.back) → stmt n (at, a) us
+    by_case : ((e : Expression) × (a ≡ Prints e) × with_semicolon whole_expression e d.back) ⊎ ((s : List ℕ) × (a ≡ PrintsText s) × with_semicolon text s d.back) → stmt n (at, a) us
     by_case (inl c) = let P : Action → Type 0 = λ b. statement n at b us in subst P (sym c.1) (record { front = d.front; back = d.back; parts = d.parts; first = d.first; second = c.2 })
     by_case (inr c) = let P : Action → Type 0 = λ b. statement n at b us in subst P (sym c.1) (record { front = d.front; back = d.back; parts = d.parts; first = d.first; second = c.2 })
 
-print_keeps : (n m : ℕ) (a : Action) (us : Tokens) → printed a us → (l : Limit) → KeepsIn l n a → KeepsIn l m a
+print_keeps : (n m : ℕ) (a : Action) (us : Tokens) → print_operand a us → (l : Limit) → KeepsIn l n a → KeepsIn l m a
 print_keeps n m a us d l = by_case (printed_cases a us d)
   where
-    by_case : ((e : Expression) × (a ≡ Prints e) × ended whole e us) ⊎ ((s : List ℕ) × (a ≡ PrintsText s) × ended text s us) → KeepsIn l n a → KeepsIn l m a
+    by_case : ((e : Expression) × (a ≡ Prints e) × with_semicolon whole_expression e us) ⊎ ((s : List ℕ) × (a ≡ PrintsText s) × with_semicolon text s us) → KeepsIn l n a → KeepsIn l m a
     by_case (inl c) v = let P : Action → Type 0 = λ b. KeepsIn l m b in let Q : Action → Type 0 = λ b. KeepsIn l n b in subst P (sym c.1) (subst Q c.1 v)
     by_case (inr c) v = let P : Action → Type 0 = λ b. KeepsIn l m b in subst P (sym c.1) tt
 
-pub printing_along : (n levels : ℕ) (ts : Tokens) → Is (tok.Word word.Print) (head ts) → Along (stmt n) (Worded word.Print printed) (KeepsStmt levels) (Pair Free KeepsPrinted) ts print_tree
+pub printing_along : (n levels : ℕ) (ts : Tokens) → Is (tok.Word word.Print) (head ts) → Along (stmt n) (Worded word.Print print_operand) (KeepsStmt levels) (Pair Free KeepsPrinted) ts print_tree
 printing_along n levels ts is = record {
   intro = λ q us d. print_intro n q.0 q.1 us d;
   cases = λ y us r d h. (y, refl, print_case n y us d (formed (tok.Word word.Print) n y us r ts d h is));

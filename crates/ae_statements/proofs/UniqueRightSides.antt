@@ -13,8 +13,8 @@ use Rattle.ae_tree.specs.declared.tree.Path.{Path}
 use Rattle.ae_tree.specs.declared.tree.Op.{Op}
 use Rattle.ae_tree.specs.declared.tree.Op.TheVariants as op
 use Rattle.ae_tree.specs.Plain.{Expression, Read, Invocation, RightSide, Value, Taken, Zeros, Made, Returned}
-use Rattle.ae_tree.specs.Grammar.{Tokens, each, further, listed, name, step, path, groups, level, left_level, sign_of, whole, arguments, receiver, call, right_side}
-use Rattle.ae_reading.specs.Reads.{head, Always, Is, Isnt, IsName, Token, Mark}
+use Rattle.ae_tree.specs.Grammar.{Tokens, one_by_one, further, comma_list, name, path_step, path, groups, level, left_level, sign_of, whole_expression, arguments, receiver, call_written, right_of_equals}
+use Rattle.ae_reading.specs.Reads.{head, Always, Is, Isnt, IsName, Token, TokenMark}
 use Rattle.ae_reading.proofs.ReadsLemmas.{Lang, Follow, Both, Links}
 use Rattle.ae_reading.proofs.UniqueLemmas.{Unique, apart_by, unique_at, unique_mark, unique_name, unique_then, unique_both, unique_as, unique_under, unique_always, unique_choice, by_first, unique_listed, unique_closing}
 use Rattle.ae_reading.proofs.UniquePaths.{IsRoot, begins_path, unique_path}
@@ -48,7 +48,7 @@ behind_open l r other t k f b = elim b.behind [
 ]
 
 -- no `(` stands behind a path where an expression begins
-pub no_call_sign : (e : Expression) (us r : Tokens) (p : Path) (ps other : Tokens) (t : Lexeme) → whole e us → path p ps → us ++ r ≡ ps ++ (t ∷ other) → t.kind ≡ tok.Sign sign.OpenParen → Is (tok.Sign sign.Semicolon) (head r) → ⊥
+pub no_call_sign : (e : Expression) (us r : Tokens) (p : Path) (ps other : Tokens) (t : Lexeme) → whole_expression e us → path p ps → us ++ r ≡ ps ++ (t ∷ other) → t.kind ≡ tok.Sign sign.OpenParen → Is (tok.Sign sign.Semicolon) (head r) → ⊥
 no_call_sign e us r p ps other t d q same k f = elim (leads_path 0 e us r p ps (t ∷ other) d q same (of_other (tok.Sign sign.OpenParen) (tok.Sign sign.Dot) (λ e. cc) (Some t) k) (of_other semicolon (tok.Sign sign.Dot) (λ e. cc) (head r) f)) [
   | inl bracket ↦ not_both (tok.Sign sign.OpenParen) (tok.Sign sign.OpenBracket) (λ e. cc) (Some t) k bracket
   | inr b ↦ behind_open 0 r other t k f b
@@ -120,7 +120,7 @@ behind_group r other less n t m k kn g f b = elim b.behind [
 ]
 
 -- no `,` and no `>` stands behind a path, `<` and a name where an expression begins
-pub no_group_end : (e : Expression) (us r : Tokens) (p : Path) (ps other : Tokens) (less n t : Lexeme) (m : ℕ) → whole e us → path p ps → us ++ r ≡ ps ++ (less ∷ n ∷ t ∷ other) → less.kind ≡ tok.Sign sign.Less → n.kind ≡ tok.Name m → EndsGroup t → Is (tok.Sign sign.Semicolon) (head r) → ⊥
+pub no_group_end : (e : Expression) (us r : Tokens) (p : Path) (ps other : Tokens) (less n t : Lexeme) (m : ℕ) → whole_expression e us → path p ps → us ++ r ≡ ps ++ (less ∷ n ∷ t ∷ other) → less.kind ≡ tok.Sign sign.Less → n.kind ≡ tok.Name m → EndsGroup t → Is (tok.Sign sign.Semicolon) (head r) → ⊥
 no_group_end e us r p ps other less n t m d q same k kn g f = elim (leads_path 0 e us r p ps (less ∷ n ∷ t ∷ other) d q same (of_other (tok.Sign sign.Less) (tok.Sign sign.Dot) (λ e. cc) (Some less) k) (of_other semicolon (tok.Sign sign.Dot) (λ e. cc) (head r) f)) [
   | inl bracket ↦ not_both (tok.Sign sign.Less) (tok.Sign sign.OpenBracket) (λ e. cc) (Some less) k bracket
   | inr b ↦ behind_group r other less n t m k kn g f b
@@ -141,7 +141,7 @@ pub joined_method : (on : Option Path) (m : NameAt) → last (joined on m).root 
 joined_method None m = refl
 joined_method (Some p) m = last_snoc p.root m p.steps
 
-step_at : (m : NameAt) (us vs : Tokens) → Mark (tok.Sign sign.Dot) tt us → name m vs → step m (us ++ vs)
+step_at : (m : NameAt) (us vs : Tokens) → TokenMark (tok.Sign sign.Dot) tt us → name m vs → path_step m (us ++ vs)
 step_at m us vs d e = record { front = us; back = vs; parts = refl; first = d; second = e }
 
 joined_path : (on : Option Path) (m : NameAt) (us vs : Tokens) → receiver on us → name m vs → path (joined on m) (us ++ vs)
@@ -153,7 +153,7 @@ joined_path (Some p) m us vs d e =
       back = q.back ++ (d.back ++ vs);
       parts = ap (λ l. l ++ vs) d.parts ∙ append_assoc d.front d.back vs ∙ ap (λ l. l ++ (d.back ++ vs)) q.parts ∙ append_assoc q.front q.back (d.back ++ vs);
       first = q.first;
-      second = each-append step p.steps (m ∷ []) q.back (d.back ++ vs) q.second (each-one step m (d.back ++ vs) (step_at m d.back vs d.second e));
+      second = each-append path_step p.steps (m ∷ []) q.back (d.back ++ vs) q.second (each-one path_step m (d.back ++ vs) (step_at m d.back vs d.second e));
     }
 
 abbrev pub Called : Type 0
@@ -168,7 +168,7 @@ call_of q = record { on = receiver_of q.0.root q.0.steps; method = last q.0.root
 abbrev pub parts_of : Invocation → Called
 parts_of c = (joined c.on c.method, (c.groups, c.args))
 
-pub call_parts : (c : Invocation) (us : Tokens) → call c us → called (parts_of c) us
+pub call_parts : (c : Invocation) (us : Tokens) → call_written c us → called (parts_of c) us
 call_parts c us d =
     let e = d.second in
     record {
@@ -179,7 +179,7 @@ call_parts c us d =
       second = e.second;
     }
 
-call_cases : (c : Invocation) (us : Tokens) → call c us → (q : Called) × (c ≡ call_of q) × called q us
+call_cases : (c : Invocation) (us : Tokens) → call_written c us → (q : Called) × (c ≡ call_of q) × called q us
 call_cases c us d = (
   parts_of c,
   ap (λ (o : Option Path). record { on = o; method = c.method; groups = c.groups; args = c.args }) (sym (joined_on c.on c.method))
@@ -196,25 +196,25 @@ not_start k e o s i = let h : None ≡ Some s.0 = sym (of_kind k (λ o. form_of 
 abbrev pub closing : Lexical
 closing = tok.Sign sign.CloseParen
 
-unique_expressions : Unique (listed whole) (Is (tok.Sign sign.CloseParen))
-unique_expressions = unique_listed whole (Is closing) (Ends 0) (sign_ends 0 sign.Comma refl (λ e. cc) (λ e. cc)) (sign_ends 0 sign.CloseParen refl (λ e. cc) (λ e. cc))
-    (of_other closing (tok.Sign sign.Comma) (λ e. cc)) (apart_by whole IsStart (Is closing) (not_start closing refl) (begins_expression 0)) (unique_expression 0)
+unique_expressions : Unique (comma_list whole_expression) (Is (tok.Sign sign.CloseParen))
+unique_expressions = unique_listed whole_expression (Is closing) (Ends 0) (sign_ends 0 sign.Comma refl (λ e. cc) (λ e. cc)) (sign_ends 0 sign.CloseParen refl (λ e. cc) (λ e. cc))
+    (of_other closing (tok.Sign sign.Comma) (λ e. cc)) (apart_by whole_expression IsStart (Is closing) (not_start closing refl) (begins_expression 0)) (unique_expression 0)
 
 abbrev pub Enclosed : Type 0
 Enclosed = Unit {0} × (List Expression × Unit {0})
 
 abbrev pub enclosed : Lang Enclosed
-enclosed = Both (Mark (tok.Sign sign.OpenParen)) (Both (listed whole) (Mark closing))
+enclosed = Both (TokenMark (tok.Sign sign.OpenParen)) (Both (comma_list whole_expression) (TokenMark closing))
 
 unique_enclosed : Unique enclosed Always
-unique_enclosed = unique_then (Mark (tok.Sign sign.OpenParen)) (Both (listed whole) (Mark closing)) Always (unique_mark (tok.Sign sign.OpenParen))
-    (unique_both (listed whole) (Mark closing) (Is closing) Always (λ x us r d f. begins_mark closing x us r d) unique_expressions (unique_mark closing))
+unique_enclosed = unique_then (TokenMark (tok.Sign sign.OpenParen)) (Both (comma_list whole_expression) (TokenMark closing)) Always (unique_mark (tok.Sign sign.OpenParen))
+    (unique_both (comma_list whole_expression) (TokenMark closing) (Is closing) Always (λ x us r d f. begins_mark closing x us r d) unique_expressions (unique_mark closing))
 
 pub unique_arguments : Unique arguments Always
 unique_arguments = unique_as arguments enclosed Always (λ q. q.1.0) (λ y us d. ((tt, (y, tt)), refl, d)) unique_enclosed
 
 pub begins_arguments : Begins arguments (Is (tok.Sign sign.OpenParen))
-begins_arguments es us r d = begins_both (Mark (tok.Sign sign.OpenParen)) (λ c. Both (listed whole) (Mark closing)) (Is (tok.Sign sign.OpenParen)) (begins_mark (tok.Sign sign.OpenParen)) (tt, (es, tt)) us r d
+begins_arguments es us r d = begins_both (TokenMark (tok.Sign sign.OpenParen)) (λ c. Both (comma_list whole_expression) (TokenMark closing)) (Is (tok.Sign sign.OpenParen)) (begins_mark (tok.Sign sign.OpenParen)) (tt, (es, tt)) us r d
 
 arguments_isnt : (g : Lexical) → (tok.Sign sign.OpenParen ≡ g → ⊥) → (G : Follow) → Links arguments G (Isnt g)
 arguments_isnt g other G = links_by arguments (Is (tok.Sign sign.OpenParen)) (Isnt g) (of_other (tok.Sign sign.OpenParen) g other) begins_arguments G
@@ -229,7 +229,7 @@ abbrev pub CallTail : Tokens → Type 0
 CallTail ts = ((t : Lexeme) × (other : Tokens) × (ts ≡ t ∷ other) × (t.kind ≡ tok.Sign sign.OpenParen))
     ⊎ ((less : Lexeme) × (n : Lexeme) × (t : Lexeme) × (m : ℕ) × (other : Tokens) × (ts ≡ less ∷ n ∷ t ∷ other) × (less.kind ≡ tok.Sign sign.Less) × (n.kind ≡ tok.Name m) × EndsGroup t)
 
-furthers_end : (gs : List NameAt) (us vs r : Tokens) → each (further name) gs us → Mark (tok.Sign sign.Greater) tt vs → (t : Lexeme) × (other : Tokens) × (us ++ (vs ++ r) ≡ t ∷ other) × EndsGroup t
+furthers_end : (gs : List NameAt) (us vs r : Tokens) → one_by_one (further name) gs us → TokenMark (tok.Sign sign.Greater) tt vs → (t : Lexeme) × (other : Tokens) × (us ++ (vs ++ r) ≡ t ∷ other) × EndsGroup t
 furthers_end [] us vs r d e = (record { kind = tok.Sign sign.Greater; at = e.0 }, r, ap (λ z. z ++ (vs ++ r)) d ∙ ap (λ z. z ++ r) e.1, inr refl)
 furthers_end (g ∷ gs) us vs r d e =
     let q = d.first in (
@@ -270,15 +270,15 @@ call_isnt g paren less G q us r d f = tail_isnt g paren less (us ++ r) (call_tai
 pub unique_called : Unique called Always
 unique_called = unique_both path (Both groups arguments) (Isnt (tok.Sign sign.Dot)) Always (call_isnt (tok.Sign sign.Dot) (λ e. cc) (λ e. cc) Always) unique_path unique_grouped
 
-pub unique_call : Unique call Always
-unique_call = unique_as call called Always call_of call_cases unique_called
+pub unique_call : Unique call_written Always
+unique_call = unique_as call_written called Always call_of call_cases unique_called
 
-no_tail : (e : Expression) (us r : Tokens) (p : Path) (ps ts : Tokens) → whole e us → path p ps → us ++ r ≡ ps ++ ts → CallTail ts → Is (tok.Sign sign.Semicolon) (head r) → ⊥
+no_tail : (e : Expression) (us r : Tokens) (p : Path) (ps ts : Tokens) → whole_expression e us → path p ps → us ++ r ≡ ps ++ ts → CallTail ts → Is (tok.Sign sign.Semicolon) (head r) → ⊥
 no_tail e us r p ps ts d q same (inl c) f = no_call_sign e us r p ps c.1 c.0 d q (same ∙ ap (λ z. ps ++ z) c.2) c.3 f
 no_tail e us r p ps ts d q same (inr c) f = no_group_end e us r p ps c.4 c.0 c.1 c.2 c.3 d q (same ∙ ap (λ z. ps ++ z) c.5) c.6 c.7 c.8 f
 
 -- an expression and a call are apart
-pub no_call : (e : Expression) (c : Invocation) (us vs r s : Tokens) → whole e us → call c vs → us ++ r ≡ vs ++ s → Is (tok.Sign sign.Semicolon) (head r) → ⊥
+pub no_call : (e : Expression) (c : Invocation) (us vs r s : Tokens) → whole_expression e us → call_written c vs → us ++ r ≡ vs ++ s → Is (tok.Sign sign.Semicolon) (head r) → ⊥
 no_call e c us vs r s d k same f =
     let q = call_parts c vs k in
     no_tail e us r (joined c.on c.method) q.front (q.back ++ s) d q.first (same ∙ ap (λ z. z ++ s) q.parts ∙ append_assoc q.front q.back s) (call_tail c.groups c.args q.back s q.second) f
@@ -291,8 +291,8 @@ pub data Plain : Type 0 where
   AsCall : Invocation → Plain
 
 abbrev pub plain : Lang Plain
-plain (AsValue e) = whole e
-plain (AsCall c) = call c
+plain (AsValue e) = whole_expression e
+plain (AsCall c) = call_written c
 
 abbrev pub plain_tree : Plain → RightSide
 plain_tree (AsValue e) = Value e
@@ -317,7 +317,7 @@ abbrev pub Counted : Type 0
 Counted = Unit {0} × (Unit {0} × (Expression × Unit {0}))
 
 abbrev pub counted : Lang Counted
-counted = Both (Mark (tok.Word word.Ints)) (Both (Mark (tok.Sign sign.OpenParen)) (Both whole (Mark closing)))
+counted = Both (TokenMark (tok.Word word.Ints)) (Both (TokenMark (tok.Sign sign.OpenParen)) (Both whole_expression (TokenMark closing)))
 
 abbrev pub Filled : Type 0
 Filled = NameAt × (List NameAt × List Expression)
@@ -334,9 +334,9 @@ fresh_tree at (AsInts e) = Zeros e at
 fresh_tree at (AsObject c gs es) = Made c gs es at
 
 unique_counted : Unique counted Always
-unique_counted = unique_then (Mark (tok.Word word.Ints)) (Both (Mark (tok.Sign sign.OpenParen)) (Both whole (Mark closing))) Always (unique_mark (tok.Word word.Ints))
-    (unique_then (Mark (tok.Sign sign.OpenParen)) (Both whole (Mark closing)) Always (unique_mark (tok.Sign sign.OpenParen))
-    (unique_closing whole (Ends 0) closing (sign_ends 0 sign.CloseParen refl (λ e. cc) (λ e. cc)) (unique_expression 0)))
+unique_counted = unique_then (TokenMark (tok.Word word.Ints)) (Both (TokenMark (tok.Sign sign.OpenParen)) (Both whole_expression (TokenMark closing))) Always (unique_mark (tok.Word word.Ints))
+    (unique_then (TokenMark (tok.Sign sign.OpenParen)) (Both whole_expression (TokenMark closing)) Always (unique_mark (tok.Sign sign.OpenParen))
+    (unique_closing whole_expression (Ends 0) closing (sign_ends 0 sign.CloseParen refl (λ e. cc) (λ e. cc)) (unique_expression 0)))
 
 unique_filled : Unique filled Always
 unique_filled = unique_then name (Both groups arguments) Always unique_name unique_grouped
@@ -348,7 +348,7 @@ ints_are_no_name (Some t) i n = let h : tok.Word word.Ints ≡ tok.Name n.0 = sy
 ints_or_name : (q : Counted) (p : Filled) (us vs r s : Tokens) → counted q us → filled p vs → us ++ r ≡ vs ++ s → ⊥
 ints_or_name q p us vs r s d k same =
     let P : Tokens → Type 0 = λ z. Is (tok.Word word.Ints) (head z) in
-    let i : Is (tok.Word word.Ints) (head (us ++ r)) = begins_both (Mark (tok.Word word.Ints)) (λ c. Both (Mark (tok.Sign sign.OpenParen)) (Both whole (Mark closing))) (Is (tok.Word word.Ints)) (begins_mark (tok.Word word.Ints)) q us r d in
+    let i : Is (tok.Word word.Ints) (head (us ++ r)) = begins_both (TokenMark (tok.Word word.Ints)) (λ c. Both (TokenMark (tok.Sign sign.OpenParen)) (Both whole_expression (TokenMark closing))) (Is (tok.Word word.Ints)) (begins_mark (tok.Word word.Ints)) q us r d in
     ints_are_no_name (head (vs ++ s)) (subst P same i) (begins_both name (λ c. Both groups arguments) IsName begins_name p vs s k)
 
 unique_fresh : Unique fresh Always
@@ -379,7 +379,7 @@ side_tree OfPlain q = plain_tree q
 side_tree OfTake q = Taken q.1 q.0
 side_tree OfNew q = fresh_tree q.0 q.1
 
-side_cases : (y : RightSide) (us : Tokens) → right_side y us → (t : Side) × (q : SideParts t) × (y ≡ side_tree t q) × side_form t q us
+side_cases : (y : RightSide) (us : Tokens) → right_of_equals y us → (t : Side) × (q : SideParts t) × (y ≡ side_tree t q) × side_form t q us
 side_cases (Value e) us d = (OfPlain, AsValue e, refl, d)
 side_cases (Taken p at) us d = (OfTake, (at, p), refl, d.1)
 side_cases (Zeros e at) us d = (OfNew, (at, AsInts e), refl, d)
@@ -415,7 +415,7 @@ start_plain (Some t) i = kind_plain t.kind i.0 i.1
 root_plain : (o : Option Lexeme) → IsRoot o → side_at o ≡ Some OfPlain
 root_plain o i = start_plain o (OfPath, form_at_root o i)
 
-pub begins_call : Begins call IsRoot
+pub begins_call : Begins call_written IsRoot
 begins_call c us r d = begins_both path (λ p. Both groups arguments) IsRoot begins_path (parts_of c) us r (call_parts c us d)
 
 plain_first : (q : Plain) (us r : Tokens) → plain q us → side_at (head (us ++ r)) ≡ Some OfPlain
@@ -433,6 +433,6 @@ unique_side_form OfTake = unique_then (Token (tok.Word word.Take)) path (Is semi
 unique_side_form OfNew = unique_then (Token (tok.Word word.New)) fresh (Is semicolon) (unique_at (tok.Word word.New)) (unique_always fresh (Is semicolon) unique_fresh)
 
 -- tokens before a semicolon stand for one right side at most
-pub unique_right_side : Unique right_side (Is (tok.Sign sign.Semicolon))
-unique_right_side = unique_choice SideParts side_form side_tree right_side (Is semicolon) side_cases
+pub unique_right_side : Unique right_of_equals (Is (tok.Sign sign.Semicolon))
+unique_right_side = unique_choice SideParts side_form side_tree right_of_equals (Is semicolon) side_cases
     (by_first SideParts side_form (Is semicolon) side_at (λ t q us r d f. side_first t q us r d)) unique_side_form

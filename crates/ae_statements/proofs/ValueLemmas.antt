@@ -9,20 +9,20 @@ use Rattle.ae_tree.specs.declared.lexeme.Lexeme.{Lexeme}
 use Rattle.ae_tree.specs.declared.lexeme.Lexical.TheVariants as tok
 use Rattle.ae_tree.specs.declared.limits.Limit.TheVariants as limit
 use Rattle.ae_tree.specs.Plain.{Expression, RightSide, Value, Returned}
-use Rattle.ae_tree.specs.Grammar.{Tokens, one, whole, right_side}
-use Rattle.ae_tree.specs.Limits.{Keeps, KeepsRight, marks, early, rank}
+use Rattle.ae_tree.specs.Grammar.{Tokens, one_token, whole_expression, right_of_equals}
+use Rattle.ae_tree.specs.Limits.{KeepsDepth, KeepsRight, marks, early, rank}
 use Rattle.ae_tree.specs.Refused.{is_mark, marks_in}
 use Rattle.ae_reading.specs.declared.fail.Fail.{Fail}
 use Rattle.ae_reading.specs.declared.fail.Fail.TheVariants.{Refused, Memory}
 use Rattle.ae_reading.specs.declared.fail.Why.{Why}
 use Rattle.ae_reading.specs.declared.fail.Why.TheVariants.{Unexpected, Over}
-use Rattle.ae_reading.specs.Reads.{head, Always, Is, NoEnd, Took, Stopped, Failed, Counts}
+use Rattle.ae_reading.specs.Reads.{head, Always, Is, EndIsNone, Took, Stopped, Failed, Counts}
 use Rattle.ae_reading.proofs.ReadsLemmas.{head-append, NoEnd-append, lead_here, stopped_on}
 use Rattle.ae_reading.proofs.UniqueLemmas.{none_at}
 use Rattle.ae_expressions.proofs.UniqueExpressions.{form_of}
 use Rattle.ae_expressions.proofs.LeadingOperands.{IsStart, begins_expression}
-use Rattle.ae_statements.specs.Productions.{ended}
-use Rattle.ae_statements.specs.Deciding.{Calling, Comparing, IsValue, IsPlain, IsUndecided, no_earlier}
+use Rattle.ae_statements.specs.Productions.{with_semicolon}
+use Rattle.ae_statements.specs.Deciding.{Calling, Comparing, IsValue, IsPlainSide, IsUndecided, no_earlier}
 use Rattle.ae_statements.proofs.UniqueRightSides.{no_call}
 use Rattle.ae_statements.proofs.MarkLemmas.{weight, marks_in-append, expression_marks}
 use Rattle.ae_statements.proofs.SideLemmas.{PlainSide, plain_side}
@@ -35,13 +35,13 @@ use Rattle.ae_statements.proofs.DecideLemmas.{calling_within, front_of, path_no_
 start_plain : (o : Option Lexeme) → IsStart o → (Is (tok.Word word.Take) o → ⊥) × (Is (tok.Word word.New) o → ⊥)
 start_plain o s = (none_at form_of (tok.Word word.Take) (λ at. refl) o s, none_at form_of (tok.Word word.New) (λ at. refl) o s)
 
-pub value_plain : (e : Expression) (us r : Tokens) → ended whole e us → IsPlain (us ++ r)
+pub value_plain : (e : Expression) (us r : Tokens) → with_semicolon whole_expression e us → IsPlainSide (us ++ r)
 value_plain e us r d =
     let f = front_of e us r d in
-    let P : Tokens → Type 0 = IsPlain in
+    let P : Tokens → Type 0 = IsPlainSide in
     subst P (sym f.same) (start_plain (head (f.front ++ f.back)) (begins_expression 0 e f.front f.back f.is))
 
-pub value_took : (ts rest : Tokens) (e : Expression) → Took (ended whole) Keeps Always ts e rest → Took (ended right_side) KeepsRight Always ts (Value e) rest
+pub value_took : (ts rest : Tokens) (e : Expression) → Took (with_semicolon whole_expression) KeepsDepth Always ts e rest → Took (with_semicolon right_of_equals) KeepsRight Always ts (Value e) rest
 value_took ts rest e t = record {
   taken = t.taken;
   whole = t.whole;
@@ -73,28 +73,28 @@ meet (x ∷ a) b (y ∷ c) d e =
       | inr q ↦ inr (q.0, q.1, ap (λ z. z ∷ a) h ∙ ap (λ l. y ∷ l) q.2, q.3)
     ]
 
-is_value : (y : RightSide) (us : Tokens) (e : Expression) → y ≡ Value e → ended right_side y us → ended whole e us
-is_value y us e same d = let P : RightSide → Type 0 = λ z. ended right_side z us in subst P same d
+is_value : (y : RightSide) (us : Tokens) (e : Expression) → y ≡ Value e → with_semicolon right_of_equals y us → with_semicolon whole_expression e us
+is_value y us e same d = let P : RightSide → Type 0 = λ z. with_semicolon right_of_equals z us in subst P same d
 
 -- the refused token is not before the deciding one
-stopped_later : (ts : Tokens) (why : Why) (left at : ℕ) → (k : IsValue ts at) → (u : Stopped (ended whole) Keeps Always ts why left) → (c : Tokens) → u.before ≡ k.before ++ c → k.rest ≡ c ++ u.rest → Stopped (ended right_side) KeepsRight Always ts why left
-stopped_later ts why left at k u c b rest = stopped_on (ended right_side) (ended whole) {F = Always} Value (λ q us d. d) (λ q us d l v. v) (λ q us d l v. v) u
+stopped_later : (ts : Tokens) (why : Why) (left at : ℕ) → (k : IsValue ts at) → (u : Stopped (with_semicolon whole_expression) KeepsDepth Always ts why left) → (c : Tokens) → u.before ≡ k.before ++ c → k.rest ≡ c ++ u.rest → Stopped (with_semicolon right_of_equals) KeepsRight Always ts why left
+stopped_later ts why left at k u c b rest = stopped_on (with_semicolon right_of_equals) (with_semicolon whole_expression) {F = Always} Value (λ q us d. d) (λ q us d l v. v) (λ q us d l v. v) u
     (λ y us r other d e h f.
     let o = k.only y us r (c ++ other) d (e ∙ ap (λ l. l ++ other) b ∙ append_assoc k.before c other) (head-append c other u.rest h ∙ ap head (sym rest)) in
     (o.0, o.1, is_value y us o.0 o.1 d, f))
 
 -- ---- a token before the deciding one
 
-less_no_end : (us : Tokens) → one (tok.Sign sign.Less) us → NoEnd us
-less_no_end us d = let P : Tokens → Type 0 = NoEnd in subst P (sym d.1) ((λ e. cc), tt)
+less_no_end : (us : Tokens) → one_token (tok.Sign sign.Less) us → EndIsNone us
+less_no_end us d = let P : Tokens → Type 0 = EndIsNone in subst P (sym d.1) ((λ e. cc), tt)
 
-undecided_no_end : (us : Tokens) → IsUndecided us → NoEnd us
+undecided_no_end : (us : Tokens) → IsUndecided us → EndIsNone us
 undecided_no_end us (p, inl d) = path_no_end p us d
-undecided_no_end us (p, inr (inl d)) = let P : Tokens → Type 0 = NoEnd in subst P (sym d.parts) (NoEnd-append d.front d.back (path_no_end p d.front d.first) (less_no_end d.back d.second))
+undecided_no_end us (p, inr (inl d)) = let P : Tokens → Type 0 = EndIsNone in subst P (sym d.parts) (NoEnd-append d.front d.back (path_no_end p d.front d.first) (less_no_end d.back d.second))
 undecided_no_end us (p, inr (inr (g, d))) =
-    let P : Tokens → Type 0 = NoEnd in
+    let P : Tokens → Type 0 = EndIsNone in
     let s = d.second in
-    let name : NoEnd s.back = subst P (sym s.second) ((λ e. cc), tt) in
+    let name : EndIsNone s.back = subst P (sym s.second) ((λ e. cc), tt) in
     subst P (sym d.parts) (NoEnd-append d.front d.back (path_no_end p d.front d.first) (subst P (sym s.parts) (NoEnd-append s.front s.back (less_no_end s.front s.first) name)))
 
 abbrev count : Bool → ℕ
@@ -105,7 +105,7 @@ by_weight true = inl (refl, refl)
 by_weight false = inr refl
 
 -- how many tokens count before the refused one
-marks_before : (e : Expression) (before more : Tokens) → ended whole e (before ++ more) → marks e ≤ 256 → marks_in before ≤ 256
+marks_before : (e : Expression) (before more : Tokens) → with_semicolon whole_expression e (before ++ more) → marks e ≤ 256 → marks_in before ≤ 256
 marks_before e before more d few =
     let a : marks_in (before ++ more) ≡ marks_in before + marks_in more = marks_in-append before more in
     let b : marks_in (before ++ more) ≡ marks_in d.front + marks_in d.back = ap marks_in d.parts ∙ marks_in-append d.front d.back in
@@ -113,7 +113,7 @@ marks_before e before more d few =
     let m : marks e ≡ marks_in d.front = expression_marks e 0 d.front d.first in
     omega (arith, a, b, c, m, few)
 
-marks_next : (e : Expression) (before more : Tokens) (t : Lexeme) → whole e (before ++ t ∷ more) → marks_in more ≡ 0 → (marks e ≤ 256 → ⊥) → 256 < marks_in before + weight t.kind
+marks_next : (e : Expression) (before more : Tokens) (t : Lexeme) → whole_expression e (before ++ t ∷ more) → marks_in more ≡ 0 → (marks e ≤ 256 → ⊥) → 256 < marks_in before + weight t.kind
 marks_next e before more t d none many =
     let m : marks e ≡ marks_in (before ++ t ∷ more) = expression_marks e 0 (before ++ t ∷ more) d in
     let a : marks_in (before ++ t ∷ more) ≡ marks_in before + (weight t.kind + marks_in more) = marks_in-append before (t ∷ more) in
@@ -142,8 +142,8 @@ statements_kept e limit.Depth k = absurd (omega (arith, k))
 statements_kept e limit.Params k = absurd (omega (arith, k))
 
 -- the 257th token that counts stands before the deciding one
-stopped_early : (ts : Tokens) (left at : ℕ) → (k : IsValue ts at) → (u : Stopped (ended whole) Keeps Always ts (Over limit.Depth) left) → (t : Lexeme) (c : Tokens) → k.before ≡ u.before ++ t ∷ c → u.rest ≡ t ∷ (c ++ k.rest) →
-    IsUndecided k.before → Calling k.before → Comparing k.before k.rest → Stopped (ended right_side) KeepsRight Always ts (Over limit.Depth) at
+stopped_early : (ts : Tokens) (left at : ℕ) → (k : IsValue ts at) → (u : Stopped (with_semicolon whole_expression) KeepsDepth Always ts (Over limit.Depth) left) → (t : Lexeme) (c : Tokens) → k.before ≡ u.before ++ t ∷ c → u.rest ≡ t ∷ (c ++ k.rest) →
+    IsUndecided k.before → Calling k.before → Comparing k.before k.rest → Stopped (with_semicolon right_of_equals) KeepsRight Always ts (Over limit.Depth) at
 stopped_early ts left at k u t c b rest undecided calling comparing = record {
   before = k.before;
   rest = k.rest;
@@ -174,7 +174,7 @@ stopped_early ts left at k u t c b rest undecided calling comparing = record {
 }
 
 -- an expression goes on with the refused token
-goes_on : (ts : Tokens) (why : Why) (left : ℕ) → (u : Stopped (ended whole) Keeps Always ts why left) → (t : Lexeme) (later : Tokens) → u.rest ≡ t ∷ later → (f : Filled Expression whole u.before t) → Counts why (λ l. Keeps l f.tree) → ⊥
+goes_on : (ts : Tokens) (why : Why) (left : ℕ) → (u : Stopped (with_semicolon whole_expression) KeepsDepth Always ts why left) → (t : Lexeme) (later : Tokens) → u.rest ≡ t ∷ later → (f : Filled Expression whole_expression u.before t) → Counts why (λ l. KeepsDepth l f.tree) → ⊥
 goes_on ts why left u t later rest f w =
     u.stuck f.tree (u.before ++ (t ∷ (f.more ++ end))) [] (t ∷ (f.more ++ end)) (closed f.tree u.before (t ∷ f.more) f.goes) (append-nil (u.before ++ (t ∷ (f.more ++ end)))) (ap head (sym rest)) tt w
 
@@ -183,8 +183,8 @@ some_marks ts at k before c t b many none =
     let a : marks_in k.before ≡ marks_in before + marks_in (t ∷ c) = ap marks_in b ∙ marks_in-append before (t ∷ c) in
     omega (arith, a, many, none)
 
-stopped_before : (ts : Tokens) (why : Why) (left at : ℕ) → (k : IsValue ts at) → (u : Stopped (ended whole) Keeps Always ts why left) → (t : Lexeme) (c : Tokens) → k.before ≡ u.before ++ t ∷ c → u.rest ≡ t ∷ (c ++ k.rest) →
-    IsUndecided k.before → Filled Expression whole u.before t → Stopped (ended right_side) KeepsRight Always ts why at
+stopped_before : (ts : Tokens) (why : Why) (left at : ℕ) → (k : IsValue ts at) → (u : Stopped (with_semicolon whole_expression) KeepsDepth Always ts why left) → (t : Lexeme) (c : Tokens) → k.before ≡ u.before ++ t ∷ c → u.rest ≡ t ∷ (c ++ k.rest) →
+    IsUndecided k.before → Filled Expression whole_expression u.before t → Stopped (with_semicolon right_of_equals) KeepsRight Always ts why at
 stopped_before ts Unexpected left at k u t c b rest undecided f = absurd (goes_on ts Unexpected left u t (c ++ k.rest) rest f tt)
 stopped_before ts (Over limit.Statements) left at k u t c b rest undecided f = absurd (goes_on ts (Over limit.Statements) left u t (c ++ k.rest) rest f tt)
 stopped_before ts (Over limit.Levels) left at k u t c b rest undecided f = absurd (goes_on ts (Over limit.Levels) left u t (c ++ k.rest) rest f tt)
@@ -197,7 +197,7 @@ stopped_before ts (Over limit.Depth) left at k u t c b rest undecided f = by_bot
     found : Overrun u.before t
     found = overrun u.before t few (marks_next f.tree u.before f.more t f.goes f.none (goes_on ts (Over limit.Depth) left u t (c ++ k.rest) rest f))
 
-    by_both : (marks_in k.before ≡ 0) ⊎ (Calling k.before × Comparing k.before k.rest) → Stopped (ended right_side) KeepsRight Always ts (Over limit.Depth) at
+    by_both : (marks_in k.before ≡ 0) ⊎ (Calling k.before × Comparing k.before k.rest) → Stopped (with_semicolon right_of_equals) KeepsRight Always ts (Over limit.Depth) at
     by_both (inl none) = absurd (some_marks ts at k u.before c t b found.many none)
     by_both (inr (calling, comparing)) = stopped_early ts left at k u t c b rest undecided calling comparing
 
@@ -207,12 +207,12 @@ no_cut (x ∷ before) c t e = cc
 
 -- a right side stops where its expression does, or where it is known to be one, if that is later
 abbrev StopsAt : Tokens → Why → ℕ → ℕ → Type 0
-StopsAt ts why left at = ((left ≤ at) × Stopped (ended right_side) KeepsRight Always ts why left) ⊎ ((at < left) × Stopped (ended right_side) KeepsRight Always ts why at)
+StopsAt ts why left at = ((left ≤ at) × Stopped (with_semicolon right_of_equals) KeepsRight Always ts why left) ⊎ ((at < left) × Stopped (with_semicolon right_of_equals) KeepsRight Always ts why at)
 
-value_stopped : (ts : Tokens) (why : Why) (left at : ℕ) → IsValue ts at → Stopped (ended whole) Keeps Always ts why left → StopsAt ts why left at
+value_stopped : (ts : Tokens) (why : Why) (left at : ℕ) → IsValue ts at → Stopped (with_semicolon whole_expression) KeepsDepth Always ts why left → StopsAt ts why left at
 value_stopped ts why left at k u = by_meet (meet k.before k.rest u.before u.rest (sym k.whole ∙ u.whole))
   where
-    by_undecided : (t : Lexeme) (c : Tokens) → k.before ≡ u.before ++ t ∷ c → u.rest ≡ t ∷ (c ++ k.rest) → (k.before ≡ []) ⊎ IsUndecided k.before → Stopped (ended right_side) KeepsRight Always ts why at
+    by_undecided : (t : Lexeme) (c : Tokens) → k.before ≡ u.before ++ t ∷ c → u.rest ≡ t ∷ (c ++ k.rest) → (k.before ≡ []) ⊎ IsUndecided k.before → Stopped (with_semicolon right_of_equals) KeepsRight Always ts why at
     by_undecided t c b rest (inl none) = absurd (no_cut u.before c t (sym none ∙ b))
     by_undecided t c b rest (inr w) = stopped_before ts why left at k u t c b rest w (undecided_filled k.before u.before c t w b)
 
@@ -230,6 +230,6 @@ fewer P left at s = by_test (nat_lt left at) refl s
     by_test false e (inl q) = let l : at ≤ left = grind (arith, nat_tests) in let m = q.0 in let same : left ≡ at = omega (arith, l, m) in subst P same q.1
     by_test false e (inr q) = q.1
 
-pub value_failed : (ts : Tokens) (at : ℕ) (e : Fail) → IsValue ts at → Failed (ended whole) Keeps Always ts e → Failed (ended right_side) KeepsRight Always ts (no_earlier e at)
-value_failed ts at (Refused why left) k f = record { why = fewer (Stopped (ended right_side) KeepsRight Always ts why) left at (value_stopped ts why left at k f.why) }
+pub value_failed : (ts : Tokens) (at : ℕ) (e : Fail) → IsValue ts at → Failed (with_semicolon whole_expression) KeepsDepth Always ts e → Failed (with_semicolon right_of_equals) KeepsRight Always ts (no_earlier e at)
+value_failed ts at (Refused why left) k f = record { why = fewer (Stopped (with_semicolon right_of_equals) KeepsRight Always ts why) left at (value_stopped ts why left at k f.why) }
 value_failed ts at Memory k f = record { why = tt }

@@ -9,18 +9,18 @@ use Rattle.ae_tree.specs.declared.tree.NameAt.{NameAt}
 use Rattle.ae_tree.specs.declared.tree.Expr.{Expr}
 use Rattle.ae_tree.specs.Plain.{Expression}
 use Rattle.ae_tree.specs.Shown as shown
-use Rattle.ae_tree.specs.Grammar.{Tokens, ◌⨾◌, one_at, name, separated, whole}
-use Rattle.ae_tree.specs.Limits.{Keeps}
+use Rattle.ae_tree.specs.Grammar.{Tokens, ◌⨾◌, one_at, name, separated, whole_expression}
+use Rattle.ae_tree.specs.Limits.{KeepsDepth}
 use Rattle.ae_reading.specs.declared.fail.Fail.{Fail}
 use Rattle.ae_reading.specs.Reads.{Failed}
 use Rattle.ae_statements.specs.Productions.{stmt, KeepsStmt, NoElse}
 
 -- `if` or `while`, and an expression
 abbrev pub condition : Keyword → Spot × Expression → Tokens → Type 0
-condition w q = one_at (tok.Word w) q.0 ⨾ whole q.1
+condition w q = one_at (tok.Word w) q.0 ⨾ whole_expression q.1
 
 abbrev pub KeepsCondition : Limit → Spot × Expression → Type 0
-KeepsCondition l q = Keeps l q.1
+KeepsCondition l q = KeepsDepth l q.1
 
 abbrev pub shown_condition : Spot × Expr → Spot × Expression
 shown_condition q = (q.0, shown.expression q.1)

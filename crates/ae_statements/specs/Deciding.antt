@@ -8,16 +8,16 @@ use Rattle.ae_tree.specs.declared.lexeme.Lexical.TheVariants as tok
 use Rattle.ae_tree.specs.declared.tree.NameAt.{NameAt}
 use Rattle.ae_tree.specs.declared.tree.Path.{Path}
 use Rattle.ae_tree.specs.Plain.{Expression, Invocation, RightSide, Value}
-use Rattle.ae_tree.specs.Grammar.{Tokens, ◌⨾◌, a_sign, each, name, step, path, receiver, whole, call, right_side}
+use Rattle.ae_tree.specs.Grammar.{Tokens, ◌⨾◌, a_sign, one_by_one, name, path_step, path, receiver, whole_expression, call_written, right_of_equals}
 use Rattle.ae_tree.specs.Limits.{KeepsRight}
-use Rattle.ae_tree.specs.Refused.{AreKnown, marks_in}
+use Rattle.ae_tree.specs.Refused.{AreSpellable, marks_in}
 use Rattle.ae_reading.specs.declared.fail.Fail.{Fail}
 use Rattle.ae_reading.specs.declared.fail.Fail.TheVariants.{Refused, Memory}
 use Rattle.ae_reading.specs.declared.fail.Why.TheVariants.{Unexpected}
 use Rattle.ae_reading.specs.Reads.{head, Always, Is, Stopped}
 use Rattle.ae_statements.specs.declared.decide.Decided.{Decided}
 use Rattle.ae_statements.specs.declared.decide.Decided.TheVariants as decided
-use Rattle.ae_statements.specs.Productions.{ended, receiver_of, last}
+use Rattle.ae_statements.specs.Productions.{with_semicolon, receiver_of, last}
 
 -- ---- kinds of tokens
 
@@ -101,8 +101,8 @@ pub record Calling (before : Tokens) : Type 0 where
   pub tree : Invocation
   pub none : tree.args ≡ []
   pub more : Tokens
-  pub goes : ended call tree (before ++ more)
-  pub known : AreKnown more
+  pub goes : with_semicolon call_written tree (before ++ more)
+  pub known : AreSpellable more
 
 -- ---- expressions
 
@@ -117,8 +117,8 @@ pub record Comparing (before rest : Tokens) : Type 0 where
   pub rest_is : rest ≡ next ∷ later
   pub tree : Expression
   pub after : Tokens
-  pub goes_on : ended whole tree (before ++ (next ∷ after))
-  pub known : AreKnown after
+  pub goes_on : with_semicolon whole_expression tree (before ++ (next ∷ after))
+  pub known : AreSpellable after
 
 -- The tokens before `rest` may begin an expression or a call, and with the next one only expressions go on. From it on, `left` tokens are left.
 pub record IsValue (ts : Tokens) (left : ℕ) : Type 0 where
@@ -126,7 +126,7 @@ pub record IsValue (ts : Tokens) (left : ℕ) : Type 0 where
   pub rest : Tokens
   pub whole : ts ≡ before ++ rest
   pub left_is : left ≡ length rest
-  pub only : (y : RightSide) (us r other : Tokens) → ended right_side y us → us ++ r ≡ before ++ other → head other ≡ head rest → (e : Expression) × (y ≡ Value e)
+  pub only : (y : RightSide) (us r other : Tokens) → with_semicolon right_of_equals y us → us ++ r ≡ before ++ other → head other ≡ head rest → (e : Expression) × (y ≡ Value e)
   pub undecided : (before ≡ []) ⊎ IsUndecided before
   pub both : (marks_in before ≡ 0) ⊎ (Calling before × Comparing before rest)
 
@@ -136,7 +136,7 @@ pub record IsValue (ts : Tokens) (left : ℕ) : Type 0 where
 abbrev pub Decides : Tokens → Decided → Type 0
 Decides ts (decided.Value left) = IsValue ts left
 Decides ts decided.Call = IsCall ts
-Decides ts (decided.Neither left) = Stopped (ended right_side) KeepsRight Always ts Unexpected left
+Decides ts (decided.Neither left) = Stopped (with_semicolon right_of_equals) KeepsRight Always ts Unexpected left
 
 -- the failure, or a later one where it stands before the token from which on so many are left
 abbrev pub no_earlier : Fail → ℕ → Fail
@@ -144,8 +144,8 @@ no_earlier (Refused why stop) left = Refused why (if nat_lt stop left then stop 
 no_earlier Memory left = Memory
 
 -- a right side that begins with neither `take` nor `new`
-abbrev pub IsPlain : Tokens → Type 0
-IsPlain ts = (Is (tok.Word word.Take) (head ts) → ⊥) × (Is (tok.Word word.New) (head ts) → ⊥)
+abbrev pub IsPlainSide : Tokens → Type 0
+IsPlainSide ts = (Is (tok.Word word.Take) (head ts) → ⊥) × (Is (tok.Word word.New) (head ts) → ⊥)
 
 -- ---- steps
 
@@ -181,5 +181,5 @@ pub record AllSteps (ts rest : Tokens) : Type 0 where
   pub fields : List NameAt
   pub taken : Tokens
   pub whole : ts ≡ taken ++ rest
-  pub are : each step fields taken
+  pub are : one_by_one path_step fields taken
   pub no_more : (later : Tokens) → Steps rest later → ⊥

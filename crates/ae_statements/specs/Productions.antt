@@ -14,9 +14,9 @@ use Rattle.ae_tree.specs.declared.tree.Expr.{Expr}
 use Rattle.ae_tree.specs.declared.tree.Stmt.{Stmt}
 use Rattle.ae_tree.specs.Plain.{Expression, Invocation, RightSide, Zeros, Made, Lines, Action, Assigns, Stores, StoresAt, Calls, Prints, PrintsText}
 use Rattle.ae_tree.specs.Shown as shown
-use Rattle.ae_tree.specs.Grammar.{Tokens, ◌⨾◌, one_at, one, a_word, a_sign, never, name, path, whole, with_return, right_side, groups, arguments, statement, statements, opened}
+use Rattle.ae_tree.specs.Grammar.{Tokens, ◌⨾◌, one_at, one_token, a_word, a_sign, never, name, path, whole_expression, with_return, right_of_equals, groups, arguments, statement, statements, blocks_opened}
 use Rattle.ae_tree.specs.Grammar as grammar
-use Rattle.ae_tree.specs.Limits.{Keeps, KeepsRight, AllKeep, IsFew, Opens, KeepsIn, EachKeeps}
+use Rattle.ae_tree.specs.Limits.{KeepsDepth, KeepsRight, AllKeepDepth, IsFew, Opens, KeepsIn, EachKeeps}
 use Rattle.ae_reading.specs.declared.fail.Why.{Why}
 use Rattle.ae_reading.specs.declared.fail.Why.TheVariants.{Unexpected, Over}
 use Rattle.ae_reading.specs.declared.fail.Fail.{Fail}
@@ -32,12 +32,12 @@ use Rattle.ae_statements.specs.declared.blocks.NumberedStmts.{NumberedStmts}
 -- ---- ends
 
 -- with a semicolon behind it
-abbrev pub ended : {A : Type 0} → (A → Tokens → Type 0) → A → Tokens → Type 0
-ended D x = D x ⨾ a_sign sign.Semicolon
+abbrev pub with_semicolon : {A : Type 0} → (A → Tokens → Type 0) → A → Tokens → Type 0
+with_semicolon D x = D x ⨾ a_sign sign.Semicolon
 
 -- what a local gets, behind its name
-abbrev pub value : RightSide → Tokens → Type 0
-value e = a_sign sign.Assign ⨾ ended right_side e
+abbrev pub local_value : RightSide → Tokens → Type 0
+local_value e = a_sign sign.Assign ⨾ with_semicolon right_of_equals e
 
 -- a path with at least one step
 abbrev pub member : Path → Tokens → Type 0
@@ -45,31 +45,31 @@ member p us = (p.steps ≢ []) × path p us
 
 -- how many numbers a new array has, behind `new`
 abbrev pub sized : Expression → Tokens → Type 0
-sized e = a_word word.Ints ⨾ a_sign sign.OpenParen ⨾ whole e ⨾ a_sign sign.CloseParen
+sized e = a_word word.Ints ⨾ a_sign sign.OpenParen ⨾ whole_expression e ⨾ a_sign sign.CloseParen
 
 -- what a class gets, behind `new`: its groups, arguments and end stand behind its name
 abbrev pub filled : NameAt × (List NameAt × List Expression) → Tokens → Type 0
-filled q = name q.0 ⨾ groups q.1.0 ⨾ ended arguments q.1.1
+filled q = name q.0 ⨾ groups q.1.0 ⨾ with_semicolon arguments q.1.1
 
 -- a new array or object, behind a `new` at this place
-abbrev pub made : Spot → RightSide → Tokens → Type 0
-made at (Zeros e k) us = (k ≡ at) × ended sized e us
-made at (Made c gs es k) us = (k ≡ at) × filled (c, (gs, es)) us
-made at y us = ⊥
+abbrev pub made_side : Spot → RightSide → Tokens → Type 0
+made_side at (Zeros e k) us = (k ≡ at) × with_semicolon sized e us
+made_side at (Made c gs es k) us = (k ≡ at) × filled (c, (gs, es)) us
+made_side at y us = ⊥
 
 -- a text
 abbrev pub text : List ℕ → Tokens → Type 0
-text s = one (tok.Text s)
+text s = one_token (tok.Text s)
 
 abbrev pub IsText : Option Lexeme → Type 0
 IsText None = ⊥
 IsText (Some t) = (s : List ℕ) × (t.kind ≡ tok.Text s)
 
 -- what is printed, behind `print`
-abbrev pub printed : Action → Tokens → Type 0
-printed (Prints e) = ended whole e
-printed (PrintsText s) = ended text s
-printed a = never
+abbrev pub print_operand : Action → Tokens → Type 0
+print_operand (Prints e) = with_semicolon whole_expression e
+print_operand (PrintsText s) = with_semicolon text s
+print_operand a = never
 
 abbrev pub KeepsPrinted : Limit → Action → Type 0
 KeepsPrinted l a = KeepsIn l 0 a
@@ -77,11 +77,11 @@ KeepsPrinted l a = KeepsIn l 0 a
 -- ---- calls
 
 -- what stands behind the method's name of a call that is ended
-abbrev pub called : List NameAt × List Expression → Tokens → Type 0
-called q = groups q.0 ⨾ ended arguments q.1
+abbrev pub call_rest : List NameAt × List Expression → Tokens → Type 0
+call_rest q = groups q.0 ⨾ with_semicolon arguments q.1
 
 abbrev pub KeepsCalled : Limit → List NameAt × List Expression → Type 0
-KeepsCalled l q = AllKeep l q.1
+KeepsCalled l q = AllKeepDepth l q.1
 
 abbrev pub shown_called : List NameAt × List Expr → List NameAt × List Expression
 shown_called q = (q.0, map shown.expression q.1)
@@ -132,33 +132,33 @@ shown_tail (behind.Index i e) = StoredAt (shown.expression i) (shown.expression 
 shown_tail (behind.Call gs es) = Called gs (map shown.expression es)
 
 -- what is stored in a field
-abbrev pub stored : Expression → Tokens → Type 0
-stored e = a_sign sign.Assign ⨾ ended whole e
+abbrev pub stored_value : Expression → Tokens → Type 0
+stored_value e = a_sign sign.Assign ⨾ with_semicolon whole_expression e
 
 -- an index and what is stored there
 abbrev pub indexed : Expression × Expression → Tokens → Type 0
-indexed q = a_sign sign.OpenBracket ⨾ whole q.0 ⨾ a_sign sign.CloseBracket ⨾ stored q.1
+indexed q = a_sign sign.OpenBracket ⨾ whole_expression q.0 ⨾ a_sign sign.CloseBracket ⨾ stored_value q.1
 
 abbrev pub KeepsIndexed : Limit → Expression × Expression → Type 0
-KeepsIndexed l q = Keeps l q.0 × Keeps l q.1
+KeepsIndexed l q = KeepsDepth l q.0 × KeepsDepth l q.1
 
 abbrev pub shown_indexed : Expr × Expr → Expression × Expression
 shown_indexed q = (shown.expression q.0, shown.expression q.1)
 
 -- A local is assigned, a field is stored. `this` alone is neither, and is not called.
 abbrev pub tail : Front → Tailed → Tokens → Type 0
-tail front.Local (Assigned e) = value e
-tail front.Member (Stored e) = stored e
+tail front.Local (Assigned e) = local_value e
+tail front.Member (Stored e) = stored_value e
 tail f (StoredAt i e) = indexed (i, e)
-tail front.Local (Called gs es) = called (gs, es)
-tail front.Member (Called gs es) = called (gs, es)
+tail front.Local (Called gs es) = call_rest (gs, es)
+tail front.Member (Called gs es) = call_rest (gs, es)
 tail f q = never
 
 abbrev pub KeepsTail : Limit → Tailed → Type 0
 KeepsTail l (Assigned e) = KeepsRight l e
-KeepsTail l (Stored e) = Keeps l e
-KeepsTail l (StoredAt i e) = Keeps l i × Keeps l e
-KeepsTail l (Called gs es) = AllKeep l es
+KeepsTail l (Stored e) = KeepsDepth l e
+KeepsTail l (StoredAt i e) = KeepsDepth l i × KeepsDepth l e
+KeepsTail l (Called gs es) = AllKeepDepth l es
 
 -- an index comes next, or nothing else may come
 abbrev pub Only : Front → Tokens → Type 0
@@ -208,15 +208,15 @@ abbrev pub shown_block : NumberedBlock → Lines
 shown_block x = shown.lines x.block
 
 -- block n
-abbrev pub braced : ℕ → Lines → Tokens → Type 0
-braced n b = grammar.braced (statements (n + 1) b)
+abbrev pub numbered_block : ℕ → Lines → Tokens → Type 0
+numbered_block n b = grammar.in_braces (statements (n + 1) b)
 
 -- a block that is one of `levels` in one another
 abbrev pub KeepsBraced : ℕ → Limit → Lines → Type 0
 KeepsBraced levels l b = Opens l levels × IsFew l b × EachKeeps l (levels - 1) b
 
 abbrev pub otherwise : ℕ → Lines → Tokens → Type 0
-otherwise n b = a_word word.Else ⨾ braced n b
+otherwise n b = a_word word.Else ⨾ numbered_block n b
 
 -- why no block is opened: one is, and is over the limit, or none is
 abbrev pub Opening : Tokens → Why → Type 0
@@ -240,14 +240,14 @@ Further ts Unexpected = Begins (head ts) → ⊥
 
 -- a `return` with its expression
 abbrev pub returned : Spot × Expression → Tokens → Type 0
-returned q = one_at (tok.Word word.Return) q.0 ⨾ ended whole q.1
+returned q = one_at (tok.Word word.Return) q.0 ⨾ with_semicolon whole_expression q.1
 
 abbrev pub KeepsReturned : Limit → Spot × Expression → Type 0
-KeepsReturned l q = Keeps l q.1
+KeepsReturned l q = KeepsDepth l q.1
 
 abbrev pub shown_returned : Spot × Expr → Spot × Expression
 shown_returned q = (q.0, shown.expression q.1)
 
 -- the statements of a body
-abbrev pub returning : Lines → Tokens → Type 0
-returning b ts = (front : Lines) × (r : Option (Spot × Expression)) × (b ≡ with_return front r) × (statements 1 front ⨾ grammar.returning r) ts
+abbrev pub body_statements : Lines → Tokens → Type 0
+body_statements b ts = (front : Lines) × (r : Option (Spot × Expression)) × (b ≡ with_return front r) × (statements 1 front ⨾ grammar.return_end r) ts

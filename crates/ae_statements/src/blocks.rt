@@ -2,11 +2,11 @@
 ghost use Rattle.std.specs.Prelude.{◌≡◌, ◌≤◌, ◌+◌, ℕ, MatchBool, IfOk, length};
 ghost use Rattle.ae_tree.specs.Shown as shown;
 ghost use Rattle.ae_tree.specs.Grammar as grammar;
-ghost use Rattle.ae_tree.specs.Grammar.{opened, opened_in};
+ghost use Rattle.ae_tree.specs.Grammar.{blocks_opened, opened_in};
 ghost use Rattle.ae_tree.specs.Limits.{KeepsBlock};
 ghost use Rattle.ae_reading.specs.Reads.{Reads, Always, Is, head};
 ghost use Rattle.ae_statements.specs.Productions as productions;
-ghost use Rattle.ae_statements.specs.Productions.{Closes, Further, IsOpener, IsRoot, IsSimple, ReadsSimple, KeepsBraced, KeepsStmt, NoElse, braced, otherwise, shown_block, shown_numbered, shown_stmts, stmt};
+ghost use Rattle.ae_statements.specs.Productions.{Closes, Further, IsOpener, IsRoot, IsSimple, ReadsSimple, KeepsBraced, KeepsStmt, NoElse, numbered_block, otherwise, shown_block, shown_numbered, shown_stmts, stmt};
 
 use crate::deep::too_deep;
 use crate::led::led;
@@ -50,7 +50,7 @@ fn block<'a>(
 ) -> Result<(NumberedBlock, &'a [Lexeme]), Fail>
     requires few { no + length ts.now ≤ 4294967295 }
     requires some { 1 ≤ levels }
-    ensures reads { Reads shown_block (braced no) (KeepsBraced levels) Always ts.now result }
+    ensures reads { Reads shown_block (numbered_block no) (KeepsBraced levels) Always ts.now result }
     ensures number { IfOk result (λ x. (shown.braced x.0.block).no ≡ no) }
     ensures next { IfOk result (λ x. x.0.next ≡ no + 1 + opened_in (shown_block x.0)) }
 {
@@ -149,7 +149,7 @@ fn repetition<'a>(
     requires some { 1 ≤ levels }
     requires word { Is (Lexical.Word Keyword.While) (head ts.now) }
     ensures reads { Reads shown_numbered (stmt no) (KeepsStmt levels) NoElse ts.now result }
-    ensures next { IfOk result (λ x. x.0.next ≡ no + opened (shown_numbered x.0).1) }
+    ensures next { IfOk result (λ x. x.0.next ≡ no + blocks_opened (shown_numbered x.0).1) }
 {
     let (at, rest) = expect_word(ts, Keyword::While)?;
     let (e, rest) = expression(alloc, rest)?;
@@ -172,7 +172,7 @@ fn splitting<'a>(
     requires some { 1 ≤ levels }
     requires word { Is (Lexical.Word Keyword.Split) (head ts.now) }
     ensures reads { Reads shown_numbered (stmt no) (KeepsStmt levels) NoElse ts.now result }
-    ensures next { IfOk result (λ x. x.0.next ≡ no + opened (shown_numbered x.0).1) }
+    ensures next { IfOk result (λ x. x.0.next ≡ no + blocks_opened (shown_numbered x.0).1) }
 {
     let (at, rest) = expect_word(ts, Keyword::Split)?;
     let (groups, rest) = names(alloc, rest)?;
@@ -195,7 +195,7 @@ fn locking<'a>(
     requires some { 1 ≤ levels }
     requires word { Is (Lexical.Word Keyword.Atomic) (head ts.now) }
     ensures reads { Reads shown_numbered (stmt no) (KeepsStmt levels) NoElse ts.now result }
-    ensures next { IfOk result (λ x. x.0.next ≡ no + opened (shown_numbered x.0).1) }
+    ensures next { IfOk result (λ x. x.0.next ≡ no + blocks_opened (shown_numbered x.0).1) }
 {
     let (at, rest) = expect_word(ts, Keyword::Atomic)?;
     let (group, rest) = name(rest)?;
@@ -236,7 +236,7 @@ fn choice<'a>(
     requires some { 1 ≤ levels }
     requires word { Is (Lexical.Word Keyword.If) (head ts.now) }
     ensures reads { Reads shown_numbered (stmt no) (KeepsStmt levels) NoElse ts.now result }
-    ensures next { IfOk result (λ x. x.0.next ≡ no + opened (shown_numbered x.0).1) }
+    ensures next { IfOk result (λ x. x.0.next ≡ no + blocks_opened (shown_numbered x.0).1) }
 {
     let (at, rest) = expect_word(ts, Keyword::If)?;
     let (e, rest) = expression(alloc, rest)?;
@@ -293,7 +293,7 @@ fn statement<'a>(
 ) -> Result<(Numbered, &'a [Lexeme]), Fail>
     requires { no + length ts.now ≤ 4294967295 }
     ensures reads { Reads shown_numbered (stmt no) (KeepsStmt levels) NoElse ts.now result }
-    ensures next { IfOk result (λ x. x.0.next ≡ no + opened (shown_numbered x.0).1) }
+    ensures next { IfOk result (λ x. x.0.next ≡ no + blocks_opened (shown_numbered x.0).1) }
 {
     if !opens_next(ts) {
         let (stmt, rest) = simple(alloc, ts)?;

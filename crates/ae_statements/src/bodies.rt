@@ -2,10 +2,10 @@
 ghost use Rattle.std.specs.Prelude.{◌≡◌, ◌≤◌, IfOk, length};
 ghost use Rattle.ae_tree.specs.Shown as shown;
 ghost use Rattle.ae_tree.specs.Grammar as grammar;
-ghost use Rattle.ae_tree.specs.Limits.{Keeps, KeepsBlock};
+ghost use Rattle.ae_tree.specs.Limits.{KeepsDepth, KeepsBlock};
 ghost use Rattle.ae_reading.specs.Reads.{Reads, Always, Is, head};
 ghost use Rattle.ae_statements.specs.Productions as productions;
-ghost use Rattle.ae_statements.specs.Productions.{KeepsReturned, returned, returning, shown_returned};
+ghost use Rattle.ae_statements.specs.Productions.{KeepsReturned, returned, body_statements, shown_returned};
 
 use crate::blocks::{MOST_STATEMENTS, NumberedStmts, statements};
 use crate::simple::ended_expression;
@@ -26,7 +26,7 @@ fn result_of<'a>(alloc: Global, ts: &'a [Lexeme]) -> Result<((Spot, Expr), &'a [
 /// Statements, the last one a `return` where there is one.
 fn lines<'a>(alloc: Global, ts: &'a [Lexeme]) -> Result<(Items<Stmt>, &'a [Lexeme]), Fail>
     requires { length ts.now ≤ 1048577 }
-    ensures { Reads shown.lines_from returning (λ l b. KeepsBlock l 63 b) (Is (Lexical.Sign Sign.CloseBrace)) ts.now result }
+    ensures { Reads shown.lines_from body_statements (λ l b. KeepsBlock l 63 b) (Is (Lexical.Sign Sign.CloseBrace)) ts.now result }
 {
     let (read, rest) = statements(alloc, ts, 1, 63)?;
     let NumberedStmts { mut stmts, next: _ } = read;
@@ -47,7 +47,7 @@ fn lines<'a>(alloc: Global, ts: &'a [Lexeme]) -> Result<(Items<Stmt>, &'a [Lexem
 /// The statement behind the 1,024th is refused, and the brace that opens a block in 64 others.
 pub fn body<'a>(alloc: Global, ts: &'a [Lexeme]) -> Result<(Block, &'a [Lexeme]), Fail>
     requires { length ts.now ≤ 1048577 }
-    ensures reads { Reads shown.lines grammar.body (λ l b. KeepsBlock l 63 b) Always ts.now result }
+    ensures reads { Reads shown.lines grammar.method_body (λ l b. KeepsBlock l 63 b) Always ts.now result }
     ensures number { IfOk result (λ x. (shown.braced x.0).no ≡ 0) }
 {
     let (_, rest) = expect_sign(ts, Sign::OpenBrace)?;

@@ -2,7 +2,7 @@
 ghost use Rattle.std.specs.Prelude.{◌≡◌, map};
 ghost use Rattle.ae_tree.specs.Shown as shown;
 ghost use Rattle.ae_tree.specs.Grammar as grammar;
-ghost use Rattle.ae_tree.specs.Limits.{Keeps, AllKeep};
+ghost use Rattle.ae_tree.specs.Limits.{KeepsDepth, AllKeepDepth};
 ghost use Rattle.ae_reading.specs.Reads.{Reads, Always, Is};
 ghost use Rattle.ae_expressions.specs.Ends.{Ends};
 ghost use Rattle.ae_statements.specs.Productions as productions;
@@ -15,7 +15,7 @@ use ae_text::{Items, Sign};
 use std::alloc::Global;
 
 fn further_argument<'a>(alloc: Global, ts: &'a [Lexeme]) -> Result<(Expr, &'a [Lexeme]), Fail>
-    ensures { Reads shown.expression (grammar.further grammar.whole) Keeps (Ends 0) ts.now result }
+    ensures { Reads shown.expression (grammar.further grammar.whole_expression) KeepsDepth (Ends 0) ts.now result }
 {
     let (_, rest) = expect_sign(ts, Sign::Comma)?;
     expression(alloc, rest)
@@ -25,7 +25,7 @@ fn further_arguments<'a>(
     alloc: Global,
     ts: &'a [Lexeme],
 ) -> Result<(Items<Expr>, &'a [Lexeme]), Fail>
-    ensures { Reads (map shown.expression) (grammar.each (grammar.further grammar.whole)) AllKeep (Is (Lexical.Sign Sign.CloseParen)) ts.now result }
+    ensures { Reads (map shown.expression) (grammar.one_by_one (grammar.further grammar.whole_expression)) AllKeepDepth (Is (Lexical.Sign Sign.CloseParen)) ts.now result }
 {
     let mut args = Items::new(alloc);
     let mut rest = ts;
@@ -38,7 +38,7 @@ fn further_arguments<'a>(
 }
 
 fn some_arguments<'a>(alloc: Global, ts: &'a [Lexeme]) -> Result<(Items<Expr>, &'a [Lexeme]), Fail>
-    ensures { Reads (map shown.expression) (grammar.separated grammar.whole) AllKeep (Is (Lexical.Sign Sign.CloseParen)) ts.now result }
+    ensures { Reads (map shown.expression) (grammar.separated grammar.whole_expression) AllKeepDepth (Is (Lexical.Sign Sign.CloseParen)) ts.now result }
 {
     let (first, rest) = expression(alloc, ts)?;
     let (more, rest) = further_arguments(alloc, rest)?;
@@ -46,7 +46,7 @@ fn some_arguments<'a>(alloc: Global, ts: &'a [Lexeme]) -> Result<(Items<Expr>, &
 }
 
 fn any_arguments<'a>(alloc: Global, ts: &'a [Lexeme]) -> Result<(Items<Expr>, &'a [Lexeme]), Fail>
-    ensures { Reads (map shown.expression) (grammar.listed grammar.whole) AllKeep (Is (Lexical.Sign Sign.CloseParen)) ts.now result }
+    ensures { Reads (map shown.expression) (grammar.comma_list grammar.whole_expression) AllKeepDepth (Is (Lexical.Sign Sign.CloseParen)) ts.now result }
 {
     if is_sign_next(ts, Sign::CloseParen) {
         Ok((Items::new(alloc), ts))
@@ -60,7 +60,7 @@ pub(crate) fn arguments<'a>(
     alloc: Global,
     ts: &'a [Lexeme],
 ) -> Result<(Items<Expr>, &'a [Lexeme]), Fail>
-    ensures { Reads (map shown.expression) grammar.arguments AllKeep Always ts.now result }
+    ensures { Reads (map shown.expression) grammar.arguments AllKeepDepth Always ts.now result }
 {
     let (_, rest) = expect_sign(ts, Sign::OpenParen)?;
     let (args, rest) = any_arguments(alloc, rest)?;
@@ -73,7 +73,7 @@ pub(crate) fn called<'a>(
     alloc: Global,
     ts: &'a [Lexeme],
 ) -> Result<((Items<NameAt>, Items<Expr>), &'a [Lexeme]), Fail>
-    ensures { Reads shown_called productions.called KeepsCalled Always ts.now result }
+    ensures { Reads shown_called productions.call_rest KeepsCalled Always ts.now result }
 {
     let (groups, rest) = groups(alloc, ts)?;
     let (args, rest) = arguments(alloc, rest)?;

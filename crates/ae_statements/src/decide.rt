@@ -1,7 +1,7 @@
 // Whether a right side is an expression or a call, from the tokens ahead.
 ghost use Rattle.std.specs.Prelude.{◌≡◌, ◌∷◌, MatchOption};
 ghost use Rattle.ae_statements.specs.Deciding as deciding;
-ghost use Rattle.ae_statements.specs.Deciding.{AllSteps, BehindLess, BehindName, BehindPath, Decides, IsPlain, Steps};
+ghost use Rattle.ae_statements.specs.Deciding.{AllSteps, BehindLess, BehindName, BehindPath, Decides, IsPlainSide, Steps};
 
 use ae_tree::{Lexeme, Lexical};
 use ae_reading::{is_name_next, is_sign_next, is_word_next, next};
@@ -176,7 +176,7 @@ fn behind_this(ts: &[Lexeme]) -> Decided
 
 /// Whether a right side is an expression or a call. Its path is looked through, and no token is taken.
 pub(crate) fn decide(ts: &[Lexeme]) -> Decided
-    requires { IsPlain ts.now }
+    requires { IsPlainSide ts.now }
     ensures { Decides ts.now result }
 {
     let Some((_, rest)) = next(ts) else {

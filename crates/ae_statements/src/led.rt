@@ -2,7 +2,7 @@
 ghost use Rattle.std.specs.Prelude.{◌≡◌, ◌≢◌};
 ghost use Rattle.ae_tree.specs.Shown as shown;
 ghost use Rattle.ae_tree.specs.Grammar as grammar;
-ghost use Rattle.ae_tree.specs.Limits.{Keeps};
+ghost use Rattle.ae_tree.specs.Limits.{KeepsDepth};
 ghost use Rattle.ae_reading.specs.Reads.{Reads, itself, Always, Free, Is, head};
 ghost use Rattle.ae_statements.specs.Productions as productions;
 ghost use Rattle.ae_statements.specs.Productions.{ReadsSimple, IsRoot, KeepsIndexed, KeepsTail, Only, shown_indexed, shown_tail};
@@ -61,7 +61,7 @@ fn indexed<'a>(alloc: Global, ts: &'a [Lexeme]) -> Result<((Expr, Expr), &'a [Le
 
 /// What is stored in a field, behind the field.
 fn stored<'a>(alloc: Global, ts: &'a [Lexeme]) -> Result<(Expr, &'a [Lexeme]), Fail>
-    ensures { Reads shown.expression productions.stored Keeps Always ts.now result }
+    ensures { Reads shown.expression productions.stored_value KeepsDepth Always ts.now result }
 {
     let (_, rest) = expect_sign(ts, Sign::Assign)?;
     ended_expression(alloc, rest)

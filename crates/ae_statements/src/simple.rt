@@ -2,10 +2,10 @@
 ghost use Rattle.std.specs.Prelude.{ℕ, MatchBool};
 ghost use Rattle.ae_tree.specs.Shown as shown;
 ghost use Rattle.ae_tree.specs.Grammar as grammar;
-ghost use Rattle.ae_tree.specs.Limits.{Keeps, KeepsRight};
+ghost use Rattle.ae_tree.specs.Limits.{KeepsDepth, KeepsRight};
 ghost use Rattle.ae_reading.specs.Reads.{Reads, itself, Always, Free, Is, head};
 ghost use Rattle.ae_statements.specs.Productions as productions;
-ghost use Rattle.ae_statements.specs.Productions.{ReadsSimple, KeepsPrinted, IsText, ended};
+ghost use Rattle.ae_statements.specs.Productions.{ReadsSimple, KeepsPrinted, IsText, with_semicolon};
 
 use crate::values::right_side;
 use ae_tree::{Expr, Lexeme, Lexical, NameAt, Rhs, Stmt, StmtKind};
@@ -16,7 +16,7 @@ use std::alloc::Global;
 
 /// A name and a semicolon.
 fn ended_name<'a>(ts: &'a [Lexeme]) -> Result<(NameAt, &'a [Lexeme]), Fail>
-    ensures { Reads itself (ended grammar.name) Free Always ts.now result }
+    ensures { Reads itself (with_semicolon grammar.name) Free Always ts.now result }
 {
     let (x, rest) = name(ts)?;
     let (_, rest) = expect_sign(rest, Sign::Semicolon)?;
@@ -28,7 +28,7 @@ pub(crate) fn ended_expression<'a>(
     alloc: Global,
     ts: &'a [Lexeme],
 ) -> Result<(Expr, &'a [Lexeme]), Fail>
-    ensures { Reads shown.expression (ended grammar.whole) Keeps Always ts.now result }
+    ensures { Reads shown.expression (with_semicolon grammar.whole_expression) KeepsDepth Always ts.now result }
 {
     let (e, rest) = expression(alloc, ts)?;
     let (_, rest) = expect_sign(rest, Sign::Semicolon)?;
@@ -37,7 +37,7 @@ pub(crate) fn ended_expression<'a>(
 
 /// What a local gets, behind its name.
 pub(crate) fn value<'a>(alloc: Global, ts: &'a [Lexeme]) -> Result<(Rhs, &'a [Lexeme]), Fail>
-    ensures { Reads shown.right_side productions.value KeepsRight Always ts.now result }
+    ensures { Reads shown.right_side productions.local_value KeepsRight Always ts.now result }
 {
     let (_, rest) = expect_sign(ts, Sign::Assign)?;
     right_side(alloc, rest)
@@ -126,7 +126,7 @@ fn text<'a>(alloc: Global, ts: &'a [Lexeme]) -> Result<(Items<u8>, &'a [Lexeme])
 
 fn printed_text<'a>(alloc: Global, ts: &'a [Lexeme]) -> Result<(StmtKind, &'a [Lexeme]), Fail>
     requires { IsText (head ts.now) }
-    ensures { Reads shown.action productions.printed KeepsPrinted Always ts.now result }
+    ensures { Reads shown.action productions.print_operand KeepsPrinted Always ts.now result }
 {
     let (bytes, rest) = text(alloc, ts)?;
     let (_, rest) = expect_sign(rest, Sign::Semicolon)?;
@@ -135,7 +135,7 @@ fn printed_text<'a>(alloc: Global, ts: &'a [Lexeme]) -> Result<(StmtKind, &'a [L
 
 /// What is printed: a text or an expression.
 fn printed<'a>(alloc: Global, ts: &'a [Lexeme]) -> Result<(StmtKind, &'a [Lexeme]), Fail>
-    ensures { Reads shown.action productions.printed KeepsPrinted Always ts.now result }
+    ensures { Reads shown.action productions.print_operand KeepsPrinted Always ts.now result }
 {
     if is_text_next(ts) {
         return printed_text(alloc, ts);

@@ -1,13 +1,13 @@
 // What stands right of a `=`.
 ghost use Rattle.ae_tree.specs.Shown as shown;
 ghost use Rattle.ae_tree.specs.Grammar as grammar;
-ghost use Rattle.ae_tree.specs.Limits.{Keeps, KeepsRight};
+ghost use Rattle.ae_tree.specs.Limits.{KeepsDepth, KeepsRight};
 ghost use Rattle.ae_reading.specs.Reads.{Reads, itself, head, Always, Free, Is, Isnt};
 ghost use Rattle.std.specs.Prelude.{◌≡◌};
 ghost use Rattle.ae_statements.specs.Deciding as deciding;
 ghost use Rattle.ae_statements.specs.Deciding.{IsCall, IsValue};
 ghost use Rattle.ae_statements.specs.Productions as productions;
-ghost use Rattle.ae_statements.specs.Productions.{ended};
+ghost use Rattle.ae_statements.specs.Productions.{with_semicolon};
 
 use crate::calls::{called, invoke};
 use crate::decide::{Decided, decide};
@@ -33,7 +33,7 @@ fn no_earlier(fail: Fail, left: usize) -> Fail
 /// An expression that is over its limit before it is known to be one stops where it is.
 fn value<'a>(alloc: Global, ts: &'a [Lexeme], left: usize) -> Result<(Rhs, &'a [Lexeme]), Fail>
     requires { IsValue ts.now left }
-    ensures { Reads shown.right_side (ended grammar.right_side) KeepsRight Always ts.now result }
+    ensures { Reads shown.right_side (with_semicolon grammar.right_of_equals) KeepsRight Always ts.now result }
 {
     let (e, rest) = match ended_expression(alloc, ts) {
         Ok(read) => read,
@@ -45,7 +45,7 @@ fn value<'a>(alloc: Global, ts: &'a [Lexeme], left: usize) -> Result<(Rhs, &'a [
 /// A right side that can only be a call.
 fn call<'a>(alloc: Global, ts: &'a [Lexeme]) -> Result<(Rhs, &'a [Lexeme]), Fail>
     requires { IsCall ts.now }
-    ensures { Reads shown.right_side (ended grammar.right_side) KeepsRight Always ts.now result }
+    ensures { Reads shown.right_side (with_semicolon grammar.right_of_equals) KeepsRight Always ts.now result }
 {
     let (path, rest) = path(alloc, ts)?;
     let ((groups, args), rest) = called(alloc, rest)?;
@@ -66,7 +66,7 @@ fn member<'a>(alloc: Global, ts: &'a [Lexeme]) -> Result<(Path, &'a [Lexeme]), F
 /// What a field holds, which is taken out of it.
 fn taking<'a>(alloc: Global, ts: &'a [Lexeme]) -> Result<(Rhs, &'a [Lexeme]), Fail>
     requires { Is (Lexical.Word Keyword.Take) (head ts.now) }
-    ensures { Reads shown.right_side (ended grammar.right_side) KeepsRight Always ts.now result }
+    ensures { Reads shown.right_side (with_semicolon grammar.right_of_equals) KeepsRight Always ts.now result }
 {
     let (at, rest) = expect_word(ts, Keyword::Take)?;
     let (path, rest) = member(alloc, rest)?;
@@ -76,7 +76,7 @@ fn taking<'a>(alloc: Global, ts: &'a [Lexeme]) -> Result<(Rhs, &'a [Lexeme]), Fa
 
 /// How many numbers a new array has, in parentheses, and a semicolon.
 fn length<'a>(alloc: Global, ts: &'a [Lexeme]) -> Result<(Expr, &'a [Lexeme]), Fail>
-    ensures { Reads shown.expression (ended productions.sized) Keeps Always ts.now result }
+    ensures { Reads shown.expression (with_semicolon productions.sized) KeepsDepth Always ts.now result }
 {
     let (_, rest) = expect_word(ts, Keyword::Ints)?;
     let (_, rest) = expect_sign(rest, Sign::OpenParen)?;
@@ -89,7 +89,7 @@ fn length<'a>(alloc: Global, ts: &'a [Lexeme]) -> Result<(Expr, &'a [Lexeme]), F
 /// A new array of zeros, behind `new`.
 fn zeros<'a>(alloc: Global, ts: &'a [Lexeme], at: Spot) -> Result<(Rhs, &'a [Lexeme]), Fail>
     requires { Is (Lexical.Word Keyword.Ints) (head ts.now) }
-    ensures { Reads shown.right_side (productions.made at) KeepsRight Always ts.now result }
+    ensures { Reads shown.right_side (productions.made_side at) KeepsRight Always ts.now result }
 {
     let (e, rest) = length(alloc, ts)?;
     Ok((Rhs::Ints(e, at), rest))
@@ -98,7 +98,7 @@ fn zeros<'a>(alloc: Global, ts: &'a [Lexeme], at: Spot) -> Result<(Rhs, &'a [Lex
 /// A new object, behind `new`.
 fn object<'a>(alloc: Global, ts: &'a [Lexeme], at: Spot) -> Result<(Rhs, &'a [Lexeme]), Fail>
     requires { Is (Lexical.Word Keyword.Ints) (head ts.now) → ⊥ }
-    ensures { Reads shown.right_side (productions.made at) KeepsRight Always ts.now result }
+    ensures { Reads shown.right_side (productions.made_side at) KeepsRight Always ts.now result }
 {
     let (class, rest) = name(ts)?;
     let ((groups, args), rest) = called(alloc, rest)?;
@@ -108,7 +108,7 @@ fn object<'a>(alloc: Global, ts: &'a [Lexeme], at: Spot) -> Result<(Rhs, &'a [Le
 /// A new array or object.
 fn making<'a>(alloc: Global, ts: &'a [Lexeme]) -> Result<(Rhs, &'a [Lexeme]), Fail>
     requires { Is (Lexical.Word Keyword.New) (head ts.now) }
-    ensures { Reads shown.right_side (ended grammar.right_side) KeepsRight Always ts.now result }
+    ensures { Reads shown.right_side (with_semicolon grammar.right_of_equals) KeepsRight Always ts.now result }
 {
     let (at, rest) = expect_word(ts, Keyword::New)?;
     if is_word_next(rest, Keyword::Ints) {
@@ -120,7 +120,7 @@ fn making<'a>(alloc: Global, ts: &'a [Lexeme]) -> Result<(Rhs, &'a [Lexeme]), Fa
 
 /// A right side and a semicolon.
 pub(crate) fn right_side<'a>(alloc: Global, ts: &'a [Lexeme]) -> Result<(Rhs, &'a [Lexeme]), Fail>
-    ensures { Reads shown.right_side (ended grammar.right_side) KeepsRight Always ts.now result }
+    ensures { Reads shown.right_side (with_semicolon grammar.right_of_equals) KeepsRight Always ts.now result }
 {
     if is_word_next(ts, Keyword::Take) {
         return taking(alloc, ts);

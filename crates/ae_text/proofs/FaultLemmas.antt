@@ -7,7 +7,7 @@ use Rattle.ae_text.specs.declared.refusal.Rule.{Rule}
 use Rattle.ae_text.specs.declared.refusal.Rule.TheVariants as rule
 use Rattle.ae_text.specs.declared.token.Token.{Token}
 use Rattle.ae_text.specs.declared.token.TokenKind.TheVariants as t
-use Rattle.ae_text.specs.Tokens.{Text, width, is_digit, IsNumber, value, Piece, text_of, ArePieces, IsNothing, IsTooLarge, IsOpen, IsBadEscape, IsFault, Lexes, CutFault, LexFault}
+use Rattle.ae_text.specs.Tokens.{Text, width, is_digit, IsNumber, digits_value, TextPiece, text_of, ArePieces, IsNothing, IsTooLarge, IsOpen, IsBadEscape, IsFault, Lexes, CutFault, LexFault}
 use Rattle.ae_text.proofs.QuoteLemmas.{first_is, bad_same, bad_no_open}
 use Rattle.ae_text.proofs.CutLemmas.{cuttings, NoPiece, fault_no_piece, fault_refuses}
 
@@ -45,7 +45,7 @@ large_no_quote rest r l e = digits_no_quote l.digits l.after r l.number (sym l.p
 
 nothing_no_large : (rest : Text) → IsNothing rest → IsTooLarge rest → ⊥
 nothing_no_large [] n l = n
-nothing_no_large (c ∷ rest) n l = n.3 (t.Int (pos (value l.digits))) l.digits l.after l.parts (l.number, refl)
+nothing_no_large (c ∷ rest) n l = n.3 (t.Int (pos (digits_value l.digits))) l.digits l.after l.parts (l.number, refl)
 
 abbrev Same : Rule → Rule → Text → Text → Type 0
 Same r q b c = (r ≡ q) × (b ≡ c)
@@ -78,11 +78,11 @@ abbrev SameFault : Rule → Rule → ℕ → ℕ → Type 0
 SameFault r q m n = (r ≡ q) × (m ≡ n)
 
 -- where no piece begins, a longer cutting is none
-no_more : (zs : List Piece) (x y : Text) → NoPiece x → x ≡ text_of zs ++ y → ArePieces zs y → zs ≡ []
+no_more : (zs : List TextPiece) (x y : Text) → NoPiece x → x ≡ text_of zs ++ y → ArePieces zs y → zs ≡ []
 no_more [] x y n e m = refl
 no_more (z ∷ zs) x y n e m = absurd (n z (text_of zs ++ y) m.0 (e ∙ append_assoc _ (text_of zs) y))
 
-same_cut : (ps qs zs : List Piece) (x y : Text) → NoPiece x → qs ≡ ps ++ zs → x ≡ text_of zs ++ y → ArePieces zs y → (text_of ps ≡ text_of qs) × (x ≡ y)
+same_cut : (ps qs zs : List TextPiece) (x y : Text) → NoPiece x → qs ≡ ps ++ zs → x ≡ text_of zs ++ y → ArePieces zs y → (text_of ps ≡ text_of qs) × (x ≡ y)
 same_cut ps qs zs x y n e w m =
     let none : zs ≡ [] = no_more zs x y n w m in
     (ap text_of (sym (append-nil ps) ∙ ap (λ l. ps ++ l) (sym none) ∙ sym e), w ∙ ap (λ l. text_of l ++ y) none)

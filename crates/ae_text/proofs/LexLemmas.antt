@@ -9,7 +9,7 @@ use Rattle.std.specs.Str.{chars, encode_utf8_all}
 use Rattle.std.specs.Char.{is_ascii_alphabetic}
 use Rattle.unicode_ident.proofs.IdentLemmas.{is_xid_start-is_xid_continue, is_xid_continue-ascii}
 use Rattle.unicode_ident.specs.Ident.{is_xid_start, is_xid_continue}
-use Rattle.ae_text.specs.Tokens.{Text, Each, Stops, is_white, is_digit, begins_word, goes_on, in_line, sign_text, IsWord, IsNumber, value, IsQuoted, Spells, IsLongest, NoComment, IsInRange, Piece, White, Comment, Tok, spelling, IsPiece, IsNothing, IsTooLarge, IsFault, spelled}
+use Rattle.ae_text.specs.Tokens.{Text, Each, Stops, is_white, is_digit, begins_word, goes_on, in_line, sign_text, IsWord, IsNumber, digits_value, IsQuoted, Spells, IsLongest, NoComment, IsInRange, TextPiece, White, Comment, Tok, piece_text, IsPiece, IsNothing, IsTooLarge, IsFault, parts_text}
 use Rattle.ae_text.specs.Scan.{Front, Spans, Cuts, NoSign, SignThen, CommentThen, ValueThen, FaultAfter}
 use Rattle.ae_text.proofs.SpellingLemmas.{keyword_is_word, keyword_unique, sign_unique, sign_first, signs_start, begins_ascii}
 use Rattle.ae_text.proofs.QuoteLemmas.{quoted_longest, quoted_value}
@@ -119,7 +119,7 @@ spells_word (t.Sign g) b s l h =
     absurd (letter_no_sign f.0 (subst P (first_is b f.0 s f.1 (h ∙ f.2)) l) f.3)
 spells_word t.End b s l h = absurd h
 
-pub spells_number : (k : TokenKind) (b : ℕ) (s : Text) → IsTrue (is_digit b) → Spells k (b ∷ s) → (k ≡ t.Int (pos (value (b ∷ s)))) × Each is_digit (b ∷ s)
+pub spells_number : (k : TokenKind) (b : ℕ) (s : Text) → IsTrue (is_digit b) → Spells k (b ∷ s) → (k ≡ t.Int (pos (digits_value (b ∷ s)))) × Each is_digit (b ∷ s)
 spells_number (t.Name bytes) b s d h = absurd (letter_no_digit b h.1.0 d)
 spells_number (t.Int n) b s d h = (ap (λ v. t.Int v) h.1, h.0)
 spells_number (t.Text bytes) b s d h = let P : ℕ → Type 0 = λ x. IsTrue (is_digit x) in absurd (quote_no_digit (subst P (first_is b 34 s _ h.whole) d))
@@ -296,22 +296,22 @@ cuts_word text bytes after rest b k p e h w =
     let r = w p.taken p.bytes_are is in
     cuts_token text p.taken after k p.front r.0 r.1 (longest_word p.taken (chars after) is p.stops) (letter_comment text rest b e h)
 
-pub cuts_number : (text bytes after rest : Text) (b : ℕ) (n : ℤ) → Spans is_digit text bytes after → Front text (b ∷ []) rest → is_digit b ≡ true → n ≡ pos (value bytes) → value bytes < 2 ^ 63 → Cuts text (Some (t.Int n)) after
+pub cuts_number : (text bytes after rest : Text) (b : ℕ) (n : ℤ) → Spans is_digit text bytes after → Front text (b ∷ []) rest → is_digit b ≡ true → n ≡ pos (digits_value bytes) → digits_value bytes < 2 ^ 63 → Cuts text (Some (t.Int n)) after
 cuts_number text bytes after rest b n p e h v r =
     let is : IsNumber p.taken = span_number text bytes after rest b p e h in
-    let same : value bytes ≡ value p.taken = ap value (digits_are text bytes after p) in
-    let small : value p.taken < 2 ^ 63 = omega (arith, r, same) in
+    let same : digits_value bytes ≡ digits_value p.taken = ap digits_value (digits_are text bytes after p) in
+    let small : digits_value p.taken < 2 ^ 63 = omega (arith, r, same) in
     cuts_token text p.taken after (t.Int n) p.front (is, v ∙ ap (λ x. pos x) same) small (longest_number p.taken (chars after) is p.stops) (digit_comment text rest b e h)
 
-pub too_large : (text bytes after rest : Text) (b : ℕ) → Spans is_digit text bytes after → Front text (b ∷ []) rest → is_digit b ≡ true → 2 ^ 63 ≤ value bytes → IsTooLarge (chars text)
+pub too_large : (text bytes after rest : Text) (b : ℕ) → Spans is_digit text bytes after → Front text (b ∷ []) rest → is_digit b ≡ true → 2 ^ 63 ≤ digits_value bytes → IsTooLarge (chars text)
 too_large text bytes after rest b p e h v =
-    let same : value bytes ≡ value p.taken = ap value (digits_are text bytes after p) in
+    let same : digits_value bytes ≡ digits_value p.taken = ap digits_value (digits_are text bytes after p) in
     record { digits = p.taken; after = chars after; parts = p.front.characters; number = span_number text bytes after rest b p e h; stops = p.stops; large = omega (arith, v, same) }
 
 pub cuts_text : (text rest after bytes : Text) (b : ℕ) → Front text (b ∷ []) rest → b ≡ 34 → ValueThen text bytes after → Cuts text (Some (t.Text bytes)) after
 cuts_text text rest after bytes b e q v =
-    let is : IsQuoted bytes (34 ∷ (spelled v.parts ++ 34 ∷ [])) = record { parts = v.parts; whole = refl; are = v.are; known = v.known; value_is = v.value_is } in
-    cuts_token text (34 ∷ (spelled v.parts ++ 34 ∷ [])) after (t.Text bytes) v.front is tt (longest_quoted bytes _ (chars after) is) (quote_comment text rest b e q)
+    let is : IsQuoted bytes (34 ∷ (parts_text v.parts ++ 34 ∷ [])) = record { parts = v.parts; whole = refl; are = v.are; known = v.known; value_is = v.value_is } in
+    cuts_token text (34 ∷ (parts_text v.parts ++ 34 ∷ [])) after (t.Text bytes) v.front is tt (longest_quoted bytes _ (chars after) is) (quote_comment text rest b e q)
 
 pub cuts_comment : (text after : Text) → CommentThen text after → Cuts text None after
 cuts_comment text after c = record { piece = Comment c.line; front = c.front; is = (c.each, c.stops); kind_is = refl }
@@ -400,7 +400,7 @@ slash_no_white : IsTrue (is_white 47) → ⊥
 slash_no_white h = cc
 
 -- what begins a text is one piece
-pub piece_unique : (p q : Piece) (x y : Text) → IsPiece p x → IsPiece q y → spelling p ++ x ≡ spelling q ++ y → (p ≡ q) × (x ≡ y)
+pub piece_unique : (p q : TextPiece) (x y : Text) → IsPiece p x → IsPiece q y → piece_text p ++ x ≡ piece_text q ++ y → (p ≡ q) × (x ≡ y)
 piece_unique (White b) (White d) x y m n e = let heads : b ≡ d = cc in (ap (λ w. White w) heads, cc)
 piece_unique (White b) (Comment d) x y m n e = let P : ℕ → Type 0 = λ w. IsTrue (is_white w) in absurd (slash_no_white (subst P (first_is b 47 x _ e) m))
 piece_unique (White b) (Tok k s) x y m n e = absurd (no_token k s y x b n.spells m e)
@@ -418,7 +418,7 @@ piece_unique (Tok k s) (Tok k' s') x y m n e =
     (ap (λ w. Tok w s) (kind_unique k k' s m.spells (subst P (sym r.0) n.spells)) ∙ ap (λ w. Tok k' w) r.0, r.1)
 
 -- where nothing begins, no piece does
-pub nothing_no_piece : (p : Piece) (rest x : Text) → IsNothing rest → IsPiece p x → rest ≡ spelling p ++ x → ⊥
+pub nothing_no_piece : (p : TextPiece) (rest x : Text) → IsNothing rest → IsPiece p x → rest ≡ piece_text p ++ x → ⊥
 nothing_no_piece p [] x f m e = f
 nothing_no_piece (White b) (d ∷ rest) x f m e =
     let heads : b ≡ d = sym (first_is d b rest x e) in
@@ -427,27 +427,27 @@ nothing_no_piece (Comment c) (d ∷ rest) x f m e = f.2 (c ++ x) e
 nothing_no_piece (Tok k s) (d ∷ rest) x f m e = f.3 k s x e m.spells
 
 -- a number that is too large is no piece
-large_int : (p : Piece) (s after x : Text) → IsNumber s → Stops is_digit after → 2 ^ 63 ≤ value s → IsPiece p x → s ++ after ≡ spelling p ++ x → ⊥
+large_int : (p : TextPiece) (s after x : Text) → IsNumber s → Stops is_digit after → 2 ^ 63 ≤ digits_value s → IsPiece p x → s ++ after ≡ piece_text p ++ x → ⊥
 large_int p [] after x n stop v m e = n
 large_int (White b) (d ∷ s) after x n stop v m e =
     let P : ℕ → Type 0 = λ w. IsTrue (is_digit w) in white_no_digit b m (subst P (first_is d b _ _ e) n.0)
 large_int (Comment c) (d ∷ s) after x n stop v m e =
     let P : ℕ → Type 0 = λ w. IsTrue (is_digit w) in slash_no_digit (subst P (first_is d 47 _ _ e) n.0)
 large_int (Tok k s') (d ∷ s) after x n stop v m e =
-    let number : Spells (t.Int (pos (value (d ∷ s)))) (d ∷ s) = (n, refl) in
-    let r = same_front (d ∷ s) s' after x (t.Int (pos (value (d ∷ s)))) k number m.spells (longest_number (d ∷ s) after n stop) m.longest e in
+    let number : Spells (t.Int (pos (digits_value (d ∷ s)))) (d ∷ s) = (n, refl) in
+    let r = same_front (d ∷ s) s' after x (t.Int (pos (digits_value (d ∷ s)))) k number m.spells (longest_number (d ∷ s) after n stop) m.longest e in
     let P : Text → Type 0 = Spells k in
-    let is : k ≡ t.Int (pos (value (d ∷ s))) = (spells_number k d s n.0 (subst P (sym r.0) m.spells)).0 in
+    let is : k ≡ t.Int (pos (digits_value (d ∷ s))) = (spells_number k d s n.0 (subst P (sym r.0) m.spells)).0 in
     let Q : TokenKind → Type 0 = λ w. IsInRange w s' in
-    let small : value s' < 2 ^ 63 = subst Q is m.in_range in
-    let same : value (d ∷ s) ≡ value s' = ap value r.0 in
+    let small : digits_value s' < 2 ^ 63 = subst Q is m.in_range in
+    let same : digits_value (d ∷ s) ≡ digits_value s' = ap digits_value r.0 in
     omega (arith, small, v, same)
 
-pub large_no_piece : (p : Piece) (rest x : Text) → IsTooLarge rest → IsPiece p x → rest ≡ spelling p ++ x → ⊥
+pub large_no_piece : (p : TextPiece) (rest x : Text) → IsTooLarge rest → IsPiece p x → rest ≡ piece_text p ++ x → ⊥
 large_no_piece p rest x f m e = large_int p f.digits f.after x f.number f.stops f.large m (sym f.parts ∙ e)
 
 -- what begins with a quote is a text, if it is a piece
-pub quote_piece : (p : Piece) (rest x : Text) → IsPiece p x → 34 ∷ rest ≡ spelling p ++ x → (bytes s : Text) × (p ≡ Tok (t.Text bytes) (34 ∷ s)) × IsQuoted bytes (34 ∷ s)
+pub quote_piece : (p : TextPiece) (rest x : Text) → IsPiece p x → 34 ∷ rest ≡ piece_text p ++ x → (bytes s : Text) × (p ≡ Tok (t.Text bytes) (34 ∷ s)) × IsQuoted bytes (34 ∷ s)
 quote_piece (White b) rest x m e = absurd (white_no_quote b m (sym (first_is 34 b rest x e)))
 quote_piece (Comment c) rest x m e = absurd (let slash : 34 ≡ 47 = first_is 34 47 rest (47 ∷ (c ++ x)) e in omega (arith, slash))
 quote_piece (Tok k s) rest x m e =

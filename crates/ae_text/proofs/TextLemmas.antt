@@ -8,7 +8,7 @@ use Rattle.ae_text.specs.declared.faults.Fault.{Fault}
 use Rattle.ae_text.specs.declared.faults.Fault.TheVariants as fault
 use Rattle.ae_text.specs.declared.texts.Part.{Part}
 use Rattle.ae_text.specs.declared.texts.Part.TheVariants.{Plain, Escape}
-use Rattle.ae_text.specs.Tokens.{Text, width, escaped, spelled, AreParts, AreKnown, meant, EndsOpen}
+use Rattle.ae_text.specs.Tokens.{Text, width, escape_meaning, parts_text, AreParts, AreKnownEscapes, parts_meaning, EndsOpen}
 use Rattle.ae_text.specs.Scan.{Front, EndsText, PartThen, PartsThen, NoQuote, Means, IsUnknown, BadEscapeFault, ValueThen, FaultAfter, Faults}
 use Rattle.ae_text.proofs.ScanLemmas.{front_nil, front_then, front_as, front_length, front_smaller}
 
@@ -23,7 +23,7 @@ first_is b c s r e = cc
 
 -- ---- one list of parts after another
 
-pub spelled-append : (a b : List Part) → spelled (a ++ b) ≡ spelled a ++ spelled b
+pub spelled-append : (a b : List Part) → parts_text (a ++ b) ≡ parts_text a ++ parts_text b
 spelled-append [] b = refl
 spelled-append (Plain c ∷ a) b = ap (λ x. c ∷ x) (spelled-append a b)
 spelled-append (Escape c ∷ a) b = ap (λ x. 92 ∷ c ∷ x) (spelled-append a b)
@@ -33,26 +33,26 @@ parts-append [] b m n = n
 parts-append (Plain c ∷ a) b m n = (m.0, parts-append a b m.1 n)
 parts-append (Escape c ∷ a) b m n = (m.0, parts-append a b m.1 n)
 
-known-append : (a b : List Part) → AreKnown a → AreKnown b → AreKnown (a ++ b)
+known-append : (a b : List Part) → AreKnownEscapes a → AreKnownEscapes b → AreKnownEscapes (a ++ b)
 known-append [] b m n = n
 known-append (Plain c ∷ a) b m n = known-append a b m n
 known-append (Escape c ∷ a) b m n = (m.0, known-append a b m.1 n)
 
-known-back : (a b : List Part) → AreKnown (a ++ b) → AreKnown b
+known-back : (a b : List Part) → AreKnownEscapes (a ++ b) → AreKnownEscapes b
 known-back [] b m = m
 known-back (Plain c ∷ a) b m = known-back a b m
 known-back (Escape c ∷ a) b m = known-back a b m.1
 
-meant-append : (a b : List Part) → meant (a ++ b) ≡ meant a ++ meant b
+meant-append : (a b : List Part) → parts_meaning (a ++ b) ≡ parts_meaning a ++ parts_meaning b
 meant-append [] b = refl
 meant-append (Plain c ∷ a) b = ap (λ x. c ∷ x) (meant-append a b)
-meant-append (Escape c ∷ a) b = ap (λ x. escaped c ∷ x) (meant-append a b)
+meant-append (Escape c ∷ a) b = ap (λ x. escape_meaning c ∷ x) (meant-append a b)
 
 -- ---- the parts at the front of a text
 
 pub record Parts (text after : Text) : Type 0 where
   pub parts : List Part
-  pub front : Front text (spelled parts) after
+  pub front : Front text (parts_text parts) after
   pub are : AreParts parts
 
 pub parts_start : (text : Text) → Parts text text
@@ -61,7 +61,7 @@ parts_start text = record { parts = []; front = front_nil text; are = tt }
 pub parts_more : (text mid after : Text) (p : Part) → Parts text mid → PartThen mid p after → Parts text after
 parts_more text mid after p r k = record {
   parts = r.parts ++ p ∷ [];
-  front = front_as text after _ _ (sym (spelled-append r.parts (p ∷ []))) (front_then text mid after (spelled r.parts) (spelled (p ∷ [])) r.front k.front);
+  front = front_as text after _ _ (sym (spelled-append r.parts (p ∷ []))) (front_then text mid after (parts_text r.parts) (parts_text (p ∷ [])) r.front k.front);
   are = parts-append r.parts (p ∷ []) r.are k.is;
 }
 
@@ -76,10 +76,10 @@ parts_end text after r e = record { parts = r.parts; front = r.front; are = r.ar
 
 pub record Reads (quoted rest bytes : Text) : Type 0 where
   pub parts : List Part
-  pub front : Front quoted (34 ∷ spelled parts) rest
+  pub front : Front quoted (34 ∷ parts_text parts) rest
   pub are : AreParts parts
-  pub known : AreKnown parts
-  pub value_is : bytes ≡ encode_utf8_all (meant parts)
+  pub known : AreKnownEscapes parts
+  pub value_is : bytes ≡ encode_utf8_all (parts_meaning parts)
 
 pub reads_start : (quoted inner bytes : Text) → Front quoted (34 ∷ []) inner → bytes ≡ [] → Reads quoted inner bytes
 reads_start quoted inner bytes f e = record { parts = []; front = f; are = tt; known = tt; value_is = e }
@@ -87,17 +87,17 @@ reads_start quoted inner bytes f e = record { parts = []; front = f; are = tt; k
 pub reads_more : (quoted mid after bytes bytes' : Text) (p : Part) (c : ℕ) → Reads quoted mid bytes → PartThen mid p after → Means p c → bytes' ≡ bytes ++ encode_utf8 c → Reads quoted after bytes'
 reads_more quoted mid after bytes bytes' p c r k m e = record {
   parts = r.parts ++ p ∷ [];
-  front = front_as quoted after _ _ (ap (λ x. 34 ∷ x) (sym (spelled-append r.parts (p ∷ [])))) (front_then quoted mid after (34 ∷ spelled r.parts) (spelled (p ∷ [])) r.front k.front);
+  front = front_as quoted after _ _ (ap (λ x. 34 ∷ x) (sym (spelled-append r.parts (p ∷ [])))) (front_then quoted mid after (34 ∷ parts_text r.parts) (parts_text (p ∷ [])) r.front k.front);
   are = parts-append r.parts (p ∷ []) r.are k.is;
   known = known-append r.parts (p ∷ []) r.known m.0;
-  value_is = e ∙ ap (λ x. x ++ encode_utf8 c) r.value_is ∙ ap (λ x. encode_utf8_all (meant r.parts) ++ x) (sym (append-nil (encode_utf8 c)))
-      ∙ sym (encodes-append (meant r.parts) (c ∷ [])) ∙ ap (λ x. encode_utf8_all (meant r.parts ++ x)) (sym m.1) ∙ ap encode_utf8_all (sym (meant-append r.parts (p ∷ [])));
+  value_is = e ∙ ap (λ x. x ++ encode_utf8 c) r.value_is ∙ ap (λ x. encode_utf8_all (parts_meaning r.parts) ++ x) (sym (append-nil (encode_utf8 c)))
+      ∙ sym (encodes-append (parts_meaning r.parts) (c ∷ [])) ∙ ap (λ x. encode_utf8_all (parts_meaning r.parts ++ x)) (sym m.1) ∙ ap encode_utf8_all (sym (meant-append r.parts (p ∷ [])));
 }
 
 pub reads_end : (quoted rest after bytes bytes' : Text) → Reads quoted rest bytes → Front rest (34 ∷ []) after → bytes' ≡ bytes → ValueThen quoted bytes' after
 reads_end quoted rest after bytes bytes' r f e = record {
   parts = r.parts;
-  front = front_then quoted rest after (34 ∷ spelled r.parts) (34 ∷ []) r.front f;
+  front = front_then quoted rest after (34 ∷ parts_text r.parts) (34 ∷ []) r.front f;
   are = r.are;
   known = r.known;
   value_is = e ∙ r.value_is;
@@ -121,10 +121,10 @@ reads_open quoted rest bytes r e n = record {
 pub reads_bad : (quoted rest after bytes : Text) (p : Part) (ahead : ℕ) (f : Fault) → Reads quoted rest bytes → PartThen rest p after → IsUnknown p → ahead ≡ length quoted - length rest → BadEscapeFault ahead (chars after) f → Faults quoted f
 reads_bad quoted rest after bytes (Plain c) ahead f r k u a b = absurd u
 reads_bad quoted rest after bytes (Escape c) ahead (fault.Rule rule.BadChar n) r k u a b = record {
-  before = 34 ∷ spelled r.parts;
+  before = 34 ∷ parts_text r.parts;
   after = rest;
   front = r.front;
-  ahead_is = let size : length quoted ≡ width (34 ∷ spelled r.parts) + length rest = front_length quoted rest _ r.front in omega (arith, b.0);
+  ahead_is = let size : length quoted ≡ width (34 ∷ parts_text r.parts) + length rest = front_length quoted rest _ r.front in omega (arith, b.0);
   is = inr (record {
     inner = r.parts;
     front = refl;
@@ -149,8 +149,8 @@ reads_bad quoted rest after bytes (Escape c) ahead (fault.Rule rule.OpenText n) 
     record {
       inner = r.parts ++ Escape c ∷ b.1.0;
       after = b.1.1;
-      parts = r.front.characters ∙ ap (λ x. 34 ∷ (spelled r.parts ++ x)) (k.front.characters ∙ ap (λ x. 92 ∷ c ∷ x) b.1.2)
-          ∙ ap (λ x. 34 ∷ x) (sym (append_assoc (spelled r.parts) (92 ∷ c ∷ spelled b.1.0) b.1.1) ∙ ap (λ x. x ++ b.1.1) (sym (spelled-append r.parts (Escape c ∷ b.1.0))));
+      parts = r.front.characters ∙ ap (λ x. 34 ∷ (parts_text r.parts ++ x)) (k.front.characters ∙ ap (λ x. 92 ∷ c ∷ x) b.1.2)
+          ∙ ap (λ x. 34 ∷ x) (sym (append_assoc (parts_text r.parts) (92 ∷ c ∷ parts_text b.1.0) b.1.1) ∙ ap (λ x. x ++ b.1.1) (sym (spelled-append r.parts (Escape c ∷ b.1.0))));
       are = parts-append r.parts (Escape c ∷ b.1.0) r.are (k.is.0, b.1.3);
       ends = b.1.4;
     },
@@ -160,7 +160,7 @@ reads_bad quoted rest after bytes (Escape c) ahead (fault.Rule _ n) r k u a b = 
 reads_bad quoted rest after bytes (Escape c) ahead fault.Memory r k u a b = absurd b
 
 pub closed_fault : (text after end : Text) (ahead : ℕ) → PartsThen text after → Front after (34 ∷ []) end → BadEscapeFault ahead (chars text) (fault.Rule rule.BadChar ahead)
-closed_fault text after end ahead p f = (refl, (p.parts, chars end, p.front.characters ∙ ap (λ x. spelled p.parts ++ x) f.characters, p.are))
+closed_fault text after end ahead p f = (refl, (p.parts, chars end, p.front.characters ∙ ap (λ x. parts_text p.parts ++ x) f.characters, p.are))
 
 pub open_fault : (text after : Text) (ahead : ℕ) → PartsThen text after → NoQuote (chars after) → BadEscapeFault ahead (chars text) (fault.Rule rule.OpenText 0)
 open_fault text after ahead p n = (refl, (p.parts, chars after, p.front.characters, p.are, ends_open (chars after) p.ends n))

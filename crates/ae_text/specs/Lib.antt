@@ -4,3 +4,4 @@ pub mod Whole
 pub mod Rules
 pub mod Tokens
 pub mod Scan
+pub mod Numbers

@@ -15,17 +15,17 @@ use Rattle.ae_text.specs.declared.faults.Fault.{Fault}
 use Rattle.ae_text.specs.declared.faults.Fault.TheVariants as fault
 use Rattle.ae_text.specs.declared.texts.Part.{Part}
 use Rattle.ae_text.specs.declared.texts.Part.TheVariants.{Plain, Escape}
-use Rattle.ae_text.specs.Tokens.{Text, width, Each, Stops, is_digit, goes_on, in_line, is_escape, spelled, AreParts, AreKnown, meant, EndsOpen, Piece, White, Comment, Tok, spelling, IsPiece, ArePieces, text_of, tokens_from, moved, start, IsFault, sign_text}
+use Rattle.ae_text.specs.Tokens.{Text, width, Each, Stops, is_digit, goes_on, in_line, is_escape, parts_text, AreParts, AreKnownEscapes, parts_meaning, EndsOpen, TextPiece, White, Comment, Tok, piece_text, IsPiece, ArePieces, text_of, tokens_from, spot_after, first_spot, IsFault, sign_text}
 
 -- a text is these characters and what comes after them
 pub record Front (text taken after : Text) : Type 0 where
   pub bytes : text ≡ encode_utf8_all taken ++ after
   pub characters : chars text ≡ taken ++ chars after
 
-abbrev pub in_class : Class → ℕ → Bool
-in_class class.Digit = is_digit
-in_class class.Word = goes_on
-in_class class.Line = in_line
+abbrev pub is_in_class : Class → ℕ → Bool
+is_in_class class.Digit = is_digit
+is_in_class class.Word = goes_on
+is_in_class class.Line = in_line
 
 -- the text goes on with a character of the class
 pub record Continues (c : ℕ → Bool) (text after : Text) : Type 0 where
@@ -64,19 +64,19 @@ EndsText (c ∷ cs) = (c ≡ 34) ⊎ EndsOpen (c ∷ cs)
 
 -- one part, and then rest
 pub record PartThen (text : Text) (part : Part) (rest : Text) : Type 0 where
-  pub front : Front text (spelled (part ∷ [])) rest
+  pub front : Front text (parts_text (part ∷ [])) rest
   pub is : AreParts (part ∷ [])
 
 -- all the parts that there are, and then rest
 pub record PartsThen (text rest : Text) : Type 0 where
   pub parts : List Part
-  pub front : Front text (spelled parts) rest
+  pub front : Front text (parts_text parts) rest
   pub are : AreParts parts
   pub ends : EndsText (chars rest)
 
 -- the part stands for this character
 abbrev pub Means : Part → ℕ → Type 0
-Means part c = AreKnown (part ∷ []) × (meant (part ∷ []) ≡ c ∷ [])
+Means part c = AreKnownEscapes (part ∷ []) × (parts_meaning (part ∷ []) ≡ c ∷ [])
 
 abbrev pub IsUnknown : Part → Type 0
 IsUnknown (Plain c) = ⊥
@@ -87,27 +87,27 @@ NoQuote text = (after : Text) → text ≡ 34 ∷ after → ⊥
 
 -- a text with such an escape is closed, and the escape is the fault, or it is open
 abbrev pub BadEscapeFault : ℕ → Text → Fault → Type 0
-BadEscapeFault ahead after (fault.Rule rule.BadChar n) = (n ≡ ahead) × ((more : List Part) × (end : Text) × (after ≡ spelled more ++ 34 ∷ end) × AreParts more)
-BadEscapeFault ahead after (fault.Rule rule.OpenText n) = (n ≡ 0) × ((more : List Part) × (end : Text) × (after ≡ spelled more ++ end) × AreParts more × EndsOpen end)
+BadEscapeFault ahead after (fault.Rule rule.BadChar n) = (n ≡ ahead) × ((more : List Part) × (end : Text) × (after ≡ parts_text more ++ 34 ∷ end) × AreParts more)
+BadEscapeFault ahead after (fault.Rule rule.OpenText n) = (n ≡ 0) × ((more : List Part) × (end : Text) × (after ≡ parts_text more ++ end) × AreParts more × EndsOpen end)
 BadEscapeFault ahead after _ = ⊥
 
 -- parts that all stand for something and their value, then a quote, then rest
 pub record ValueThen (text bytes rest : Text) : Type 0 where
   pub parts : List Part
-  pub front : Front text (34 ∷ (spelled parts ++ 34 ∷ [])) rest
+  pub front : Front text (34 ∷ (parts_text parts ++ 34 ∷ [])) rest
   pub are : AreParts parts
-  pub known : AreKnown parts
-  pub value_is : bytes ≡ encode_utf8_all (meant parts)
+  pub known : AreKnownEscapes parts
+  pub value_is : bytes ≡ encode_utf8_all (parts_meaning parts)
 
-abbrev pub kind_in : Piece → Option TokenKind
+abbrev pub kind_in : TextPiece → Option TokenKind
 kind_in (White c) = None
 kind_in (Comment s) = None
 kind_in (Tok k s) = Some k
 
 -- the text begins with a piece, a token of the kind if there is one
 pub record Cuts (text : Text) (kind : Option TokenKind) (after : Text) : Type 0 where
-  pub piece : Piece
-  pub front : Front text (spelling piece) after
+  pub piece : TextPiece
+  pub front : Front text (piece_text piece) after
   pub is : IsPiece piece (chars after)
   pub kind_is : kind ≡ kind_in piece
 
@@ -125,11 +125,11 @@ Faults text fault.Memory = Unit {0}
 
 -- what has been scanned of the bytes, where rest is left
 pub record Scanned (bytes rest : Text) (spot : Spot) (tokens : List Token) : Type 0 where
-  pub pieces : List Piece
+  pub pieces : List TextPiece
   pub utf8 : IsUtf8 bytes
   pub front : Front bytes (text_of pieces) rest
   pub each : ArePieces pieces (chars rest)
-  pub spot_is : spot ≡ moved start (encode_utf8_all (text_of pieces))
+  pub spot_is : spot ≡ spot_after first_spot (encode_utf8_all (text_of pieces))
   pub tokens_are : tokens ≡ tokens_from bytes 0 pieces
 
 -- the token of a piece, if it is one
@@ -139,9 +139,9 @@ token_of (Some k) begin end at = record { kind = k; begin = begin; end = end; at
 
 -- the refusal of a fault in the text that begins at this place
 abbrev pub denied : Fault → Text → Spot → Deny
-denied (fault.Rule r ahead) text at = deny.Refused (record { rule = r; at = moved at (take ahead text) })
+denied (fault.Rule r ahead) text at = deny.Refused (record { rule = r; at = spot_after at (take ahead text) })
 denied fault.Memory text at = deny.Memory
 
-abbrev pub IsWithin : Fault → Text → Type 0
-IsWithin (fault.Rule r ahead) text = ahead ≤ length text
-IsWithin fault.Memory text = Unit {0}
+abbrev pub IsFaultWithin : Fault → Text → Type 0
+IsFaultWithin (fault.Rule r ahead) text = ahead ≤ length text
+IsFaultWithin fault.Memory text = Unit {0}

@@ -55,8 +55,8 @@ abbrev pub is_escape : ℕ → Bool
 is_escape c = c == 110 || c == 116 || c == 34 || c == 92
 
 -- the character for which `\` and this one stand
-abbrev pub escaped : ℕ → ℕ
-escaped c = if c == 110 then 10 else (if c == 116 then 9 else c)
+abbrev pub escape_meaning : ℕ → ℕ
+escape_meaning c = if c == 110 then 10 else (if c == 116 then 9 else c)
 
 -- each passes the test
 abbrev pub Each : (ℕ → Bool) → Text → Type 0
@@ -147,14 +147,14 @@ abbrev pub value_from : ℕ → Text → ℕ
 value_from v [] = v
 value_from v (d ∷ ds) = value_from (v * 10 + (d - 48)) ds
 
-abbrev pub value : Text → ℕ
-value = value_from 0
+abbrev pub digits_value : Text → ℕ
+digits_value = value_from 0
 
 -- the characters of a text's parts: an escape is `\` and a character
-abbrev pub spelled : List Part → Text
-spelled [] = []
-spelled (Plain c ∷ ps) = c ∷ spelled ps
-spelled (Escape c ∷ ps) = 92 ∷ c ∷ spelled ps
+abbrev pub parts_text : List Part → Text
+parts_text [] = []
+parts_text (Plain c ∷ ps) = c ∷ parts_text ps
+parts_text (Escape c ∷ ps) = 92 ∷ c ∷ parts_text ps
 
 -- parts as they count for finding the closing quote: an escape may be of any character but a line feed
 abbrev pub AreParts : List Part → Type 0
@@ -163,29 +163,29 @@ AreParts (Plain c ∷ ps) = IsTrue (in_text c) × AreParts ps
 AreParts (Escape c ∷ ps) = IsTrue (in_line c) × AreParts ps
 
 -- no escape but those that stand for something
-abbrev pub AreKnown : List Part → Type 0
-AreKnown [] = Unit {0}
-AreKnown (Plain c ∷ ps) = AreKnown ps
-AreKnown (Escape c ∷ ps) = IsTrue (is_escape c) × AreKnown ps
+abbrev pub AreKnownEscapes : List Part → Type 0
+AreKnownEscapes [] = Unit {0}
+AreKnownEscapes (Plain c ∷ ps) = AreKnownEscapes ps
+AreKnownEscapes (Escape c ∷ ps) = IsTrue (is_escape c) × AreKnownEscapes ps
 
 -- the characters for which parts stand
-abbrev pub meant : List Part → Text
-meant [] = []
-meant (Plain c ∷ ps) = c ∷ meant ps
-meant (Escape c ∷ ps) = escaped c ∷ meant ps
+abbrev pub parts_meaning : List Part → Text
+parts_meaning [] = []
+parts_meaning (Plain c ∷ ps) = c ∷ parts_meaning ps
+parts_meaning (Escape c ∷ ps) = escape_meaning c ∷ parts_meaning ps
 
 -- the text with this value: a quote, parts, and a quote
 pub record IsQuoted (bytes s : Text) : Type 0 where
   pub parts : List Part
-  pub whole : s ≡ 34 ∷ (spelled parts ++ 34 ∷ [])
+  pub whole : s ≡ 34 ∷ (parts_text parts ++ 34 ∷ [])
   pub are : AreParts parts
-  pub known : AreKnown parts
-  pub value_is : bytes ≡ encode_utf8_all (meant parts)
+  pub known : AreKnownEscapes parts
+  pub value_is : bytes ≡ encode_utf8_all (parts_meaning parts)
 
 -- the token that these characters spell: a word is a keyword or else a name
 abbrev pub Spells : TokenKind → Text → Type 0
 Spells (t.Name bytes) s = (bytes ≡ encode_utf8_all s) × IsWord s × ((k : Keyword) → s ≢ keyword_text k)
-Spells (t.Int n) s = IsNumber s × (n ≡ pos (value s))
+Spells (t.Int n) s = IsNumber s × (n ≡ pos (digits_value s))
 Spells (t.Text bytes) s = IsQuoted bytes s
 Spells (t.Word k) s = s ≡ keyword_text k
 Spells (t.Sign g) s = s ≡ sign_text g
@@ -201,7 +201,7 @@ NoComment text = (c : Text) → text ≡ codes "//" ++ c → ⊥
 
 -- a number is below 2 ^ 63
 abbrev pub IsInRange : TokenKind → Text → Type 0
-IsInRange (t.Int n) s = value s < 2 ^ 63
+IsInRange (t.Int n) s = digits_value s < 2 ^ 63
 IsInRange _ s = Unit {0}
 
 -- a token is spelled, where rest comes after it
@@ -213,73 +213,73 @@ pub record IsToken (k : TokenKind) (s rest : Text) : Type 0 where
 
 -- ---- the text as a sequence of pieces
 
-pub data Piece : Type 0 where
-  White : ℕ → Piece
+pub data TextPiece : Type 0 where
+  White : ℕ → TextPiece
   -- the two slashes are left out
-  Comment : Text → Piece
-  Tok : TokenKind → Text → Piece
+  Comment : Text → TextPiece
+  Tok : TokenKind → Text → TextPiece
 
-abbrev pub spelling : Piece → Text
-spelling (White c) = c ∷ []
-spelling (Comment s) = codes "//" ++ s
-spelling (Tok k s) = s
+abbrev pub piece_text : TextPiece → Text
+piece_text (White c) = c ∷ []
+piece_text (Comment s) = codes "//" ++ s
+piece_text (Tok k s) = s
 
 -- a piece, where rest comes after it: a comment goes to the line feed or the end
-abbrev pub IsPiece : Piece → Text → Type 0
+abbrev pub IsPiece : TextPiece → Text → Type 0
 IsPiece (White c) rest = IsTrue (is_white c)
 IsPiece (Comment s) rest = Each in_line s × Stops in_line rest
 IsPiece (Tok k s) rest = IsToken k s rest
 
-abbrev pub text_of : List Piece → Text
+abbrev pub text_of : List TextPiece → Text
 text_of [] = []
-text_of (p ∷ ps) = spelling p ++ text_of ps
+text_of (p ∷ ps) = piece_text p ++ text_of ps
 
 -- each is a piece, where rest comes after all
-abbrev pub ArePieces : List Piece → Text → Type 0
+abbrev pub ArePieces : List TextPiece → Text → Type 0
 ArePieces [] rest = Unit {0}
 ArePieces (p ∷ ps) rest = IsPiece p (text_of ps ++ rest) × ArePieces ps rest
 
 -- ---- places
 
 -- the place behind one more byte: a line feed ends a line
-abbrev pub step : Spot → ℕ → Spot
-step p b = if b == 10 then record { line = p.line + 1; col = 1 } else record { line = p.line; col = p.col + 1 }
+abbrev pub next_spot : Spot → ℕ → Spot
+next_spot p b = if b == 10 then record { line = p.line + 1; col = 1 } else record { line = p.line; col = p.col + 1 }
 
-abbrev pub moved : Spot → Text → Spot
-moved p [] = p
-moved p (b ∷ bs) = moved (step p b) bs
+abbrev pub spot_after : Spot → Text → Spot
+spot_after p [] = p
+spot_after p (b ∷ bs) = spot_after (next_spot p b) bs
 
 -- where a text begins
-abbrev pub start : Spot
-start = record { line = 1; col = 1 }
+abbrev pub first_spot : Spot
+first_spot = record { line = 1; col = 1 }
 
 -- the place of an offset in bytes
 abbrev pub place : Text → ℕ → Spot
-place bytes at = moved start (take at bytes)
+place bytes at = spot_after first_spot (take at bytes)
 
 -- ---- tokens
 
 -- the token of a piece that begins at this offset, if it is one
-abbrev pub token_at : Text → ℕ → Piece → List Token
+abbrev pub token_at : Text → ℕ → TextPiece → List Token
 token_at bytes at (White c) = []
 token_at bytes at (Comment s) = []
 token_at bytes at (Tok k s) = record { kind = k; begin = at; end = at + width s; at = place bytes at } ∷ []
 
 -- the tokens of the pieces, of which the first begins at this offset
-abbrev pub tokens_from : Text → ℕ → List Piece → List Token
+abbrev pub tokens_from : Text → ℕ → List TextPiece → List Token
 tokens_from bytes at [] = []
-tokens_from bytes at (p ∷ ps) = token_at bytes at p ++ tokens_from bytes (at + width (spelling p)) ps
+tokens_from bytes at (p ∷ ps) = token_at bytes at p ++ tokens_from bytes (at + width (piece_text p)) ps
 
-abbrev pub end_of : Text → Token
-end_of bytes = record { kind = t.End; begin = length bytes; end = length bytes; at = place bytes (length bytes) }
+abbrev pub end_token : Text → Token
+end_token bytes = record { kind = t.End; begin = length bytes; end = length bytes; at = place bytes (length bytes) }
 
 -- The bytes are UTF-8 of a sequence of gaps and spellings, each the longest, and the end is last.
 pub record Lexes (bytes : Text) (tokens : List Token) : Type 0 where
-  pub pieces : List Piece
+  pub pieces : List TextPiece
   pub utf8 : IsUtf8 bytes
   pub whole : bytes ≡ encode_utf8_all (text_of pieces)
   pub each : ArePieces pieces []
-  pub are : tokens ≡ tokens_from bytes 0 pieces ++ end_of bytes ∷ []
+  pub are : tokens ≡ tokens_from bytes 0 pieces ++ end_token bytes ∷ []
 
 -- ---- faults
 
@@ -295,7 +295,7 @@ pub record IsTooLarge (rest : Text) : Type 0 where
   pub parts : rest ≡ digits ++ after
   pub number : IsNumber digits
   pub stops : Stops is_digit after
-  pub large : 2 ^ 63 ≤ value digits
+  pub large : 2 ^ 63 ≤ digits_value digits
 
 -- no part of a text begins here, and no quote: the end, a line feed, or `\` before one of these
 abbrev pub EndsOpen : Text → Type 0
@@ -306,20 +306,20 @@ EndsOpen (c ∷ cs) = (c ≡ 10) ⊎ ((c ≡ 92) × Stops in_line cs)
 pub record IsOpen (rest : Text) : Type 0 where
   pub inner : List Part
   pub after : Text
-  pub parts : rest ≡ 34 ∷ (spelled inner ++ after)
+  pub parts : rest ≡ 34 ∷ (parts_text inner ++ after)
   pub are : AreParts inner
   pub ends : EndsOpen after
 
 -- an escape that stands for nothing, the first one in a text that is closed
 pub record IsBadEscape (before rest : Text) : Type 0 where
   pub inner : List Part
-  pub front : before ≡ 34 ∷ spelled inner
+  pub front : before ≡ 34 ∷ parts_text inner
   pub are : AreParts inner
-  pub known : AreKnown inner
+  pub known : AreKnownEscapes inner
   pub char : ℕ
   pub more : List Part
   pub after : Text
-  pub parts : rest ≡ 92 ∷ char ∷ (spelled more ++ 34 ∷ after)
+  pub parts : rest ≡ 92 ∷ char ∷ (parts_text more ++ 34 ∷ after)
   pub goes_on_line : IsTrue (in_line char)
   pub unknown : is_escape char ≡ false
   pub are_more : AreParts more
@@ -333,7 +333,7 @@ IsFault _ before rest = ⊥
 
 -- The bytes are UTF-8, they begin with pieces, and then comes a fault.
 pub record CutFault (bytes : Text) (rule : Rule) (at : ℕ) : Type 0 where
-  pub pieces : List Piece
+  pub pieces : List TextPiece
   pub before : Text
   pub rest : Text
   pub utf8 : IsUtf8 bytes
@@ -348,21 +348,21 @@ LexFault bytes rule.NotText at = IsValidUpTo bytes at
 LexFault bytes r at = CutFault bytes r at
 
 -- A refusal names a fault of the text, by its rule and its place.
-abbrev pub IsDenied : Text → Deny → Type 0
-IsDenied bytes (deny.Refused r) = (at : ℕ) × LexFault bytes r.rule at × (r.at ≡ place bytes at)
-IsDenied bytes deny.Memory = Unit {0}
+abbrev pub IsTextDenied : Text → Deny → Type 0
+IsTextDenied bytes (deny.Refused r) = (at : ℕ) × LexFault bytes r.rule at × (r.at ≡ place bytes at)
+IsTextDenied bytes deny.Memory = Unit {0}
 
 -- ---- whole lists
 
 -- no token of the list is the end
-abbrev pub NoEnd : List Token → Type 0
-NoEnd [] = Unit {0}
-NoEnd (x ∷ xs) = (x.kind ≢ t.End) × NoEnd xs
+abbrev pub HasNoEnd : List Token → Type 0
+HasNoEnd [] = Unit {0}
+HasNoEnd (x ∷ xs) = (x.kind ≢ t.End) × HasNoEnd xs
 
 -- the last token, and no other, is the end
 pub record IsWhole (tokens : List Token) : Type 0 where
   pub front : List Token
   pub last : Token
   pub parts : tokens ≡ front ++ last ∷ []
-  pub no_end : NoEnd front
+  pub no_end : HasNoEnd front
   pub end : last.kind ≡ t.End

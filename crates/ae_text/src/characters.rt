@@ -2,7 +2,7 @@
 ghost use Rattle.std.specs.Prelude.{◌≡◌, [], ◌∷◌, MatchOption, IsTrue};
 ghost use Rattle.std.specs.Str.{chars};
 ghost use Rattle.ae_text.specs.Tokens.{is_white, is_digit, begins_word, Stops};
-ghost use Rattle.ae_text.specs.Scan.{in_class, Front, Continues, Spans};
+ghost use Rattle.ae_text.specs.Scan.{is_in_class, Front, Continues, Spans};
 
 use unicode_ident::{is_xid_continue, is_xid_start};
 
@@ -32,7 +32,7 @@ pub fn starts_word(c: char) -> bool
 }
 
 fn is_in(class: Class, c: char) -> bool
-    ensures { result ≡ in_class class c }
+    ensures { result ≡ is_in_class class c }
 {
     match class {
         Class::Digit => digit(c),
@@ -52,7 +52,7 @@ pub fn next<'a>(text: &'a str) -> Option<(char, &'a str)>
 
 // What comes after the first character, if that is of the class.
 fn next_in<'a>(class: Class, text: &'a str) -> Option<&'a str>
-    ensures { MatchOption result (Stops (in_class class) (chars text.now)) (λ after. Continues (in_class class) text.now after.now) }
+    ensures { MatchOption result (Stops (is_in_class class) (chars text.now)) (λ after. Continues (is_in_class class) text.now after.now) }
 {
     let (first, after) = next(text)?;
     if is_in(class, first) {
@@ -64,7 +64,7 @@ fn next_in<'a>(class: Class, text: &'a str) -> Option<&'a str>
 
 // The bytes of the characters of the class at the front, and what comes after them.
 pub fn span<'a>(class: Class, text: &'a str) -> (&'a [u8], &'a str)
-    ensures { Spans (in_class class) text.now result.0.now result.1.now }
+    ensures { Spans (is_in_class class) text.now result.0.now result.1.now }
 {
     let mut after = text;
     'span: while let Some(rest) = next_in(class, after) {

@@ -1,8 +1,8 @@
 // Cuts a text into tokens, from left to right.
 ghost use Rattle.std.specs.Prelude.{◌≡◌, ◌<◌, ◌≤◌, ◌+◌, ◌^◌, ◌==◌, ℕ, count_by, take, List, [], ◌∷◌, ◌++◌, length, MatchOption, MatchResult, IfOk, IfErr, OnOk};
 ghost use Rattle.std.specs.Str.{chars};
-ghost use Rattle.ae_text.specs.Tokens.{Text, Lexes, LexFault, IsDenied, IsWhole, NoComment, moved, place, Each, in_line};
-ghost use Rattle.ae_text.specs.Scan.{Front, CommentThen, Cuts, Faults, IsWithin, token_of, denied};
+ghost use Rattle.ae_text.specs.Tokens.{Text, Lexes, LexFault, IsTextDenied, IsWhole, NoComment, spot_after, place, Each, in_line};
+ghost use Rattle.ae_text.specs.Scan.{Front, CommentThen, Cuts, Faults, IsFaultWithin, token_of, denied};
 ghost use Rattle.ae_text.specs.declared.token.Token.{Token};
 ghost use Rattle.ae_text.specs.declared.refusal.Rule.{Rule};
 
@@ -72,7 +72,7 @@ fn advance(mut spot: Spot, bytes: &[u8]) -> Spot
     requires line { spot.line + length bytes.now < 2 ^ 32 }
     requires col { spot.col + length bytes.now < 2 ^ 32 }
     requires first { 0 < spot.col }
-    ensures { result ≡ moved spot bytes.now }
+    ensures { result ≡ spot_after spot bytes.now }
 {
     for b in bytes {
         if *b == b'\n' {
@@ -109,7 +109,7 @@ fn push_token(
 
 // The refusal of a fault in the text that begins at the place.
 fn deny(fault: Fault, text: &[u8], at: Spot) -> Deny
-    requires within { IsWithin fault text.now }
+    requires within { IsFaultWithin fault text.now }
     requires line { at.line + length text.now < 2 ^ 32 }
     requires col { at.col + length text.now < 2 ^ 32 }
     requires first { 0 < at.col }
@@ -140,7 +140,7 @@ fn not_text(text: &[u8], valid: usize) -> Deny
 fn scan(alloc: Global, text: &str) -> Result<Items<Token>, Deny>
     requires { length text.now ≤ 1048576 }
     ensures ok { IfOk result (Lexes text.now) }
-    ensures refused { IfErr result (IsDenied text.now) }
+    ensures refused { IfErr result (IsTextDenied text.now) }
     ensures only { IfErr result (λ e. (tokens : List Token) → Lexes text.now tokens → e ≡ Deny.Memory) }
 {
     let mut tokens = Items::new(alloc);
@@ -173,7 +173,7 @@ pub fn lex(alloc: Global, text: &[u8]) -> Result<Items<Token>, Deny>
     requires { length text.now ≤ 1048576 }
     ensures ok { IfOk result (Lexes text.now) }
     ensures only { (tokens : List Token) → Lexes text.now tokens → MatchResult result (λ found. found ≡ tokens) (λ e. e ≡ Deny.Memory) }
-    ensures refused { IfErr result (IsDenied text.now) }
+    ensures refused { IfErr result (IsTextDenied text.now) }
     ensures whole { IfOk result IsWhole }
     ensures few { IfOk result (λ ts. length ts ≤ length text.now + 1) }
 {

@@ -1,7 +1,7 @@
 // Words and numbers.
 ghost use Rattle.std.specs.Prelude.{◌≡◌, ◌≢◌, ◌<◌, ◌≤◌, ◌^◌, pos, MatchOption, IfOk};
 ghost use Rattle.std.specs.Str.{encode_utf8_all};
-ghost use Rattle.ae_text.specs.Tokens.{Text, keyword_text, is_digit, Each, IsWord, Spells, IsInRange, value};
+ghost use Rattle.ae_text.specs.Tokens.{Text, keyword_text, is_digit, Each, IsWord, Spells, IsInRange, digits_value};
 ghost use Rattle.ae_text.specs.declared.token.Keyword.{Keyword};
 
 use crate::token::{Keyword, TokenKind};
@@ -117,7 +117,7 @@ pub fn word(alloc: Global, s: &[u8]) -> Result<TokenKind, AllocError>
 // The number that the digits spell, if it is below 2 ^ 63.
 pub fn number(s: &[u8]) -> Option<i64>
     requires { Each is_digit s.now }
-    ensures { MatchOption result (2 ^ 63 ≤ value s.now) (λ n. (n ≡ pos (value s.now)) × (value s.now < 2 ^ 63)) }
+    ensures { MatchOption result (2 ^ 63 ≤ digits_value s.now) (λ n. (n ≡ pos (digits_value s.now)) × (digits_value s.now < 2 ^ 63)) }
 {
     let mut n = 0u64;
     for b in s {

@@ -11,7 +11,7 @@ use Rattle.ae_text.specs.declared.token.TokenKind.TheVariants as k
 use Rattle.ae_text.specs.declared.token.Token.{Token}
 use Rattle.ae_tree.specs.declared.lexeme.Lexical.{Lexical}
 use Rattle.ae_tree.specs.declared.lexeme.Lexical.TheVariants as tok
-use Rattle.ae_tree.specs.Names.{this, number_of, lexical, numbered, spelled, spellings}
+use Rattle.ae_tree.specs.Names.{this, name_number, lexical, numbered, spelled_before, spellings}
 use Rattle.ae_tree.specs.Grammar.{Tokens, Then}
 
 abbrev Words : Type 0
@@ -106,21 +106,21 @@ abbrev pub EachToken : (Lexical → Type 0) → Tokens → Type 0
 EachToken L [] = Unit {0}
 EachToken L (t ∷ ts) = L t.kind × EachToken L ts
 
-place_below : (names : Words) (s : List ℕ) → list_any (bytes_eq s) names ≡ true → number_of names s < length names
+place_below : (names : Words) (s : List ℕ) → list_any (bytes_eq s) names ≡ true → name_number names s < length names
 place_below [] s h = absurd (cc)
 place_below (x ∷ names) s h = by (bytes_eq s x) h (place_below names s)
   where
-    by : (b : Bool) → (b || list_any (bytes_eq s) names) ≡ true → (list_any (bytes_eq s) names ≡ true → number_of names s < length names) → cond (not b) (1 + number_of names s) 0 < suc (length names)
+    by : (b : Bool) → (b || list_any (bytes_eq s) names) ≡ true → (list_any (bytes_eq s) names ≡ true → name_number names s < length names) → cond (not b) (1 + name_number names s) 0 < suc (length names)
     by true h again = omega arith
-    by false h again = let l : number_of names s < length names = again h in omega (arith, l)
+    by false h again = let l : name_number names s < length names = again h in omega (arith, l)
 
 -- tokens whose names are inserted behind others, `this` among them
 abbrev AreNumbered : List Token → Type 0
 AreNumbered ts = (ks : Words) → this < length (insert_all bytes_eq ks (spellings ts)) → EachToken (IsBelow (length (insert_all bytes_eq ks (spellings ts)))) (numbered (insert_all bytes_eq ks (spellings ts)) ts)
 
-token_below : (kind : TokenKind) (ts : List Token) → AreNumbered ts → (ks : Words) → this < length (insert_all bytes_eq ks (spelled kind (spellings ts))) →
-    IsBelow (length (insert_all bytes_eq ks (spelled kind (spellings ts)))) (lexical (insert_all bytes_eq ks (spelled kind (spellings ts))) kind)
-    × EachToken (IsBelow (length (insert_all bytes_eq ks (spelled kind (spellings ts))))) (numbered (insert_all bytes_eq ks (spelled kind (spellings ts))) ts)
+token_below : (kind : TokenKind) (ts : List Token) → AreNumbered ts → (ks : Words) → this < length (insert_all bytes_eq ks (spelled_before kind (spellings ts))) →
+    IsBelow (length (insert_all bytes_eq ks (spelled_before kind (spellings ts)))) (lexical (insert_all bytes_eq ks (spelled_before kind (spellings ts))) kind)
+    × EachToken (IsBelow (length (insert_all bytes_eq ks (spelled_before kind (spellings ts))))) (numbered (insert_all bytes_eq ks (spelled_before kind (spellings ts))) ts)
 token_below (k.Name s) ts h ks l =
     (place_below (insert_all bytes_eq (insert_key bytes_eq ks s) (spellings ts)) s (all_kept (bytes_eq s) (spellings ts) (insert_key bytes_eq ks s) (key_there ks s)), h (insert_key bytes_eq ks s) l)
 token_below (k.Int i) ts h ks l = (tt, h ks l)

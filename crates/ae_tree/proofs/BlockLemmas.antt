@@ -6,7 +6,7 @@ use Rattle.ae_text.specs.declared.refusal.Spot.{Spot}
 use Rattle.ae_tree.specs.declared.lexeme.Lexical.{Lexical}
 use Rattle.ae_tree.specs.Plain.{Expression, RightSide, Value, Taken, Zeros, Made, Returned, Lines, End, Next}
 use Rattle.ae_tree.specs.Plain.{Action, Declares, Assigns, Stores, StoresAt, Calls, Chooses, ChoosesElse, Repeats, Groups, Splits, Locks, Freezes, Shares, Prints, PrintsText, Asserts, Returns}
-use Rattle.ae_tree.specs.Grammar.{◌⨾◌, braced, returning, body, right_side, statement, statements, opened, opened_in, with_return, numbers_from}
+use Rattle.ae_tree.specs.Grammar.{◌⨾◌, in_braces, return_end, method_body, right_of_equals, statement, statements, blocks_opened, opened_in, with_return, numbers_from}
 use Rattle.ae_tree.specs.WellShaped.{InBlocks, EachStatement, IfThere, TakesField, HasField, HasGroup, IsNoReturn, ReturnsLast, numbers_in, numbers_among}
 use Rattle.ae_tree.proofs.BelowLemmas.{Of, head, tail, under, under_two}
 
@@ -44,9 +44,9 @@ mutual
   each_statement P f k (Next at a rest) d = (f k at a (head d), in_blocks P f k at a (head d), each_statement P f _ rest (tail d))
 
 -- the statements of a body, and the `return` behind them
-pub in_body : {L : Lexical → Type 0} (b : Lines) (d : Of L (body b)) → Of L (statements 1 d.derives.0 ⨾ returning d.derives.1)
+pub in_body : {L : Lexical → Type 0} (b : Lines) (d : Of L (method_body b)) → Of L (statements 1 d.derives.0 ⨾ return_end d.derives.1)
 in_body {L} b d =
-    let inner : Of L (braced (statements 1 d.derives.0 ⨾ returning d.derives.1)) = record { tokens = d.tokens; derives = d.derives.3; each = d.each } in
+    let inner : Of L (in_braces (statements 1 d.derives.0 ⨾ return_end d.derives.1)) = record { tokens = d.tokens; derives = d.derives.3; each = d.each } in
     head (tail inner)
 
 -- and one of each in a body, where its `return` has it too
@@ -56,15 +56,15 @@ each_of_body P End (Some r) h last = (last, tt, tt)
 each_of_body P (Next at a rest) r h last = (h.0, h.1, each_of_body P rest r h.2 last)
 
 -- the same of a body that tokens stand for
-pub each_in_body : {L : Lexical → Type 0} (P : Action → Type 0) → Gives L P → ((r : Option (Spot × Expression)) → Of L (returning r) → IfThere (λ (x : Spot × Expression). P (Returns x.1)) r)
-    → (b : Lines) → Of L (body b) → EachStatement P b
+pub each_in_body : {L : Lexical → Type 0} (P : Action → Type 0) → Gives L P → ((r : Option (Spot × Expression)) → Of L (return_end r) → IfThere (λ (x : Spot × Expression). P (Returns x.1)) r)
+    → (b : Lines) → Of L (method_body b) → EachStatement P b
 each_in_body {L} P f last b d =
     let s = in_body b d in
     subst (EachStatement P) (sym d.derives.2) (each_of_body P d.derives.0 d.derives.1 (each_statement P f 1 d.derives.0 (head s)) (last d.derives.1 (tail s)))
 
 -- ---- the facts
 
-takes_field : {L : Lexical → Type 0} (e : RightSide) → Of L (right_side e) → TakesField e
+takes_field : {L : Lexical → Type 0} (e : RightSide) → Of L (right_of_equals e) → TakesField e
 takes_field (Value e) d = tt
 takes_field (Taken p at) d = d.derives.0
 takes_field (Zeros e at) d = tt
@@ -182,7 +182,7 @@ two_numbered j k m a b xs ys e f g h =
     block_numbered j k (a + (1 + b)) (xs ++ m ∷ ys) e (ap₂ (λ (u v : List ℕ). u ++ v) g second ∙ numbers_from-append (k + 1) a (1 + b)) ∙ ap (numbers_from k) q
 
 mutual
-  action_numbered : {L : Lexical → Type 0} (k : ℕ) (at : Spot) (a : Action) → Of L (statement k at a) → numbers_in a ≡ numbers_from k (opened a)
+  action_numbered : {L : Lexical → Type 0} (k : ℕ) (at : Spot) (a : Action) → Of L (statement k at a) → numbers_in a ≡ numbers_from k (blocks_opened a)
   action_numbered k at (Declares t x e) d = refl
   action_numbered k at (Assigns x e) d = refl
   action_numbered k at (Stores p e) d = refl
@@ -208,7 +208,7 @@ mutual
   lines_numbered : {L : Lexical → Type 0} (k : ℕ) (b : Lines) → Of L (statements k b) → numbers_among b ≡ numbers_from k (opened_in b)
   lines_numbered k End d = refl
   lines_numbered k (Next at a rest) d =
-      ap₂ (λ (u v : List ℕ). u ++ v) (action_numbered k at a (head d)) (lines_numbered (k + opened a) rest (tail d)) ∙ numbers_from-append k (opened a) (opened_in rest)
+      ap₂ (λ (u v : List ℕ). u ++ v) (action_numbered k at a (head d)) (lines_numbered (k + blocks_opened a) rest (tail d)) ∙ numbers_from-append k (blocks_opened a) (opened_in rest)
 
 -- a `return` opens no block
 with_return_numbers : (front : Lines) (r : Option (Spot × Expression)) → numbers_among (with_return front r) ≡ numbers_among front
@@ -219,14 +219,14 @@ with_return_numbers (Next at a rest) r = ap (λ (l : List ℕ). numbers_in a ++ 
 -- ---- bodies
 
 -- a `return` stands last in a body
-pub body_returns : {L : Lexical → Type 0} (b : Lines) → Of L (body b) → ReturnsLast b
+pub body_returns : {L : Lexical → Type 0} (b : Lines) → Of L (method_body b) → ReturnsLast b
 body_returns {L} b d = subst ReturnsLast (sym d.derives.2) (returns_last d.derives.0 d.derives.1 (each_statement IsNoReturn (is_no_return L) 1 d.derives.0 (head (in_body b d))))
 
 -- the blocks in a body are numbered from 1 on
-pub body_numbered : {L : Lexical → Type 0} (b : Lines) (d : Of L (body b)) → numbers_among b ≡ numbers_from 1 (opened_in d.derives.0)
+pub body_numbered : {L : Lexical → Type 0} (b : Lines) (d : Of L (method_body b)) → numbers_among b ≡ numbers_from 1 (opened_in d.derives.0)
 body_numbered b d = ap numbers_among d.derives.2 ∙ with_return_numbers d.derives.0 d.derives.1 ∙ lines_numbered 1 d.derives.0 (head (in_body b d))
 
 -- nothing is wanted of a `return`
-pub no_wish : {L : Lexical → Type 0} (r : Option (Spot × Expression)) → Of L (returning r) → IfThere (λ (x : Spot × Expression). Unit {0}) r
+pub no_wish : {L : Lexical → Type 0} (r : Option (Spot × Expression)) → Of L (return_end r) → IfThere (λ (x : Spot × Expression). Unit {0}) r
 no_wish None d = tt
 no_wish (Some x) d = tt

@@ -8,7 +8,7 @@ use Rattle.ae_tree.specs.declared.tree.Class.{Class}
 use Rattle.ae_tree.specs.declared.tree.Decl.TheVariants as decl
 use Rattle.ae_tree.specs.Names.{this, first_names, numbered, spellings}
 use Rattle.ae_tree.specs.Plain.{Definition, Code}
-use Rattle.ae_tree.specs.Grammar.{method, numbers_from, Declaration, OfClass, OfMethod, declarations, decls_of, classes_of, methods_of, ◌⨾◌, one}
+use Rattle.ae_tree.specs.Grammar.{method, numbers_from, Declaration, OfClass, OfMethod, declarations, decls_of, classes_of, methods_of, ◌⨾◌, one_token}
 use Rattle.ae_tree.specs.WellShaped.{IfThere, ClassNamed, class_in, own_methods, methods_at, IsMethodOf, DeclaresTop, DerivedAreWellShaped}
 use Rattle.ae_tree.proofs.BelowLemmas.{IsBelow, EachToken, all_more, all_apart, tokens_below, Of, head, tail, under}
 use Rattle.ae_tree.proofs.NamedLemmas.{each_has}
@@ -130,7 +130,7 @@ derived_are_well_shaped tokens p d =
     let first : (rest : List (List ℕ)) × (p.names ≡ first_names ++ rest) = let m = all_more (spellings tokens) first_names in (m.0, d.names ∙ m.1) in
     let three : this < n = let l : n ≡ length (first_names ++ first.0) = ap length first.1 in omega (arith, l) in
     let below : EachToken (IsBelow n) (numbered p.names tokens) = subst (λ (names : List (List ℕ)). EachToken (IsBelow (length names)) (numbered names tokens)) (sym d.names) (tokens_below tokens first_names (subst (λ (names : List (List ℕ)). this < length names) d.names three)) in
-    let whole : Of (IsBelow n) (declarations 0 0 d.list ⨾ one tok.End) = record { tokens = numbered p.names tokens; derives = d.derives; each = below } in
+    let whole : Of (IsBelow n) (declarations 0 0 d.list ⨾ one_token tok.End) = record { tokens = numbered p.names tokens; derives = d.derives; each = below } in
     let s : Stand p 0 0 d.list = record { classes = []; methods = []; all_classes = d.classes; all_methods = d.methods; class_count = refl; method_count = refl } in
     let ds : Of (IsBelow n) (declarations 0 0 d.list) = head whole in
     let bound : ℕ = length (classes_of d.list) in

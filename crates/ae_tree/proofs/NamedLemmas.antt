@@ -18,19 +18,19 @@ use Rattle.ae_tree.specs.declared.tree.Field.{Field}
 use Rattle.ae_tree.specs.declared.tree.GroupNeed.{GroupNeed}
 use Rattle.ae_tree.specs.Plain.{Expression, Number, Truth, Nothing, Read, Item, Length, Grouped, Negated, Minus, Binary, Invocation, RightSide, Value, Taken, Zeros, Made, Returned}
 use Rattle.ae_tree.specs.Plain.{Action, Declares, Assigns, Stores, StoresAt, Calls, Chooses, ChoosesElse, Repeats, Groups, Splits, Locks, Freezes, Shares, Prints, PrintsText, Asserts, Returns}
-use Rattle.ae_tree.specs.Grammar.{Tokens, name, root, step, path, groups, permission, kind, type_, expression, whole, arguments, receiver, call, right_side, statement, each, further, separated, listed, result, param, parameters, need, needs, field, returning}
-use Rattle.ae_tree.specs.WellShaped.{IsNamed, AreNamed, PathNamed, PermNamed, KindNamed, TypeNamed, IfThere, ExpressionNamed, CallNamed, RightNamed, ActionNamed, ParamNamed, FieldNamed}
+use Rattle.ae_tree.specs.Grammar.{Tokens, name, root, path_step, path, groups, permission, kind, type_, expression_at, whole_expression, arguments, receiver, call_written, right_of_equals, statement, one_by_one, further, separated, comma_list, result, param, parameters, need, needs, field, return_end}
+use Rattle.ae_tree.specs.WellShaped.{HasNumberBelow, AreNamed, PathNamed, PermNamed, KindNamed, TypeNamed, IfThere, ExpressionNamed, CallNamed, RightNamed, ActionNamed, ParamNamed, FieldNamed}
 use Rattle.ae_tree.proofs.BelowLemmas.{IsBelow, EachToken, Of, head, tail, under, under_two}
 
 -- ---- sequences
 
 -- what each of a sequence has
-pub each_has : {A : Type 0} {L : Lexical → Type 0} (D : A → Tokens → Type 0) (P : A → Type 0) → ((x : A) → Of L (D x) → P x) → (xs : List A) → Of L (each D xs) → All P xs
+pub each_has : {A : Type 0} {L : Lexical → Type 0} (D : A → Tokens → Type 0) (P : A → Type 0) → ((x : A) → Of L (D x) → P x) → (xs : List A) → Of L (one_by_one D xs) → All P xs
 each_has D P f [] d = All-nil P
 each_has D P f (x ∷ xs) d = All-cons P x xs (f x (head d)) (each_has D P f xs (tail d))
 
 -- the same where each has a comma before it
-pub further_has : {A : Type 0} {L : Lexical → Type 0} (D : A → Tokens → Type 0) (P : A → Type 0) → ((x : A) → Of L (D x) → P x) → (xs : List A) → Of L (each (further D) xs) → All P xs
+pub further_has : {A : Type 0} {L : Lexical → Type 0} (D : A → Tokens → Type 0) (P : A → Type 0) → ((x : A) → Of L (D x) → P x) → (xs : List A) → Of L (one_by_one (further D) xs) → All P xs
 further_has D P f = each_has (further D) P (λ x d. f x (tail d))
 
 -- the same of at least one, with commas between them
@@ -39,31 +39,31 @@ separated_has D P f [] d = absurd d.derives
 separated_has D P f (x ∷ xs) d = All-cons P x xs (f x (head d)) (further_has D P f xs (tail d))
 
 -- the same of none, or some with commas between them
-pub listed_has : {A : Type 0} {L : Lexical → Type 0} (D : A → Tokens → Type 0) (P : A → Type 0) → ((x : A) → Of L (D x) → P x) → (xs : List A) → Of L (listed D xs) → All P xs
+pub listed_has : {A : Type 0} {L : Lexical → Type 0} (D : A → Tokens → Type 0) (P : A → Type 0) → ((x : A) → Of L (D x) → P x) → (xs : List A) → Of L (comma_list D xs) → All P xs
 listed_has D P f [] d = All-nil P
 listed_has D P f (x ∷ xs) d = separated_has D P f (x ∷ xs) d
 
 -- ---- names, paths and types
 
 -- a name is one of the first n
-pub name_named : (n : ℕ) (x : NameAt) → Of (IsBelow n) (name x) → IsNamed n x
+pub name_named : (n : ℕ) (x : NameAt) → Of (IsBelow n) (name x) → HasNumberBelow n x
 name_named n x d = (subst (EachToken (IsBelow n)) d.derives d.each).0
 
-root_named : (n : ℕ) (x : NameAt) → Of (IsBelow n) (root x) → IsNamed n x
+root_named : (n : ℕ) (x : NameAt) → Of (IsBelow n) (root x) → HasNumberBelow n x
 root_named n x d = elim d.derives [
   | inl e ↦ (subst (EachToken (IsBelow n)) e d.each).0
   | inr t ↦ subst (λ (y : ℕ). y < n) (sym t.0) (subst (EachToken (IsBelow n)) t.1 d.each).0
 ]
 
 path_named : (n : ℕ) (p : Path) → Of (IsBelow n) (path p) → PathNamed n p
-path_named n p d = (root_named n p.root (head d), each_has step (IsNamed n) (λ x e. name_named n x (tail e)) p.steps (tail d))
+path_named n p d = (root_named n p.root (head d), each_has path_step (HasNumberBelow n) (λ x e. name_named n x (tail e)) p.steps (tail d))
 
 names_named : (n : ℕ) (xs : List NameAt) → Of (IsBelow n) (separated name xs) → AreNamed n xs
-names_named n xs d = separated_has name (IsNamed n) (name_named n) xs d
+names_named n xs d = separated_has name (HasNumberBelow n) (name_named n) xs d
 
 -- the groups behind a name
 pub groups_named : (n : ℕ) (gs : List NameAt) → Of (IsBelow n) (groups gs) → AreNamed n gs
-groups_named n [] d = All-nil (IsNamed n)
+groups_named n [] d = All-nil (HasNumberBelow n)
 groups_named n (g ∷ gs) d = names_named n (g ∷ gs) (head (tail d))
 
 perm_named : (n : ℕ) (q : PermAt) → Of (IsBelow n) (permission q) → PermNamed n q
@@ -83,7 +83,7 @@ type_named n (ty.Object q k) d = (perm_named n q (head d), kind_named n k (tail 
 
 -- ---- expressions and right sides
 
-expression_named : (n : ℕ) (e : Expression) (l : ℕ) → Of (IsBelow n) (expression e l) → ExpressionNamed n e
+expression_named : (n : ℕ) (e : Expression) (l : ℕ) → Of (IsBelow n) (expression_at e l) → ExpressionNamed n e
 expression_named n (Number i at) l d = tt
 expression_named n (Truth b at) l d = tt
 expression_named n (Nothing at) l d = tt
@@ -96,20 +96,20 @@ expression_named n (Minus e at) l d = expression_named n e 5 (tail d)
 expression_named n (Binary o a b) l d = (expression_named n a _ (head (under d)), expression_named n b _ (tail (tail (under d))))
 
 -- the names of an expression
-pub whole_named : (n : ℕ) (e : Expression) → Of (IsBelow n) (whole e) → ExpressionNamed n e
+pub whole_named : (n : ℕ) (e : Expression) → Of (IsBelow n) (whole_expression e) → ExpressionNamed n e
 whole_named n e d = expression_named n e 0 d
 
 arguments_named : (n : ℕ) (es : List Expression) → Of (IsBelow n) (arguments es) → All (ExpressionNamed n) es
-arguments_named n es d = listed_has whole (ExpressionNamed n) (whole_named n) es (head (tail d))
+arguments_named n es d = listed_has whole_expression (ExpressionNamed n) (whole_named n) es (head (tail d))
 
 receiver_named : (n : ℕ) (on : Option Path) → Of (IsBelow n) (receiver on) → IfThere (PathNamed n) on
 receiver_named n None d = tt
 receiver_named n (Some p) d = path_named n p (head d)
 
-call_named : (n : ℕ) (c : Invocation) → Of (IsBelow n) (call c) → CallNamed n c
+call_named : (n : ℕ) (c : Invocation) → Of (IsBelow n) (call_written c) → CallNamed n c
 call_named n c d = (receiver_named n c.on (head d), name_named n c.method (head (tail d)), groups_named n c.groups (head (tail (tail d))), arguments_named n c.args (tail (tail (tail d))))
 
-right_named : (n : ℕ) (e : RightSide) → Of (IsBelow n) (right_side e) → RightNamed n e
+right_named : (n : ℕ) (e : RightSide) → Of (IsBelow n) (right_of_equals e) → RightNamed n e
 right_named n (Value e) d = whole_named n e d
 right_named n (Taken p at) d = path_named n p (tail (under d))
 right_named n (Zeros e at) d = whole_named n e (head (tail (tail (tail d))))
@@ -159,15 +159,15 @@ params_named n None xs d = listed_has param (ParamNamed n) (param_named n) xs d
 params_named n (Some m) xs d = further_has param (ParamNamed n) (param_named n) xs (tail d)
 
 -- the groups of the needs
-pub needs_named : (n : ℕ) (xs : List GroupNeed) → Of (IsBelow n) (needs xs) → All (λ (x : GroupNeed). IsNamed n x.group) xs
-needs_named n [] d = All-nil (λ (x : GroupNeed). IsNamed n x.group)
-needs_named n (x ∷ xs) d = separated_has need (λ (y : GroupNeed). IsNamed n y.group) (λ y e. name_named n y.group (tail e)) (x ∷ xs) (tail d)
+pub needs_named : (n : ℕ) (xs : List GroupNeed) → Of (IsBelow n) (needs xs) → All (λ (x : GroupNeed). HasNumberBelow n x.group) xs
+needs_named n [] d = All-nil (λ (x : GroupNeed). HasNumberBelow n x.group)
+needs_named n (x ∷ xs) d = separated_has need (λ (y : GroupNeed). HasNumberBelow n y.group) (λ y e. name_named n y.group (tail e)) (x ∷ xs) (tail d)
 
 -- the names of a field
 pub field_named : (n : ℕ) (x : Field) → Of (IsBelow n) (field x) → FieldNamed n x
 field_named n x d = (type_named n x.ty (head d), name_named n x.name (head (tail d)))
 
 -- the names of a `return`
-pub returning_named : (n : ℕ) (r : Option (Spot × Expression)) → Of (IsBelow n) (returning r) → IfThere (λ (x : Spot × Expression). ExpressionNamed n x.1) r
+pub returning_named : (n : ℕ) (r : Option (Spot × Expression)) → Of (IsBelow n) (return_end r) → IfThere (λ (x : Spot × Expression). ExpressionNamed n x.1) r
 returning_named n None d = tt
 returning_named n (Some r) d = whole_named n r.1 (head (tail d))

@@ -6,7 +6,7 @@ use Rattle.std.proofs.lemmas.List.Elements.{All-nil, All-cons, All-append}
 use Rattle.ae_tree.specs.declared.lexeme.Lexical.{Lexical}
 use Rattle.ae_tree.specs.declared.tree.Me.{Me}
 use Rattle.ae_tree.specs.Plain.{Definition}
-use Rattle.ae_tree.specs.Grammar.{IsOf, opened_in, method, field, numbers_from, Declaration, OfClass, OfMethod, declarations, decls_of, classes_of, methods_of}
+use Rattle.ae_tree.specs.Grammar.{IsMethodOf, opened_in, method, field, numbers_from, Declaration, OfClass, OfMethod, declarations, decls_of, classes_of, methods_of}
 use Rattle.ae_tree.specs.WellShaped.{EachStatement, IfThere, ActionNamed, MethodNamed, FieldNamed, ClassNamed, HasField, HasGroup, ReturnsLast, block_numbers, BlocksInOrder, class_in}
 use Rattle.ae_tree.proofs.BelowLemmas.{IsBelow, Of, head, tail, under, under_two}
 use Rattle.ae_tree.proofs.NamedLemmas.{each_has, name_named, groups_named, action_named, result_named, me_named, params_named, needs_named, field_named, returning_named}
@@ -29,11 +29,11 @@ there : (o : Option Me) → o ≢ None → is_some o ≡ true
 there None h = absurd (h refl)
 there (Some x) h = refl
 
-receiver_is : (o : Option ℕ) (m : Definition) → IsOf o m → is_some m.me ≡ is_some m.class
+receiver_is : (o : Option ℕ) (m : Definition) → IsMethodOf o m → is_some m.me ≡ is_some m.class
 receiver_is None m h = ap is_some h.1 ∙ sym (ap is_some h.0)
 receiver_is (Some c) m h = there m.me h.1 ∙ sym (ap is_some h.0)
 
-class_is : (o : Option ℕ) (m : Definition) → IsOf o m → m.class ≡ o
+class_is : (o : Option ℕ) (m : Definition) → IsMethodOf o m → m.class ≡ o
 class_is None m h = h.0
 class_is (Some c) m h = h.0
 
@@ -46,7 +46,7 @@ method_shape n o m d =
     let s5 = tail (tail s3) in
     let s7 = tail (tail s5) in
     let b = tail s7 in
-    let is : IsOf o m = d.derives.0 in
+    let is : IsMethodOf o m = d.derives.0 in
     let numbers : block_numbers m ≡ numbers_from 0 (1 + opened_in b.derives.0) = ap₂ (λ (x : ℕ) (l : List ℕ). x ∷ l) d.derives.1 (body_numbered m.body b) ∙ numbers_from-one 0 (opened_in b.derives.0) in
     record {
       named = record {

@@ -16,8 +16,8 @@ use Rattle.ae_tree.specs.declared.tree.Field.{Field}
 use Rattle.ae_tree.specs.declared.tree.Class.{Class}
 use Rattle.ae_tree.specs.Plain.{Definition}
 use Rattle.ae_tree.specs.Plain.{Declares, Assigns, Stores, StoresAt, Calls, Chooses, ChoosesElse, Repeats, Groups, Splits, Locks, Freezes, Shares, Prints, PrintsText, Asserts, Returns}
-use Rattle.ae_tree.specs.Names.{this, first_names, number_of, lexical, numbered, spellings}
-use Rattle.ae_tree.specs.Grammar.{◌⨾◌, one, name, groups, param, parameters, field, method, Declaration, OfClass, OfMethod, declarations, classes_of}
+use Rattle.ae_tree.specs.Names.{this, first_names, name_number, lexical, numbered, spellings}
+use Rattle.ae_tree.specs.Grammar.{◌⨾◌, one_token, name, groups, param, parameters, field, method, Declaration, OfClass, OfMethod, declarations, classes_of}
 use Rattle.ae_tree.specs.WellShaped.{EachStatement}
 use Rattle.ae_tree.specs.FreeThis.{IsNotThis, DeclaresOther, IsSpelledOther, DerivedHaveThisFree}
 use Rattle.ae_tree.proofs.BelowLemmas.{EachToken, all_more, Of, head, tail, under, under_two}
@@ -45,13 +45,13 @@ is_third false false true n e = refl
 is_third false false false n e = absurd (omega (arith, e))
 
 -- what has the number of `this` is spelled so
-spelled_this : (names rest : List (List ℕ)) (s : List ℕ) → names ≡ first_names ++ rest → number_of names s ≡ this → s ≡ codes "this"
+spelled_this : (names rest : List (List ℕ)) (s : List ℕ) → names ≡ first_names ++ rest → name_number names s ≡ this → s ≡ codes "this"
 spelled_this names rest s e h =
-    let f : number_of (first_names ++ rest) s ≡ 2 = subst (λ (l : List (List ℕ)). number_of l s ≡ 2) e h in
+    let f : name_number (first_names ++ rest) s ≡ 2 = subst (λ (l : List (List ℕ)). name_number l s ≡ 2) e h in
     (bytes_decides s (codes "this")).0 (is_third (bytes_eq s (codes "io")) (bytes_eq s (codes "main")) (bytes_eq s (codes "this")) (position_or_len (bytes_eq s) rest) f)
 
 kind_other : (names rest : List (List ℕ)) → names ≡ first_names ++ rest → (kind : TokenKind) → IsSpelledOther kind → IsOther (lexical names kind)
-kind_other names rest e (k.Name s) h = λ (q : number_of names s ≡ this). h (spelled_this names rest s e q)
+kind_other names rest e (k.Name s) h = λ (q : name_number names s ≡ this). h (spelled_this names rest s e q)
 kind_other names rest e (k.Int i) h = tt
 kind_other names rest e (k.Text s) h = tt
 kind_other names rest e (k.Word w) h = tt
@@ -133,7 +133,7 @@ classes_other (OfMethod x ∷ xs) c m d = classes_other xs _ _ (tail d)
 pub derived_have_this_free : DerivedHaveThisFree
 derived_have_this_free tokens p h d =
     let more = all_more (spellings tokens) first_names in
-    let whole : Of IsOther (declarations 0 0 d.list ⨾ one tok.End) = record { tokens = numbered p.names tokens; derives = d.derives; each = tokens_other p.names more.0 (d.names ∙ more.1) tokens h } in
+    let whole : Of IsOther (declarations 0 0 d.list ⨾ one_token tok.End) = record { tokens = numbered p.names tokens; derives = d.derives; each = tokens_other p.names more.0 (d.names ∙ more.1) tokens h } in
     let ds : Of IsOther (declarations 0 0 d.list) = head whole in
     let all : All MethodOther p.methods = subst (All MethodOther) (sym d.methods)
     (methods_have MethodOther (length (classes_of d.list)) (λ o m l b. method_other o m b) d.list 0 0 (omega arith) ds) in

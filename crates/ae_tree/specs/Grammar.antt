@@ -54,26 +54,26 @@ abbrev pub one_at : Lexical → Spot → Tokens → Type 0
 one_at k at ts = ts ≡ record { kind = k; at = at } ∷ []
 
 -- one token, at a place that the program does not keep
-abbrev pub one : Lexical → Tokens → Type 0
-one k ts = (at : Spot) × one_at k at ts
+abbrev pub one_token : Lexical → Tokens → Type 0
+one_token k ts = (at : Spot) × one_at k at ts
 
 abbrev pub a_word : Keyword → Tokens → Type 0
-a_word w = one (tok.Word w)
+a_word w = one_token (tok.Word w)
 
 abbrev pub a_sign : Sign → Tokens → Type 0
-a_sign g = one (tok.Sign g)
+a_sign g = one_token (tok.Sign g)
 
 -- no token
-abbrev pub nothing : Tokens → Type 0
-nothing ts = ts ≡ []
+abbrev pub no_tokens : Tokens → Type 0
+no_tokens ts = ts ≡ []
 
 abbrev pub never : Tokens → Type 0
 never ts = ⊥
 
 -- one after another
-abbrev pub each : {A : Type 0} → (A → Tokens → Type 0) → List A → Tokens → Type 0
-each D [] = nothing
-each D (x ∷ xs) = D x ⨾ each D xs
+abbrev pub one_by_one : {A : Type 0} → (A → Tokens → Type 0) → List A → Tokens → Type 0
+one_by_one D [] = no_tokens
+one_by_one D (x ∷ xs) = D x ⨾ one_by_one D xs
 
 -- one with a comma before it
 abbrev pub further : {A : Type 0} → (A → Tokens → Type 0) → A → Tokens → Type 0
@@ -82,12 +82,12 @@ further D x = a_sign sign.Comma ⨾ D x
 -- at least one, with commas between them
 abbrev pub separated : {A : Type 0} → (A → Tokens → Type 0) → List A → Tokens → Type 0
 separated D [] = never
-separated D (x ∷ xs) = D x ⨾ each (further D) xs
+separated D (x ∷ xs) = D x ⨾ one_by_one (further D) xs
 
 -- none, or some with commas between them
-abbrev pub listed : {A : Type 0} → (A → Tokens → Type 0) → List A → Tokens → Type 0
-listed D [] = nothing
-listed D (x ∷ xs) = separated D (x ∷ xs)
+abbrev pub comma_list : {A : Type 0} → (A → Tokens → Type 0) → List A → Tokens → Type 0
+comma_list D [] = no_tokens
+comma_list D (x ∷ xs) = separated D (x ∷ xs)
 
 -- ---- names, paths and types
 
@@ -98,16 +98,16 @@ name x = one_at (tok.Name x.name) x.at
 abbrev pub root : NameAt → Tokens → Type 0
 root x ts = name x ts ⊎ ((x.name ≡ this) × one_at (tok.Word word.This) x.at ts)
 
-abbrev pub step : NameAt → Tokens → Type 0
-step x = a_sign sign.Dot ⨾ name x
+abbrev pub path_step : NameAt → Tokens → Type 0
+path_step x = a_sign sign.Dot ⨾ name x
 
 -- path = ( NAME | "this" ) { "." NAME }
 abbrev pub path : Path → Tokens → Type 0
-path p = root p.root ⨾ each step p.steps
+path p = root p.root ⨾ one_by_one path_step p.steps
 
 -- gnames = "<" NAME { "," NAME } ">", or no groups
 abbrev pub groups : List NameAt → Tokens → Type 0
-groups [] = nothing
+groups [] = no_tokens
 groups (g ∷ gs) = a_sign sign.Less ⨾ separated name (g ∷ gs) ⨾ a_sign sign.Greater
 
 -- perm = "unique" | "immutable" | "lent" | "shared" "<" NAME ">"
@@ -177,37 +177,37 @@ sign_of op.Mul = sign.Star
 sign_of op.Div = sign.Slash
 sign_of op.Rem = sign.Percent
 
-abbrev pub truth : Bool → Keyword
-truth true = word.True
-truth false = word.False
+abbrev pub truth_word : Bool → Keyword
+truth_word true = word.True
+truth_word false = word.False
 
 -- and = cmp { "&&" cmp }, and so for each level;
 -- unary = ( "!" | "-" ) unary | prim
 -- prim = INT | "true" | "false" | "null" | "len" path | path [ "[" expr "]" ] | "(" expr ")"
-abbrev pub expression : Expression → ℕ → Tokens → Type 0
-expression (Number n at) l = one_at (tok.Int n) at
-expression (Truth b at) l = one_at (tok.Word (truth b)) at
-expression (Nothing at) l = one_at (tok.Word word.Null) at
-expression (Read p) l = path p
-expression (Item p e) l = path p ⨾ a_sign sign.OpenBracket ⨾ expression e 0 ⨾ a_sign sign.CloseBracket
-expression (Length p at) l = one_at (tok.Word word.Len) at ⨾ path p
-expression (Grouped e at) l = one_at (tok.Sign sign.OpenParen) at ⨾ expression e 0 ⨾ a_sign sign.CloseParen
-expression (Negated e at) l = one_at (tok.Sign sign.Not) at ⨾ expression e 5
-expression (Minus e at) l = one_at (tok.Sign sign.Minus) at ⨾ expression e 5
-expression (Binary o a b) l = λ ts. (l ≤ level o) × (expression a (left_level o) ⨾ a_sign (sign_of o) ⨾ expression b (level o + 1)) ts
+abbrev pub expression_at : Expression → ℕ → Tokens → Type 0
+expression_at (Number n at) l = one_at (tok.Int n) at
+expression_at (Truth b at) l = one_at (tok.Word (truth_word b)) at
+expression_at (Nothing at) l = one_at (tok.Word word.Null) at
+expression_at (Read p) l = path p
+expression_at (Item p e) l = path p ⨾ a_sign sign.OpenBracket ⨾ expression_at e 0 ⨾ a_sign sign.CloseBracket
+expression_at (Length p at) l = one_at (tok.Word word.Len) at ⨾ path p
+expression_at (Grouped e at) l = one_at (tok.Sign sign.OpenParen) at ⨾ expression_at e 0 ⨾ a_sign sign.CloseParen
+expression_at (Negated e at) l = one_at (tok.Sign sign.Not) at ⨾ expression_at e 5
+expression_at (Minus e at) l = one_at (tok.Sign sign.Minus) at ⨾ expression_at e 5
+expression_at (Binary o a b) l = λ ts. (l ≤ level o) × (expression_at a (left_level o) ⨾ a_sign (sign_of o) ⨾ expression_at b (level o + 1)) ts
 
 -- a whole expression
-abbrev pub whole : Expression → Tokens → Type 0
-whole e = expression e 0
+abbrev pub whole_expression : Expression → Tokens → Type 0
+whole_expression e = expression_at e 0
 
 -- ---- calls and right sides
 
 abbrev pub arguments : List Expression → Tokens → Type 0
-arguments es = a_sign sign.OpenParen ⨾ listed whole es ⨾ a_sign sign.CloseParen
+arguments es = a_sign sign.OpenParen ⨾ comma_list whole_expression es ⨾ a_sign sign.CloseParen
 
 -- [ path "." ]
 abbrev pub receiver : Option Path → Tokens → Type 0
-receiver None = nothing
+receiver None = no_tokens
 receiver (Some p) = path p ⨾ a_sign sign.Dot
 
 abbrev pub spot_or : Spot → Option Path → Spot
@@ -215,67 +215,67 @@ spot_or at None = at
 spot_or at (Some p) = p.root.at
 
 -- call = [ path "." ] NAME [gnames] "(" [ expr { "," expr } ] ")"
-abbrev pub call : Invocation → Tokens → Type 0
-call c = receiver c.on ⨾ name c.method ⨾ groups c.groups ⨾ arguments c.args
+abbrev pub call_written : Invocation → Tokens → Type 0
+call_written c = receiver c.on ⨾ name c.method ⨾ groups c.groups ⨾ arguments c.args
 
 -- rhs = expr | "take" path "." NAME | "new" "Ints" "(" expr ")" | "new" NAME [gnames] "(" [ expr { "," expr } ] ")" | call
 -- The field that is taken is the last step of the path.
-abbrev pub right_side : RightSide → Tokens → Type 0
-right_side (Value e) = whole e
-right_side (Taken p at) = λ ts. (p.steps ≢ []) × (one_at (tok.Word word.Take) at ⨾ path p) ts
-right_side (Zeros e at) = one_at (tok.Word word.New) at ⨾ a_word word.Ints ⨾ a_sign sign.OpenParen ⨾ whole e ⨾ a_sign sign.CloseParen
-right_side (Made c gs es at) = one_at (tok.Word word.New) at ⨾ name c ⨾ groups gs ⨾ arguments es
-right_side (Returned c) = call c
+abbrev pub right_of_equals : RightSide → Tokens → Type 0
+right_of_equals (Value e) = whole_expression e
+right_of_equals (Taken p at) = λ ts. (p.steps ≢ []) × (one_at (tok.Word word.Take) at ⨾ path p) ts
+right_of_equals (Zeros e at) = one_at (tok.Word word.New) at ⨾ a_word word.Ints ⨾ a_sign sign.OpenParen ⨾ whole_expression e ⨾ a_sign sign.CloseParen
+right_of_equals (Made c gs es at) = one_at (tok.Word word.New) at ⨾ name c ⨾ groups gs ⨾ arguments es
+right_of_equals (Returned c) = call_written c
 
 -- ---- statements
 
 abbrev mutual
   -- how many blocks a statement opens
-  pub opened : Action → ℕ
-  opened (Chooses e n b) = 1 + opened_in b
-  opened (ChoosesElse e n b m c) = 1 + opened_in b + 1 + opened_in c
-  opened (Repeats e n b) = 1 + opened_in b
-  opened (Splits gs n b) = 1 + opened_in b
-  opened (Locks g n b) = 1 + opened_in b
-  opened _ = 0
+  pub blocks_opened : Action → ℕ
+  blocks_opened (Chooses e n b) = 1 + opened_in b
+  blocks_opened (ChoosesElse e n b m c) = 1 + opened_in b + 1 + opened_in c
+  blocks_opened (Repeats e n b) = 1 + opened_in b
+  blocks_opened (Splits gs n b) = 1 + opened_in b
+  blocks_opened (Locks g n b) = 1 + opened_in b
+  blocks_opened _ = 0
 
   pub opened_in : Lines → ℕ
   opened_in End = 0
-  opened_in (Next at a rest) = opened a + opened_in rest
+  opened_in (Next at a rest) = blocks_opened a + opened_in rest
 
 -- the place of a call's first token
-abbrev pub first_spot : Invocation → Spot
-first_spot c = spot_or c.method.at c.on
+abbrev pub call_spot : Invocation → Spot
+call_spot c = spot_or c.method.at c.on
 
 -- block = "{" { stmt } "}"
-abbrev pub braced : (Tokens → Type 0) → Tokens → Type 0
-braced p = a_sign sign.OpenBrace ⨾ p ⨾ a_sign sign.CloseBrace
+abbrev pub in_braces : (Tokens → Type 0) → Tokens → Type 0
+in_braces p = a_sign sign.OpenBrace ⨾ p ⨾ a_sign sign.CloseBrace
 
 abbrev mutual
   -- A statement. Its blocks are numbered from n on, in the order in which they are opened.
   pub statement : ℕ → Spot → Action → Tokens → Type 0
-  statement n at (Declares t x e) = one_at (tok.Word word.Let) at ⨾ type_ t ⨾ name x ⨾ a_sign sign.Assign ⨾ right_side e ⨾ a_sign sign.Semicolon
-  statement n at (Assigns x e) = λ ts. (x.at ≡ at) × (name x ⨾ a_sign sign.Assign ⨾ right_side e ⨾ a_sign sign.Semicolon) ts
-  statement n at (Stores p e) = λ ts. (p.root.at ≡ at) × (p.steps ≢ []) × (path p ⨾ a_sign sign.Assign ⨾ whole e ⨾ a_sign sign.Semicolon) ts
-  statement n at (StoresAt p i e) = λ ts. (p.root.at ≡ at) × (path p ⨾ a_sign sign.OpenBracket ⨾ whole i ⨾ a_sign sign.CloseBracket ⨾ a_sign sign.Assign ⨾ whole e ⨾ a_sign sign.Semicolon) ts
-  statement n at (Calls c) = λ ts. (first_spot c ≡ at) × (call c ⨾ a_sign sign.Semicolon) ts
-  statement n at (Chooses e k b) = λ ts. (k ≡ n) × (one_at (tok.Word word.If) at ⨾ whole e ⨾ braced (statements (n + 1) b)) ts
-  statement n at (ChoosesElse e k b m c) = λ ts. (k ≡ n) × (m ≡ n + 1 + opened_in b) × (one_at (tok.Word word.If) at ⨾ whole e ⨾ braced (statements (n + 1) b) ⨾ a_word word.Else ⨾ braced (statements (m + 1) c)) ts
-  statement n at (Repeats e k b) = λ ts. (k ≡ n) × (one_at (tok.Word word.While) at ⨾ whole e ⨾ braced (statements (n + 1) b)) ts
+  statement n at (Declares t x e) = one_at (tok.Word word.Let) at ⨾ type_ t ⨾ name x ⨾ a_sign sign.Assign ⨾ right_of_equals e ⨾ a_sign sign.Semicolon
+  statement n at (Assigns x e) = λ ts. (x.at ≡ at) × (name x ⨾ a_sign sign.Assign ⨾ right_of_equals e ⨾ a_sign sign.Semicolon) ts
+  statement n at (Stores p e) = λ ts. (p.root.at ≡ at) × (p.steps ≢ []) × (path p ⨾ a_sign sign.Assign ⨾ whole_expression e ⨾ a_sign sign.Semicolon) ts
+  statement n at (StoresAt p i e) = λ ts. (p.root.at ≡ at) × (path p ⨾ a_sign sign.OpenBracket ⨾ whole_expression i ⨾ a_sign sign.CloseBracket ⨾ a_sign sign.Assign ⨾ whole_expression e ⨾ a_sign sign.Semicolon) ts
+  statement n at (Calls c) = λ ts. (call_spot c ≡ at) × (call_written c ⨾ a_sign sign.Semicolon) ts
+  statement n at (Chooses e k b) = λ ts. (k ≡ n) × (one_at (tok.Word word.If) at ⨾ whole_expression e ⨾ in_braces (statements (n + 1) b)) ts
+  statement n at (ChoosesElse e k b m c) = λ ts. (k ≡ n) × (m ≡ n + 1 + opened_in b) × (one_at (tok.Word word.If) at ⨾ whole_expression e ⨾ in_braces (statements (n + 1) b) ⨾ a_word word.Else ⨾ in_braces (statements (m + 1) c)) ts
+  statement n at (Repeats e k b) = λ ts. (k ≡ n) × (one_at (tok.Word word.While) at ⨾ whole_expression e ⨾ in_braces (statements (n + 1) b)) ts
   statement n at (Groups g) = one_at (tok.Word word.Group) at ⨾ name g ⨾ a_sign sign.Semicolon
-  statement n at (Splits gs k b) = λ ts. (k ≡ n) × (one_at (tok.Word word.Split) at ⨾ separated name gs ⨾ braced (statements (n + 1) b)) ts
-  statement n at (Locks g k b) = λ ts. (k ≡ n) × (one_at (tok.Word word.Atomic) at ⨾ name g ⨾ braced (statements (n + 1) b)) ts
+  statement n at (Splits gs k b) = λ ts. (k ≡ n) × (one_at (tok.Word word.Split) at ⨾ separated name gs ⨾ in_braces (statements (n + 1) b)) ts
+  statement n at (Locks g k b) = λ ts. (k ≡ n) × (one_at (tok.Word word.Atomic) at ⨾ name g ⨾ in_braces (statements (n + 1) b)) ts
   statement n at (Freezes x) = one_at (tok.Word word.Freeze) at ⨾ name x ⨾ a_sign sign.Semicolon
   statement n at (Shares x g) = one_at (tok.Word word.Share) at ⨾ name x ⨾ a_word word.Into ⨾ name g ⨾ a_sign sign.Semicolon
-  statement n at (Prints e) = one_at (tok.Word word.Print) at ⨾ whole e ⨾ a_sign sign.Semicolon
-  statement n at (PrintsText s) = one_at (tok.Word word.Print) at ⨾ one (tok.Text s) ⨾ a_sign sign.Semicolon
-  statement n at (Asserts e) = one_at (tok.Word word.Assert) at ⨾ whole e ⨾ a_sign sign.Semicolon
+  statement n at (Prints e) = one_at (tok.Word word.Print) at ⨾ whole_expression e ⨾ a_sign sign.Semicolon
+  statement n at (PrintsText s) = one_at (tok.Word word.Print) at ⨾ one_token (tok.Text s) ⨾ a_sign sign.Semicolon
+  statement n at (Asserts e) = one_at (tok.Word word.Assert) at ⨾ whole_expression e ⨾ a_sign sign.Semicolon
   statement n at (Returns e) = never
 
   -- statements whose blocks are numbered from n on
   pub statements : ℕ → Lines → Tokens → Type 0
-  statements n End = nothing
-  statements n (Next at a rest) = statement n at a ⨾ statements (n + opened a) rest
+  statements n End = no_tokens
+  statements n (Next at a rest) = statement n at a ⨾ statements (n + blocks_opened a) rest
 
 -- ---- methods
 
@@ -286,7 +286,7 @@ result (Some t) = type_ t
 
 -- [ ">>" "none" ]
 abbrev pub away : Option Spot → Tokens → Type 0
-away None = nothing
+away None = no_tokens
 away (Some at) = one_at (tok.Sign sign.Away) at ⨾ a_word word.None
 
 -- param = type NAME [ ">>" "none" ]
@@ -299,8 +299,8 @@ me m = permission m.perm ⨾ one_at (tok.Word word.This) m.at ⨾ away m.away
 
 -- a method's parameters, after its receiver where it has one
 abbrev pub parameters : Option Me → List Param → Tokens → Type 0
-parameters None ps = listed param ps
-parameters (Some m) ps = me m ⨾ each (further param) ps
+parameters None ps = comma_list param ps
+parameters (Some m) ps = me m ⨾ one_by_one (further param) ps
 
 abbrev pub need_word : Need → Keyword
 need_word need_of.Exclusive = word.Exclusive
@@ -313,13 +313,13 @@ need n = a_word (need_word n.need) ⨾ name n.group
 
 -- needs = "with" need { "," need }, or none
 abbrev pub needs : List GroupNeed → Tokens → Type 0
-needs [] = nothing
+needs [] = no_tokens
 needs (n ∷ ns) = a_word word.With ⨾ separated need (n ∷ ns)
 
 -- [ "return" expr ";" ]
-abbrev pub returning : Option (Spot × Expression) → Tokens → Type 0
-returning None = nothing
-returning (Some r) = one_at (tok.Word word.Return) r.0 ⨾ whole r.1 ⨾ a_sign sign.Semicolon
+abbrev pub return_end : Option (Spot × Expression) → Tokens → Type 0
+return_end None = no_tokens
+return_end (Some r) = one_at (tok.Word word.Return) r.0 ⨾ whole_expression r.1 ⨾ a_sign sign.Semicolon
 
 -- the statements of a body, the last one a `return` where there is one
 abbrev pub with_return : Lines → Option (Spot × Expression) → Lines
@@ -328,19 +328,19 @@ with_return End (Some r) = Next r.0 (Returns r.1) End
 with_return (Next at a rest) r = Next at a (with_return rest r)
 
 -- body = "{" { stmt } [ "return" expr ";" ] "}", which is block 0
-abbrev pub body : Lines → Tokens → Type 0
-body b ts = (front : Lines) × (r : Option (Spot × Expression)) × (b ≡ with_return front r)
-    × braced (statements 1 front ⨾ returning r) ts
+abbrev pub method_body : Lines → Tokens → Type 0
+method_body b ts = (front : Lines) × (r : Option (Spot × Expression)) × (b ≡ with_return front r)
+    × in_braces (statements 1 front ⨾ return_end r) ts
 
 -- A method of the class with this number, which has a receiver, or one at the top, which has none.
-abbrev pub IsOf : Option ℕ → Definition → Type 0
-IsOf None m = (m.class ≡ None) × (m.me ≡ None)
-IsOf (Some c) m = (m.class ≡ Some c) × (m.me ≢ None)
+abbrev pub IsMethodOf : Option ℕ → Definition → Type 0
+IsMethodOf None m = (m.class ≡ None) × (m.me ≡ None)
+IsMethodOf (Some c) m = (m.class ≡ Some c) × (m.me ≢ None)
 
 -- method = "method" ( "void" | type ) NAME [gnames] "(" .. ")" [needs] body
 abbrev pub method : Option ℕ → Definition → Tokens → Type 0
-method c m ts = IsOf c m × (m.no ≡ 0) × (a_word word.Method ⨾ result m.result ⨾ name m.name ⨾ groups m.groups
-    ⨾ a_sign sign.OpenParen ⨾ parameters m.me m.params ⨾ a_sign sign.CloseParen ⨾ needs m.needs ⨾ body m.body) ts
+method c m ts = IsMethodOf c m × (m.no ≡ 0) × (a_word word.Method ⨾ result m.result ⨾ name m.name ⨾ groups m.groups
+    ⨾ a_sign sign.OpenParen ⨾ parameters m.me m.params ⨾ a_sign sign.CloseParen ⨾ needs m.needs ⨾ method_body m.body) ts
 
 -- ---- classes and programs
 
@@ -362,7 +362,7 @@ pub data Declaration : Type 0 where
 -- class = "class" NAME [gnames] "{" { type NAME ";" } { cmethod } "}"
 abbrev pub declaration : ℕ → ℕ → Declaration → Tokens → Type 0
 declaration c m (OfClass k ms) = λ ts. (k.methods ≡ numbers_from m (length ms)) × (a_word word.Class ⨾ name k.name ⨾ groups k.groups
-    ⨾ a_sign sign.OpenBrace ⨾ each field k.fields ⨾ each (method (Some c)) ms ⨾ a_sign sign.CloseBrace) ts
+    ⨾ a_sign sign.OpenBrace ⨾ one_by_one field k.fields ⨾ one_by_one (method (Some c)) ms ⨾ a_sign sign.CloseBrace) ts
 declaration c m (OfMethod d) = method None d
 
 abbrev pub classes_in : Declaration → List Class
@@ -379,7 +379,7 @@ declared c m (OfMethod d) = decl.Method m
 
 -- the declarations behind c classes and m methods
 abbrev pub declarations : ℕ → ℕ → List Declaration → Tokens → Type 0
-declarations c m [] = nothing
+declarations c m [] = no_tokens
 declarations c m (x ∷ xs) = declaration c m x ⨾ declarations (c + length (classes_in x)) (m + length (methods_in x)) xs
 
 abbrev pub decls_of : ℕ → ℕ → List Declaration → List Decl
@@ -401,4 +401,4 @@ pub record Derives (tokens : List Token) (p : Code) : Type 0 where
   pub classes : p.classes ≡ classes_of list
   pub methods : p.methods ≡ methods_of list
   pub decls : p.decls ≡ decls_of 0 0 list
-  pub derives : (declarations 0 0 list ⨾ one tok.End) (numbered p.names tokens)
+  pub derives : (declarations 0 0 list ⨾ one_token tok.End) (numbered p.names tokens)

@@ -16,8 +16,8 @@ Scope = ℕ → Bool
 abbrev pub nobody : Scope
 nobody x = false
 
-abbrev pub and_also : ℕ → Scope → Scope
-and_also x scope y = nat_eq x y || scope y
+abbrev pub visible_also : ℕ → Scope → Scope
+visible_also x scope y = nat_eq x y || scope y
 
 -- what a premise comes to: it holds in a scope, or a rule is broken at a place
 pub data Verdict : Type 0 where
@@ -50,17 +50,17 @@ judge_expression (Negated e at) scope = judge_expression e scope
 judge_expression (Minus e at) scope = judge_expression e scope
 judge_expression (Binary op a b) scope = then_judge (judge_expression a scope) (judge_expression b)
 
-abbrev pub judge_right : RightSide → Scope → Verdict
-judge_right (Value e) scope = judge_expression e scope
-judge_right (Taken p at) scope = Holds scope
-judge_right (Zeros e at) scope = Holds scope
-judge_right (Made c groups args at) scope = Holds scope
-judge_right (Returned c) scope = Holds scope
+abbrev pub today_judge_right : RightSide → Scope → Verdict
+today_judge_right (Value e) scope = judge_expression e scope
+today_judge_right (Taken p at) scope = Holds scope
+today_judge_right (Zeros e at) scope = Holds scope
+today_judge_right (Made c groups args at) scope = Holds scope
+today_judge_right (Returned c) scope = Holds scope
 
 -- a statement: the name of a `let` is free before it and visible behind it, an assigned name is visible before it
 abbrev pub judge_action : Action → Scope → Verdict
-judge_action (Declares ty x e) scope = then_judge (free x.name x.at scope) (λ s. then_judge (judge_right e s) (λ t. Holds (and_also x.name t)))
-judge_action (Assigns x e) scope = then_judge (visible x.name x.at scope) (judge_right e)
+judge_action (Declares ty x e) scope = then_judge (free x.name x.at scope) (λ s. then_judge (today_judge_right e s) (λ t. Holds (visible_also x.name t)))
+judge_action (Assigns x e) scope = then_judge (visible x.name x.at scope) (today_judge_right e)
 judge_action (Prints e) scope = judge_expression e scope
 judge_action _ scope = Holds scope
 
@@ -82,5 +82,5 @@ abbrev pub Accepted : Code → Type 0
 Accepted p = Built p × IsHeld (judge_methods p.methods)
 
 -- the program breaks this rule first, there
-abbrev pub Breaks : Code → Rule → Spot → Type 0
-Breaks p rule at = judge_methods p.methods ≡ Broken rule at
+abbrev pub TodayBreaks : Code → Rule → Spot → Type 0
+TodayBreaks p rule at = judge_methods p.methods ≡ Broken rule at

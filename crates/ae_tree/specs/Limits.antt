@@ -20,29 +20,29 @@ marks (Minus e at) = 1 + marks e
 marks (Binary op a b) = marks a + 1 + marks b
 
 -- at most 256 tokens of an expression count
-abbrev pub Keeps : Limit → Expression → Type 0
-Keeps limit.Depth e = marks e ≤ 256
-Keeps l e = Unit {0}
+abbrev pub KeepsDepth : Limit → Expression → Type 0
+KeepsDepth limit.Depth e = marks e ≤ 256
+KeepsDepth l e = Unit {0}
 
-abbrev pub AllKeep : Limit → List Expression → Type 0
-AllKeep l = All (Keeps l)
+abbrev pub AllKeepDepth : Limit → List Expression → Type 0
+AllKeepDepth l = All (KeepsDepth l)
 
 -- each argument is an expression of its own; paths outside expressions do not count
 abbrev pub KeepsRight : Limit → RightSide → Type 0
-KeepsRight l (Value e) = Keeps l e
+KeepsRight l (Value e) = KeepsDepth l e
 KeepsRight l (Taken p at) = Unit {0}
-KeepsRight l (Zeros e at) = Keeps l e
-KeepsRight l (Made c groups args at) = AllKeep l args
-KeepsRight l (Returned c) = AllKeep l c.args
+KeepsRight l (Zeros e at) = KeepsDepth l e
+KeepsRight l (Made c groups args at) = AllKeepDepth l args
+KeepsRight l (Returned c) = AllKeepDepth l c.args
 
 -- how many statements
-abbrev pub count : Lines → ℕ
-count End = 0
-count (Next at a rest) = count rest + 1
+abbrev pub statement_count : Lines → ℕ
+statement_count End = 0
+statement_count (Next at a rest) = statement_count rest + 1
 
 -- at most 1,024 statements stand in a block
 abbrev pub IsFew : Limit → Lines → Type 0
-IsFew limit.Statements b = count b ≤ 1024
+IsFew limit.Statements b = statement_count b ≤ 1024
 IsFew l b = Unit {0}
 
 -- where n blocks may be opened in one another, one may
@@ -55,21 +55,21 @@ abbrev mutual
   pub KeepsIn : Limit → ℕ → Action → Type 0
   KeepsIn l n (Declares t x e) = KeepsRight l e
   KeepsIn l n (Assigns x e) = KeepsRight l e
-  KeepsIn l n (Stores p e) = Keeps l e
-  KeepsIn l n (StoresAt p i e) = Keeps l i × Keeps l e
-  KeepsIn l n (Calls c) = AllKeep l c.args
-  KeepsIn l n (Chooses e k b) = Keeps l e × Opens l n × IsFew l b × EachKeeps l (n - 1) b
-  KeepsIn l n (ChoosesElse e k b m c) = Keeps l e × Opens l n × (IsFew l b × EachKeeps l (n - 1) b) × IsFew l c × EachKeeps l (n - 1) c
-  KeepsIn l n (Repeats e k b) = Keeps l e × Opens l n × IsFew l b × EachKeeps l (n - 1) b
+  KeepsIn l n (Stores p e) = KeepsDepth l e
+  KeepsIn l n (StoresAt p i e) = KeepsDepth l i × KeepsDepth l e
+  KeepsIn l n (Calls c) = AllKeepDepth l c.args
+  KeepsIn l n (Chooses e k b) = KeepsDepth l e × Opens l n × IsFew l b × EachKeeps l (n - 1) b
+  KeepsIn l n (ChoosesElse e k b m c) = KeepsDepth l e × Opens l n × (IsFew l b × EachKeeps l (n - 1) b) × IsFew l c × EachKeeps l (n - 1) c
+  KeepsIn l n (Repeats e k b) = KeepsDepth l e × Opens l n × IsFew l b × EachKeeps l (n - 1) b
   KeepsIn l n (Groups g) = Unit {0}
   KeepsIn l n (Splits gs k b) = Opens l n × IsFew l b × EachKeeps l (n - 1) b
   KeepsIn l n (Locks g k b) = Opens l n × IsFew l b × EachKeeps l (n - 1) b
   KeepsIn l n (Freezes x) = Unit {0}
   KeepsIn l n (Shares x g) = Unit {0}
-  KeepsIn l n (Prints e) = Keeps l e
+  KeepsIn l n (Prints e) = KeepsDepth l e
   KeepsIn l n (PrintsText s) = Unit {0}
-  KeepsIn l n (Asserts e) = Keeps l e
-  KeepsIn l n (Returns e) = Keeps l e
+  KeepsIn l n (Asserts e) = KeepsDepth l e
+  KeepsIn l n (Returns e) = KeepsDepth l e
 
   -- statements in which n blocks may be opened in one another
   pub EachKeeps : Limit → ℕ → Lines → Type 0
@@ -105,8 +105,8 @@ early limit.Params = limit.Depth
 early l = l
 
 -- within all limits, but for the depth of blocks and the number of parameters
-abbrev pub IsNearly : Code → Type 0
-IsNearly p = (l : Limit) → KeepsTo (early l) p
+abbrev pub IsNearlyInLimits : Code → Type 0
+IsNearlyInLimits p = (l : Limit) → KeepsTo (early l) p
 
 -- a program keeps to all limits
 abbrev pub Within : Code → Type 0

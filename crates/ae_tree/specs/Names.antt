@@ -23,29 +23,29 @@ abbrev pub first_names : List (List ℕ)
 first_names = codes "io" ∷ codes "main" ∷ codes "this" ∷ []
 
 -- the spelling of a token that is a name, before others
-abbrev pub spelled : TokenKind → List (List ℕ) → List (List ℕ)
-spelled (k.Name s) rest = s ∷ rest
-spelled (k.Int n) rest = rest
-spelled (k.Text s) rest = rest
-spelled (k.Word w) rest = rest
-spelled (k.Sign g) rest = rest
-spelled k.End rest = rest
+abbrev pub spelled_before : TokenKind → List (List ℕ) → List (List ℕ)
+spelled_before (k.Name s) rest = s ∷ rest
+spelled_before (k.Int n) rest = rest
+spelled_before (k.Text s) rest = rest
+spelled_before (k.Word w) rest = rest
+spelled_before (k.Sign g) rest = rest
+spelled_before k.End rest = rest
 
 -- the spellings of all names, in order
 abbrev pub spellings : List Token → List (List ℕ)
 spellings [] = []
-spellings (t ∷ ts) = spelled t.kind (spellings ts)
+spellings (t ∷ ts) = spelled_before t.kind (spellings ts)
 
 -- each name once, in order of first use
 abbrev pub names_of : List Token → List (List ℕ)
 names_of ts = insert_all bytes_eq first_names (spellings ts)
 
 -- where a name stands among the names
-abbrev pub number_of : List (List ℕ) → List ℕ → ℕ
-number_of names s = position_or_len (bytes_eq s) names
+abbrev pub name_number : List (List ℕ) → List ℕ → ℕ
+name_number names s = position_or_len (bytes_eq s) names
 
 abbrev pub lexical : List (List ℕ) → TokenKind → Lexical
-lexical names (k.Name s) = t.Name (number_of names s)
+lexical names (k.Name s) = t.Name (name_number names s)
 lexical names (k.Int n) = t.Int n
 lexical names (k.Text s) = t.Text s
 lexical names (k.Word w) = t.Word w

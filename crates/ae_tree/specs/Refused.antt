@@ -17,7 +17,7 @@ use Rattle.ae_tree.specs.declared.limits.Limit.TheVariants as limit
 use Rattle.ae_tree.specs.Plain.{Code}
 use Rattle.ae_tree.specs.Names.{io, names_of, numbered}
 use Rattle.ae_tree.specs.Grammar.{Tokens, Derives}
-use Rattle.ae_tree.specs.Limits.{KeepsTo, KeepsBefore, IsNearly, Within}
+use Rattle.ae_tree.specs.Limits.{KeepsTo, KeepsBefore, IsNearlyInLimits, Within}
 
 -- ---- what goes on
 
@@ -73,7 +73,7 @@ pub record GoesUpTo (ts : List Token) (k : ℕ) : Type 0 where
   pub before : start ≤ k
   pub within : Goes Within ts start
   pub leads : IsHead (drop start (take k (lexemes ts)))
-  pub nearly : Goes IsNearly ts k
+  pub nearly : Goes IsNearlyInLimits ts k
 
 -- no program goes on with token k
 abbrev pub IsUnexpected : List Token → ℕ → Type 0
@@ -162,26 +162,26 @@ IsPlaced limit.Depth before back = ((s : OpenSide before) × Is257th s.side back
 IsPlaced l before back = back ≡ 0
 
 -- token k is refused for this limit
-abbrev pub IsOver : Limit → List Token → ℕ → Type 0
-IsOver l ts k = (back : ℕ) × Passes l ts (k + back) × IsPlaced l (take (k + back) (lexemes ts)) back
+abbrev pub IsOverAt : Limit → List Token → ℕ → Type 0
+IsOverAt l ts k = (back : ℕ) × Passes l ts (k + back) × IsPlaced l (take (k + back) (lexemes ts)) back
 
 -- ---- what a refusal says
 
 -- the rule that token k breaks
 abbrev pub BreaksAt : Rule → List Token → ℕ → Type 0
 BreaksAt rule.Unexpected ts k = IsUnexpected ts k
-BreaksAt rule.BlockTooLong ts k = IsOver limit.Statements ts k
-BreaksAt rule.TooDeep ts k = IsOver limit.Depth ts k ⊎ IsOver limit.Levels ts k
-BreaksAt rule.TooManyParams ts k = IsOver limit.Params ts k
+BreaksAt rule.BlockTooLong ts k = IsOverAt limit.Statements ts k
+BreaksAt rule.TooDeep ts k = IsOverAt limit.Depth ts k ⊎ IsOverAt limit.Levels ts k
+BreaksAt rule.TooManyParams ts k = IsOverAt limit.Params ts k
 BreaksAt _ ts k = ⊥
 
 -- a token breaks this rule, at its place
 abbrev pub IsRefused : List Token → Rule → Spot → Type 0
 IsRefused ts r at = (k : ℕ) × (t : Token) × (slice_get ts k ≡ Some t) × (t.at ≡ at) × BreaksAt r ts k
 
-abbrev pub IsDenied : List Token → Deny → Type 0
-IsDenied ts (deny.Refused r) = IsRefused ts r.rule r.at
-IsDenied ts deny.Memory = Unit {0}
+abbrev pub IsTokenDenied : List Token → Deny → Type 0
+IsTokenDenied ts (deny.Refused r) = IsRefused ts r.rule r.at
+IsTokenDenied ts deny.Memory = Unit {0}
 
 -- ---- completions
 
@@ -190,6 +190,6 @@ abbrev pub IsKnown : Lexical → Type 0
 IsKnown (tok.Name n) = n ≡ io
 IsKnown k = Unit {0}
 
-abbrev pub AreKnown : Tokens → Type 0
-AreKnown [] = Unit {0}
-AreKnown (t ∷ ts) = IsKnown t.kind × AreKnown ts
+abbrev pub AreSpellable : Tokens → Type 0
+AreSpellable [] = Unit {0}
+AreSpellable (t ∷ ts) = IsKnown t.kind × AreSpellable ts

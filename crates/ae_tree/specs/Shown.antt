@@ -92,7 +92,7 @@ right_side (r.Call c) = Returned (invocation c)
 
 -- ---- statements
 
-pub record Line : Type 0 where
+pub record ShownLine : Type 0 where
   pub at : Spot
   pub action : Action
 
@@ -102,7 +102,7 @@ pub record Braced : Type 0 where
   pub lines : Lines
 
 -- a list of statements as lines
-abbrev lines_of : List Line → Lines
+abbrev lines_of : List ShownLine → Lines
 lines_of [] = End
 lines_of (x ∷ xs) = Next x.at x.action (lines_of xs)
 
@@ -110,7 +110,7 @@ abbrev chosen_layer : Expression → Braced → Option Braced → Action
 chosen_layer a b None = Chooses a b.no b.lines
 chosen_layer a b (Some c) = ChoosesElse a b.no b.lines c.no c.lines
 
-abbrev action_layer : so.StmtKind-F Action Braced Line → Action
+abbrev action_layer : so.StmtKind-F Action Braced ShownLine → Action
 action_layer (so.Let ty x a) = Declares ty x (right_side a)
 action_layer (so.Assign x a) = Assigns x (right_side a)
 action_layer (so.Field p a) = Stores p (expression a)
@@ -128,17 +128,17 @@ action_layer (so.PrintText text) = PrintsText text
 action_layer (so.Assert a) = Asserts (expression a)
 action_layer (so.Return a) = Returns (expression a)
 
-abbrev line_layer : so.Stmt-F Action Braced Line → Line
+abbrev line_layer : so.Stmt-F Action Braced ShownLine → ShownLine
 line_layer x = record { at = x.at; action = x.kind }
 
-abbrev block_layer : so.Block-F Action Braced Line → Braced
+abbrev block_layer : so.Block-F Action Braced ShownLine → Braced
 block_layer x = record { no = x.no; lines = lines_of x.stmts }
 
 unfoldable pub action : StmtKind → Action
-action = fold-StmtKind Action Braced Line action_layer block_layer line_layer
+action = fold-StmtKind Action Braced ShownLine action_layer block_layer line_layer
 
 unfoldable pub braced : Block → Braced
-braced = fold-Block Action Braced Line action_layer block_layer line_layer
+braced = fold-Block Action Braced ShownLine action_layer block_layer line_layer
 
 -- the statements of a block
 abbrev pub lines : Block → Lines
@@ -151,99 +151,99 @@ lines_from (x ∷ xs) = Next x.at (action x.kind) (lines_from xs)
 
 pub action-Let : (ty : Ty) (x : NameAt) (a : Rhs) → action (s.Let ty x a) ≡ Declares ty x (right_side a)
 unfolding action braced
-action-Let ty x a = ap action (sym (s.rolls-Let ty x a)) ∙ fold-roll-StmtKind Action Braced Line action_layer block_layer line_layer (so.Let ty x a)
+action-Let ty x a = ap action (sym (s.rolls-Let ty x a)) ∙ fold-roll-StmtKind Action Braced ShownLine action_layer block_layer line_layer (so.Let ty x a)
 
 pub action-Assign : (x : NameAt) (a : Rhs) → action (s.Assign x a) ≡ Assigns x (right_side a)
 unfolding action braced
-action-Assign x a = ap action (sym (s.rolls-Assign x a)) ∙ fold-roll-StmtKind Action Braced Line action_layer block_layer line_layer (so.Assign x a)
+action-Assign x a = ap action (sym (s.rolls-Assign x a)) ∙ fold-roll-StmtKind Action Braced ShownLine action_layer block_layer line_layer (so.Assign x a)
 
 pub action-Field : (p : Path) (a : Expr) → action (s.Field p a) ≡ Stores p (expression a)
 unfolding action braced
-action-Field p a = ap action (sym (s.rolls-Field p a)) ∙ fold-roll-StmtKind Action Braced Line action_layer block_layer line_layer (so.Field p a)
+action-Field p a = ap action (sym (s.rolls-Field p a)) ∙ fold-roll-StmtKind Action Braced ShownLine action_layer block_layer line_layer (so.Field p a)
 
 pub action-Index : (p : Path) (a b : Expr) → action (s.Index p a b) ≡ StoresAt p (expression a) (expression b)
 unfolding action braced
-action-Index p a b = ap action (sym (s.rolls-Index p a b)) ∙ fold-roll-StmtKind Action Braced Line action_layer block_layer line_layer (so.Index p a b)
+action-Index p a b = ap action (sym (s.rolls-Index p a b)) ∙ fold-roll-StmtKind Action Braced ShownLine action_layer block_layer line_layer (so.Index p a b)
 
 pub action-Call : (c : Call) → action (s.Call c) ≡ Calls (invocation c)
 unfolding action braced
-action-Call c = ap action (sym (s.rolls-Call c)) ∙ fold-roll-StmtKind Action Braced Line action_layer block_layer line_layer (so.Call c)
+action-Call c = ap action (sym (s.rolls-Call c)) ∙ fold-roll-StmtKind Action Braced ShownLine action_layer block_layer line_layer (so.Call c)
 
 pub action-While : (a : Expr) (b : Block) → action (s.While a b) ≡ Repeats (expression a) (braced b).no (braced b).lines
 unfolding action braced
-action-While a b = ap action (sym (s.rolls-While a b)) ∙ fold-roll-StmtKind Action Braced Line action_layer block_layer line_layer (so.While a b)
+action-While a b = ap action (sym (s.rolls-While a b)) ∙ fold-roll-StmtKind Action Braced ShownLine action_layer block_layer line_layer (so.While a b)
 
 pub action-Group : (g : NameAt) → action (s.Group g) ≡ Groups g
 unfolding action braced
-action-Group g = ap action (sym (s.rolls-Group g)) ∙ fold-roll-StmtKind Action Braced Line action_layer block_layer line_layer (so.Group g)
+action-Group g = ap action (sym (s.rolls-Group g)) ∙ fold-roll-StmtKind Action Braced ShownLine action_layer block_layer line_layer (so.Group g)
 
 pub action-Split : (gs : List NameAt) (b : Block) → action (s.Split gs b) ≡ Splits gs (braced b).no (braced b).lines
 unfolding action braced
-action-Split gs b = ap action (sym (s.rolls-Split gs b)) ∙ fold-roll-StmtKind Action Braced Line action_layer block_layer line_layer (so.Split gs b)
+action-Split gs b = ap action (sym (s.rolls-Split gs b)) ∙ fold-roll-StmtKind Action Braced ShownLine action_layer block_layer line_layer (so.Split gs b)
 
 pub action-Atomic : (g : NameAt) (b : Block) → action (s.Atomic g b) ≡ Locks g (braced b).no (braced b).lines
 unfolding action braced
-action-Atomic g b = ap action (sym (s.rolls-Atomic g b)) ∙ fold-roll-StmtKind Action Braced Line action_layer block_layer line_layer (so.Atomic g b)
+action-Atomic g b = ap action (sym (s.rolls-Atomic g b)) ∙ fold-roll-StmtKind Action Braced ShownLine action_layer block_layer line_layer (so.Atomic g b)
 
 pub action-Freeze : (x : NameAt) → action (s.Freeze x) ≡ Freezes x
 unfolding action braced
-action-Freeze x = ap action (sym (s.rolls-Freeze x)) ∙ fold-roll-StmtKind Action Braced Line action_layer block_layer line_layer (so.Freeze x)
+action-Freeze x = ap action (sym (s.rolls-Freeze x)) ∙ fold-roll-StmtKind Action Braced ShownLine action_layer block_layer line_layer (so.Freeze x)
 
 pub action-Share : (x g : NameAt) → action (s.Share x g) ≡ Shares x g
 unfolding action braced
-action-Share x g = ap action (sym (s.rolls-Share x g)) ∙ fold-roll-StmtKind Action Braced Line action_layer block_layer line_layer (so.Share x g)
+action-Share x g = ap action (sym (s.rolls-Share x g)) ∙ fold-roll-StmtKind Action Braced ShownLine action_layer block_layer line_layer (so.Share x g)
 
 pub action-PrintExpr : (a : Expr) → action (s.PrintExpr a) ≡ Prints (expression a)
 unfolding action braced
-action-PrintExpr a = ap action (sym (s.rolls-PrintExpr a)) ∙ fold-roll-StmtKind Action Braced Line action_layer block_layer line_layer (so.PrintExpr a)
+action-PrintExpr a = ap action (sym (s.rolls-PrintExpr a)) ∙ fold-roll-StmtKind Action Braced ShownLine action_layer block_layer line_layer (so.PrintExpr a)
 
 pub action-PrintText : (text : List ℕ) → action (s.PrintText text) ≡ PrintsText text
 unfolding action braced
-action-PrintText text = ap action (sym (s.rolls-PrintText text)) ∙ fold-roll-StmtKind Action Braced Line action_layer block_layer line_layer (so.PrintText text)
+action-PrintText text = ap action (sym (s.rolls-PrintText text)) ∙ fold-roll-StmtKind Action Braced ShownLine action_layer block_layer line_layer (so.PrintText text)
 
 pub action-Assert : (a : Expr) → action (s.Assert a) ≡ Asserts (expression a)
 unfolding action braced
-action-Assert a = ap action (sym (s.rolls-Assert a)) ∙ fold-roll-StmtKind Action Braced Line action_layer block_layer line_layer (so.Assert a)
+action-Assert a = ap action (sym (s.rolls-Assert a)) ∙ fold-roll-StmtKind Action Braced ShownLine action_layer block_layer line_layer (so.Assert a)
 
 pub action-Return : (a : Expr) → action (s.Return a) ≡ Returns (expression a)
 unfolding action braced
-action-Return a = ap action (sym (s.rolls-Return a)) ∙ fold-roll-StmtKind Action Braced Line action_layer block_layer line_layer (so.Return a)
+action-Return a = ap action (sym (s.rolls-Return a)) ∙ fold-roll-StmtKind Action Braced ShownLine action_layer block_layer line_layer (so.Return a)
 
 pub action-If : (a : Expr) (b : Block) → action (s.If a b None) ≡ Chooses (expression a) (braced b).no (braced b).lines
 unfolding action braced
-action-If a b = ap action (sym (s.rolls-If a b None)) ∙ fold-roll-StmtKind Action Braced Line action_layer block_layer line_layer (so.If a b None)
+action-If a b = ap action (sym (s.rolls-If a b None)) ∙ fold-roll-StmtKind Action Braced ShownLine action_layer block_layer line_layer (so.If a b None)
 
 pub action-If_else : (a : Expr) (b c : Block) → action (s.If a b (Some c)) ≡ ChoosesElse (expression a) (braced b).no (braced b).lines (braced c).no (braced c).lines
 unfolding action braced
-action-If_else a b c = ap action (sym (s.rolls-If a b (Some c))) ∙ fold-roll-StmtKind Action Braced Line action_layer block_layer line_layer (so.If a b (Some c))
+action-If_else a b c = ap action (sym (s.rolls-If a b (Some c))) ∙ fold-roll-StmtKind Action Braced ShownLine action_layer block_layer line_layer (so.If a b (Some c))
 
-abbrev pub line : Stmt → Line
+abbrev pub line : Stmt → ShownLine
 line x = record { at = x.at; action = action x.kind }
 
-fold_line : (x : Stmt) → fold-Stmt Action Braced Line action_layer block_layer line_layer x ≡ line x
+fold_line : (x : Stmt) → fold-Stmt Action Braced ShownLine action_layer block_layer line_layer x ≡ line x
 unfolding action
-fold_line x = fold-roll-Stmt Action Braced Line action_layer block_layer line_layer (record { kind = x.kind; at = x.at })
+fold_line x = fold-roll-Stmt Action Braced ShownLine action_layer block_layer line_layer (record { kind = x.kind; at = x.at })
 
-lines_of_folds : (xs : List Stmt) → lines_of (map (fold-Stmt Action Braced Line action_layer block_layer line_layer) xs) ≡ lines_from xs
+lines_of_folds : (xs : List Stmt) → lines_of (map (fold-Stmt Action Braced ShownLine action_layer block_layer line_layer) xs) ≡ lines_from xs
 unfolding action
 lines_of_folds [] = refl
-lines_of_folds (x ∷ xs) = ap (λ (l : Line). Next l.at l.action (lines_of (map (fold-Stmt Action Braced Line action_layer block_layer line_layer) xs))) (fold_line x) ∙ ap (λ l. Next x.at (action x.kind) l) (lines_of_folds xs)
+lines_of_folds (x ∷ xs) = ap (λ (l : ShownLine). Next l.at l.action (lines_of (map (fold-Stmt Action Braced ShownLine action_layer block_layer line_layer) xs))) (fold_line x) ∙ ap (λ l. Next x.at (action x.kind) l) (lines_of_folds xs)
 
 pub lines-out : (b : Block) → (braced b).lines ≡ lines_from (out-Block b).stmts
 unfolding action braced
-lines-out b = ap (λ (x : Braced). x.lines) (fold_out-Block Action Braced Line action_layer block_layer line_layer b) ∙ lines_of_folds (out-Block b).stmts
+lines-out b = ap (λ (x : Braced). x.lines) (fold_out-Block Action Braced ShownLine action_layer block_layer line_layer b) ∙ lines_of_folds (out-Block b).stmts
 
 pub lines-roll : (x : so.Block-F StmtKind Block Stmt) → (braced (roll-Block x)).lines ≡ lines_from x.stmts
 unfolding action braced
-lines-roll x = ap (λ (y : Braced). y.lines) (fold-roll-Block Action Braced Line action_layer block_layer line_layer x) ∙ lines_of_folds x.stmts
+lines-roll x = ap (λ (y : Braced). y.lines) (fold-roll-Block Action Braced ShownLine action_layer block_layer line_layer x) ∙ lines_of_folds x.stmts
 
 pub no-roll : (x : so.Block-F StmtKind Block Stmt) → (braced (roll-Block x)).no ≡ x.no
 unfolding action braced
-no-roll x = ap (λ (y : Braced). y.no) (fold-roll-Block Action Braced Line action_layer block_layer line_layer x)
+no-roll x = ap (λ (y : Braced). y.no) (fold-roll-Block Action Braced ShownLine action_layer block_layer line_layer x)
 
 pub no-out : (b : Block) → (braced b).no ≡ (out-Block b).no
 unfolding action braced
-no-out b = ap (λ (y : Braced). y.no) (fold_out-Block Action Braced Line action_layer block_layer line_layer b)
+no-out b = ap (λ (y : Braced). y.no) (fold_out-Block Action Braced ShownLine action_layer block_layer line_layer b)
 
 -- ---- methods and programs
 

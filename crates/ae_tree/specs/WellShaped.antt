@@ -43,28 +43,28 @@ abbrev mutual
 -- ---- names: those that occur are among the first n
 
 -- a name is one of the first n
-abbrev pub IsNamed : ℕ → NameAt → Type 0
-IsNamed n x = x.name < n
+abbrev pub HasNumberBelow : ℕ → NameAt → Type 0
+HasNumberBelow n x = x.name < n
 
 -- and so is each of these
 abbrev pub AreNamed : ℕ → List NameAt → Type 0
-AreNamed n = All (IsNamed n)
+AreNamed n = All (HasNumberBelow n)
 
 -- the root of a path, and its steps
 abbrev pub PathNamed : ℕ → Path → Type 0
-PathNamed n p = IsNamed n p.root × AreNamed n p.steps
+PathNamed n p = HasNumberBelow n p.root × AreNamed n p.steps
 
 -- the group of a permission
 abbrev pub PermNamed : ℕ → PermAt → Type 0
 PermNamed n (perm_at.Unique at) = Unit {0}
 PermNamed n (perm_at.Immutable at) = Unit {0}
 PermNamed n (perm_at.Lent at) = Unit {0}
-PermNamed n (perm_at.Shared at g) = IsNamed n g
+PermNamed n (perm_at.Shared at g) = HasNumberBelow n g
 
 -- the class of a kind, and its groups
 abbrev pub KindNamed : ℕ → KindAt → Type 0
 KindNamed n (kind_at.Ints at) = Unit {0}
-KindNamed n (kind_at.Class c gs) = IsNamed n c × AreNamed n gs
+KindNamed n (kind_at.Class c gs) = HasNumberBelow n c × AreNamed n gs
 
 -- the permission and the kind of a type
 abbrev pub TypeNamed : ℕ → Ty → Type 0
@@ -92,31 +92,31 @@ ExpressionNamed n (Binary o a b) = ExpressionNamed n a × ExpressionNamed n b
 
 -- a call: its receiver, its method, its groups and its arguments
 abbrev pub CallNamed : ℕ → Invocation → Type 0
-CallNamed n c = IfThere (PathNamed n) c.on × IsNamed n c.method × AreNamed n c.groups × All (ExpressionNamed n) c.args
+CallNamed n c = IfThere (PathNamed n) c.on × HasNumberBelow n c.method × AreNamed n c.groups × All (ExpressionNamed n) c.args
 
 -- what stands right of a =
 abbrev pub RightNamed : ℕ → RightSide → Type 0
 RightNamed n (Value e) = ExpressionNamed n e
 RightNamed n (Taken p at) = PathNamed n p
 RightNamed n (Zeros e at) = ExpressionNamed n e
-RightNamed n (Made c gs es at) = IsNamed n c × AreNamed n gs × All (ExpressionNamed n) es
+RightNamed n (Made c gs es at) = HasNumberBelow n c × AreNamed n gs × All (ExpressionNamed n) es
 RightNamed n (Returned c) = CallNamed n c
 
 -- a statement, without those in its blocks
 abbrev pub ActionNamed : ℕ → Action → Type 0
-ActionNamed n (Declares t x e) = TypeNamed n t × IsNamed n x × RightNamed n e
-ActionNamed n (Assigns x e) = IsNamed n x × RightNamed n e
+ActionNamed n (Declares t x e) = TypeNamed n t × HasNumberBelow n x × RightNamed n e
+ActionNamed n (Assigns x e) = HasNumberBelow n x × RightNamed n e
 ActionNamed n (Stores p e) = PathNamed n p × ExpressionNamed n e
 ActionNamed n (StoresAt p i e) = PathNamed n p × ExpressionNamed n i × ExpressionNamed n e
 ActionNamed n (Calls c) = CallNamed n c
 ActionNamed n (Chooses e k b) = ExpressionNamed n e
 ActionNamed n (ChoosesElse e k b m c) = ExpressionNamed n e
 ActionNamed n (Repeats e k b) = ExpressionNamed n e
-ActionNamed n (Groups g) = IsNamed n g
+ActionNamed n (Groups g) = HasNumberBelow n g
 ActionNamed n (Splits gs k b) = AreNamed n gs
-ActionNamed n (Locks g k b) = IsNamed n g
-ActionNamed n (Freezes x) = IsNamed n x
-ActionNamed n (Shares x g) = IsNamed n x × IsNamed n g
+ActionNamed n (Locks g k b) = HasNumberBelow n g
+ActionNamed n (Freezes x) = HasNumberBelow n x
+ActionNamed n (Shares x g) = HasNumberBelow n x × HasNumberBelow n g
 ActionNamed n (Prints e) = ExpressionNamed n e
 ActionNamed n (PrintsText s) = Unit {0}
 ActionNamed n (Asserts e) = ExpressionNamed n e
@@ -124,25 +124,25 @@ ActionNamed n (Returns e) = ExpressionNamed n e
 
 -- a parameter: its type and its name
 abbrev pub ParamNamed : ℕ → Param → Type 0
-ParamNamed n x = TypeNamed n x.ty × IsNamed n x.name
+ParamNamed n x = TypeNamed n x.ty × HasNumberBelow n x.name
 
 -- a method, from its result to the last statement of its body
 pub record MethodNamed (n : ℕ) (m : Definition) : Type 0 where
   pub result : IfThere (TypeNamed n) m.result
-  pub name : IsNamed n m.name
+  pub name : HasNumberBelow n m.name
   pub groups : AreNamed n m.groups
   pub me : IfThere (λ (x : Me). PermNamed n x.perm) m.me
   pub params : All (ParamNamed n) m.params
-  pub needs : All (λ (x : GroupNeed). IsNamed n x.group) m.needs
+  pub needs : All (λ (x : GroupNeed). HasNumberBelow n x.group) m.needs
   pub body : EachStatement (ActionNamed n) m.body
 
 -- a field: its type and its name
 abbrev pub FieldNamed : ℕ → Field → Type 0
-FieldNamed n d = TypeNamed n d.ty × IsNamed n d.name
+FieldNamed n d = TypeNamed n d.ty × HasNumberBelow n d.name
 
 -- a class, without its methods
 abbrev pub ClassNamed : ℕ → Class → Type 0
-ClassNamed n c = IsNamed n c.name × AreNamed n c.groups × All (FieldNamed n) c.fields
+ClassNamed n c = HasNumberBelow n c.name × AreNamed n c.groups × All (FieldNamed n) c.fields
 
 -- ---- statements
 

@@ -5,14 +5,14 @@ use Rattle.std.proofs.Math.Dec.{eqb-zero-suc}
 use Rattle.std.proofs.lemmas.Bool.{eqb-true}
 use Rattle.std.specs.Prelude.{pos}
 use Rattle.ae_rules.specs.Instances.{Instance, Ordered}
-use Rattle.ae_rules.specs.Paths.{comes_before, is_simple_at, begins}
+use Rattle.ae_rules.specs.Paths.{comes_before, is_simple_at, is_prefix_of}
 use Rattle.ae_semantics.specs.Places.{CellName}
 use Rattle.ae_semantics.specs.Observations.{Piece, OfLog, Ask, Gave, Fuel}
 use Rattle.ae_semantics.specs.Meaning.{one, many, below}
 use Rattle.ae_semantics.specs.Means.{At, Turn, Asking, mean}
 use Rattle.ae_semantics.specs.Atom.{atom, part}
-use Rattle.ae_semantics.specs.Report.{Event, Cell, Report, LeadsTo, Legal, Explained, mean_of, part_of, asking_of}
-use Rattle.ae_semantics.specs.Report.{ended_at, Line, turn_path, IsLater, InTurnsFrom, Covers, IsOf, Keeps, traced_part}
+use Rattle.ae_semantics.specs.Report.{Event, Cell, Report, LeadsTo, Legal, Explained, mean_of, part_of_report, asking_of}
+use Rattle.ae_semantics.specs.Report.{ended_at, LineRun, turn_path, IsLater, InTurnsFrom, Covers, IsLineOf, KeepInTime, traced_part}
 use Rattle.ae_semantics.specs.Report.{Traced}
 use Rattle.ae_worked.proofs.ReportWords.{by_test, no_thing, of_two, pair_of_two, two_differ, some_same, carried_same}
 use Rattle.ae_worked.proofs.ReportWords.{asking_same, two_same, not_both, unparted, fork_of, part_so, rises_two}
@@ -45,11 +45,11 @@ abbrev printed_twice : Cell
 printed_twice = record { name = io_cell; first = OfLog []; last = OfLog (piece_in 0 ∷ piece_in 1 ∷ []) }
 
 -- a block's span
-abbrev line_in : ℕ → ℕ → ℕ → Line
+abbrev line_in : ℕ → ℕ → ℕ → LineRun
 line_in t began ended = record { path = block_in t; at = at 4 1; began = began; ended = ended }
 
 -- the loop from its third turn on
-abbrev last_turn : Line
+abbrev last_turn : LineRun
 last_turn = record { path = 0 ∷ 0 ∷ 2 ∷ []; at = at 3 1; began = 7; ended = 8 }
 
 -- With fuel for two turns the run ends in the third. The blocks of both turns are used, and none is past.
@@ -125,7 +125,7 @@ spent-asks = two_same _ _ _ _
     (carried_same _ nothing_out (λ x. by_test 2 x (λ e. rw e refl) (λ e. rw e refl))
     (elim [ zero ↦ refl | suc g ↦ rw (eqb-zero-suc g) refl ]) refl))
 
-spent-asks_past : (part_of prints_forever [] 2 spent).asked ≡ both_asks
+spent-asks_past : (part_of_report prints_forever [] 2 spent).asked ≡ both_asks
 unfolding part one many below
 spent-asks_past = two_same _ _ _ _
     (asking_same _ _ refl refl refl refl refl refl
@@ -189,7 +189,7 @@ next_statement-after : IsAfterEnd (0 ∷ 1 ∷ [])
 unfolding mean one many below
 next_statement-after = refl
 
-abbrev AreApart : Line → Line → Type 0
+abbrev AreApart : LineRun → LineRun → Type 0
 AreApart l m = (q : Instance) → Covers (traced_part prints_forever [] 2 spent) l q
     → Covers (traced_part prints_forever [] 2 spent) m q → ⊥
 
@@ -200,7 +200,7 @@ third (i ∷ []) = 0
 third (i ∷ j ∷ []) = 0
 third (i ∷ j ∷ t ∷ q) = t
 
-third_is : (t : ℕ) (rest q : Instance) → begins (0 ∷ 0 ∷ t ∷ rest) q ≡ true → third q ≡ t
+third_is : (t : ℕ) (rest q : Instance) → is_prefix_of (0 ∷ 0 ∷ t ∷ rest) q ≡ true → third q ≡ t
 third_is t rest [] h = absurd (not_both _ refl h)
 third_is t rest (i ∷ []) h = absurd (not_both _ (and_false (nat_eq 0 i)) h)
 third_is t rest (i ∷ j ∷ []) h = absurd (not_both _ (and_false (nat_eq 0 j)) (and_right (nat_eq 0 i) _ h))
@@ -246,21 +246,21 @@ block_and_turn-apart t l began ended q (inr x) y = no_turn t x.0 x.1 x.2
 
 abbrev HasLine : At → Type 0
 HasLine x = is_simple_at prints_forever x.path ≡ true
-    → (l : Line) × Contains spent.trace l × Covers (traced_part prints_forever [] 2 spent) l x.path
+    → (l : LineRun) × Contains spent.trace l × Covers (traced_part prints_forever [] 2 spent) l x.path
 
 spent-traced : Traced prints_forever [] 2 spent
 unfolding mean part one many below
 spent-traced = record {
   differ = all_differ-so (3 ∷ 4 ∷ 5 ∷ 6 ∷ 7 ∷ 8 ∷ 1 ∷ 2 ∷ []) refl;
-  spans = every (λ (l : Line). l.began < l.ended) spent.trace (omega arith, (omega arith, (omega arith, tt)));
+  spans = every (λ (l : LineRun). l.began < l.ended) spent.trace (omega arith, (omega arith, (omega arith, tt)));
   once = (
     of_two (AreApart (line_in 0 3 4)) (line_in 1 5 6) last_turn blocks_apart
     (block_and_turn-apart 0 (omega arith) 3 4),
     pair_of_two AreApart (line_in 1 5 6) last_turn (block_and_turn-apart 1 (omega arith) 5 6),
   );
   keeps = (
-    of_two (Keeps prints_forever (line_in 0 3 4)) (line_in 1 5 6) last_turn (λ o. omega arith) (λ o. omega arith),
-    pair_of_two (Keeps prints_forever) (line_in 1 5 6) last_turn (λ o. omega arith),
+    of_two (KeepInTime prints_forever (line_in 0 3 4)) (line_in 1 5 6) last_turn (λ o. omega arith) (λ o. omega arith),
+    pair_of_two (KeepInTime prints_forever) (line_in 1 5 6) last_turn (λ o. omega arith),
   );
   all_run = every HasLine (mean_of prints_forever [] 2 spent).ran (
     (λ e. absurd (not_both _ refl e)),
@@ -268,18 +268,18 @@ spent-traced = record {
     ((λ e. (line_in 0 3 4, (0, omega arith, refl), inl refl)),
     ((λ e. (line_in 1 5 6, (1, omega arith, refl), inl refl)), tt))),
   );
-  run_only = every (IsOf (traced_part prints_forever [] 2 spent)) spent.trace (
+  run_only = every (IsLineOf (traced_part prints_forever [] 2 spent)) spent.trace (
     inl (2, omega arith, refl),
     (inl (3, omega arith, refl), (inr
     (record { path = 0 ∷ 0 ∷ []; turn = 2 }, (2, omega arith, refl), refl, (1, omega arith, refl)), tt)),
   );
-  meant = every (λ (l : Line). IsAfterEnd l.path ⊎ IsOf (mean_of prints_forever [] 2 spent) l) spent.trace (
+  meant = every (λ (l : LineRun). IsAfterEnd l.path ⊎ IsLineOf (mean_of prints_forever [] 2 spent) l) spent.trace (
     inr (inl (2, omega arith, refl)),
     (inr (inl (3, omega arith, refl)),
     (inr (inr (record { path = 0 ∷ 0 ∷ []; turn = 2 }, (2, omega arith, refl), refl, (1, omega arith, refl))), tt)),
   );
   sorted = (
-    of_two (λ (m : Line). comes_before (block_in 0) m.path ≡ true) (line_in 1 5 6) last_turn refl refl,
-    pair_of_two (λ (l m : Line). comes_before l.path m.path ≡ true) (line_in 1 5 6) last_turn refl,
+    of_two (λ (m : LineRun). comes_before (block_in 0) m.path ≡ true) (line_in 1 5 6) last_turn refl refl,
+    pair_of_two (λ (l m : LineRun). comes_before l.path m.path ≡ true) (line_in 1 5 6) last_turn refl,
   );
 }

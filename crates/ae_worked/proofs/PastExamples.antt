@@ -12,7 +12,7 @@ use Rattle.ae_semantics.specs.Observations.{Piece, OfLog, Trapped, Done, Trap}
 use Rattle.ae_semantics.specs.Meaning.{one, many, below}
 use Rattle.ae_semantics.specs.Means.{Asking, mean}
 use Rattle.ae_semantics.specs.Atom.{atom, part}
-use Rattle.ae_semantics.specs.Report.{Event, Report, LeadsTo, Legal, Explained, mean_of, part_of, asking_of}
+use Rattle.ae_semantics.specs.Report.{Event, Report, LeadsTo, Legal, Explained, mean_of, part_of_report, asking_of}
 use Rattle.ae_worked.proofs.ReportWords.{by_test, one_thing, of_two, pair_of_two, two_differ, some_same, carried_same}
 use Rattle.ae_worked.proofs.ReportWords.{asking_same, one_same, two_same, unparted, part_so, fork_of, used_at}
 use Rattle.ae_worked.proofs.ReportWords.{backwards, side_by_side, hidden, unused, rises_two, one_cell, nothing_given}
@@ -91,7 +91,7 @@ trapped-asks = one_same _ _ (asking_same _ _ refl refl refl refl refl refl
     (elim [ zero ↦ refl | suc g ↦ rw (eqb-zero-suc g) refl ]) refl))
 
 -- past the ending the second block asks too
-trapped-asks_past : (part_of trap_before_a_print [] 10 trapped).asked ≡ both_asks
+trapped-asks_past : (part_of_report trap_before_a_print [] 10 trapped).asked ≡ both_asks
 unfolding part one many below
 trapped-asks_past = two_same _ _ _ _
     (asking_same _ _ refl refl refl refl refl refl

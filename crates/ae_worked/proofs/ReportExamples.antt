@@ -13,9 +13,9 @@ use Rattle.ae_rules.specs.Paths.{comes_before}
 use Rattle.ae_semantics.specs.Places.{CellName}
 use Rattle.ae_semantics.specs.Observations.{Piece, Image, OfLog, Carried, Ask, Answer, Gave, Trapped, Done}
 use Rattle.ae_semantics.specs.Meaning.{one, many, below}
-use Rattle.ae_semantics.specs.Means.{Asking, mean, bytes_of}
+use Rattle.ae_semantics.specs.Means.{Asking, mean, pieces_bytes}
 use Rattle.ae_semantics.specs.Atom.{atom, part}
-use Rattle.ae_semantics.specs.Report.{Event, Cell, Line, Report, Leads, LeadsTo, Legal, Explained, mean_of, part_of}
+use Rattle.ae_semantics.specs.Report.{Event, Cell, LineRun, Report, Leads, LeadsTo, Legal, Explained, mean_of, part_of_report}
 use Rattle.ae_semantics.specs.Report.{asking_of}
 use Rattle.ae_worked.proofs.ReportWords.{no_thing, of_two, pair_of_two, two_differ, some_same, carried_same}
 use Rattle.ae_worked.proofs.ReportWords.{asking_same, two_same, unparted, part_so, fork_of, used_at, backwards}
@@ -50,7 +50,7 @@ abbrev pub log_cell : List Piece → Cell
 log_cell pieces = record { name = record { path = 0 ∷ []; group = 0 }; first = OfLog []; last = OfLog pieces }
 
 -- a report of the two blocks, with these stamps, in this order of their places
-abbrev pub report : ℕ → ℕ → List ℕ → List Piece → List ℕ → List Line → Report
+abbrev pub report : ℕ → ℕ → List ℕ → List Piece → List ℕ → List LineRun → Report
 report s t order pieces out trace = record {
   ending = Done;
   out = out;
@@ -61,7 +61,7 @@ report s t order pieces out trace = record {
   trace = trace;
 }
 
-abbrev pub block_line : Instance → ℕ → ℕ → ℕ → Line
+abbrev pub block_line : Instance → ℕ → ℕ → ℕ → LineRun
 block_line q number began ended = record { path = q; at = at number 1; began = began; ended = ended }
 
 -- first the one block, then the other
@@ -175,7 +175,7 @@ abbrev pub both_asks : List Asking
 both_asks = asking first_block 2 ∷ asking second_block 3 ∷ []
 
 -- in source order, and past what stopped, the two blocks ask alike
-asked_in : (s t : ℕ) (order : List ℕ) (pieces : List Piece) (out : List ℕ) (trace : List Line)
+asked_in : (s t : ℕ) (order : List ℕ) (pieces : List Piece) (out : List ℕ) (trace : List LineRun)
     → (mean_of two_prints [] 10 (report s t order pieces out trace)).asked ≡ both_asks
 unfolding mean one many below
 asked_in s t order pieces out trace = two_same _ _ _ _
@@ -186,8 +186,8 @@ asked_in s t order pieces out trace = two_same _ _ _ _
     (carried_same _ nothing_out (λ x. by_test 2 x (λ e. rw e refl) (λ e. rw e refl))
     (elim [ zero ↦ refl | suc g ↦ rw (eqb-zero-suc g) refl ]) refl))
 
-asked_past : (s t : ℕ) (order : List ℕ) (pieces : List Piece) (out : List ℕ) (trace : List Line)
-    → (part_of two_prints [] 10 (report s t order pieces out trace)).asked ≡ both_asks
+asked_past : (s t : ℕ) (order : List ℕ) (pieces : List Piece) (out : List ℕ) (trace : List LineRun)
+    → (part_of_report two_prints [] 10 (report s t order pieces out trace)).asked ≡ both_asks
 unfolding part one many below
 asked_past s t order pieces out trace = two_same _ _ _ _
     (asking_same _ _ refl refl refl refl refl refl
@@ -197,7 +197,7 @@ asked_past s t order pieces out trace = two_same _ _ _ _
     (carried_same _ nothing_out (λ x. by_test 2 x (λ e. rw e refl) (λ e. rw e refl))
     (elim [ zero ↦ refl | suc g ↦ rw (eqb-zero-suc g) refl ]) refl))
 
-is_asked : (s t : ℕ) (order : List ℕ) (pieces : List Piece) (out : List ℕ) (trace : List Line) (e : Event)
+is_asked : (s t : ℕ) (order : List ℕ) (pieces : List Piece) (out : List ℕ) (trace : List LineRun) (e : Event)
     (x : Asking) → Contains (report s t order pieces out trace).events e
     → asking_of (report s t order pieces out trace) e ≡ Some x → Contains both_asks x
 is_asked s t order pieces out trace e x c = of_two
@@ -206,8 +206,8 @@ is_asked s t order pieces out trace e x c = of_two
     (λ q. (0, omega arith, some_same (asking first_block 2) x q))
     (λ q. (1, omega arith, some_same (asking second_block 3) x q)) e c
 
-explained : (s t : ℕ) (order : List ℕ) (pieces : List Piece) (out : List ℕ) (trace : List Line) → out
-    ≡ bytes_of pieces ++ [] → Legal two_prints (report s t order pieces out trace)
+explained : (s t : ℕ) (order : List ℕ) (pieces : List Piece) (out : List ℕ) (trace : List LineRun) → out
+    ≡ pieces_bytes pieces ++ [] → Legal two_prints (report s t order pieces out trace)
     → Explained two_prints [] 10 (report s t order pieces out trace)
 unfolding mean part one many below atom
 explained s t order pieces out trace same legal = record {

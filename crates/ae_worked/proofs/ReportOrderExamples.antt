@@ -11,7 +11,7 @@ use Rattle.ae_semantics.specs.Observations.{Piece, OfLog, Carried, Gave, Done}
 use Rattle.ae_semantics.specs.Meaning.{one, many, below}
 use Rattle.ae_semantics.specs.Means.{Asking, mean}
 use Rattle.ae_semantics.specs.Atom.{atom, part}
-use Rattle.ae_semantics.specs.Report.{Event, Cell, Report, LeadsTo, Legal, Explained, mean_of, part_of, asking_of}
+use Rattle.ae_semantics.specs.Report.{Event, Cell, Report, LeadsTo, Legal, Explained, mean_of, part_of_report, asking_of}
 use Rattle.ae_worked.proofs.ReportWords.{no_thing, of_two, pair_of_two, two_differ, some_same, carried_same}
 use Rattle.ae_worked.proofs.ReportWords.{asking_same, two_same, unparted, part_so, fork_of, backwards, rises_two}
 use Rattle.ae_worked.proofs.ReportWords.{one_cell, by_test, nothing_given, one_line}
@@ -138,7 +138,7 @@ writing_first-asks = two_same _ _ _ _
     (λ x. by_test 3 x (λ e. rw e refl) (λ e. by_test 2 x (λ d. rw (e, d) refl) (λ d. rw (e, d) refl)))
     (elim [ zero ↦ refl | suc g ↦ rw (eqb-zero-suc g) refl ]) refl))
 
-writing_first-asks_past : (part_of written_then_printed [] 10 writing_first).asked ≡ written_asks
+writing_first-asks_past : (part_of_report written_then_printed [] 10 writing_first).asked ≡ written_asks
 unfolding part one many below
 writing_first-asks_past = two_same _ _ _ _
     (asking_same _ _ refl refl refl refl refl refl

@@ -3,12 +3,12 @@ use Rattle.std.proofs.Common.{◌≡◌, ◌<◌, ◌⊎◌, inl, inr, refl, sym
 use Rattle.std.proofs.Common.{List, [], ◌∷◌, Contains}
 use Rattle.std.proofs.Math.Dec.{eqb-zero-suc}
 use Rattle.ae_rules.specs.Instances.{Instance, Conflict}
-use Rattle.ae_rules.specs.Paths.{comes_before, begins, is_simple_at}
+use Rattle.ae_rules.specs.Paths.{comes_before, is_prefix_of, is_simple_at}
 use Rattle.ae_semantics.specs.Observations.{Piece, Done}
 use Rattle.ae_semantics.specs.Meaning.{one, many, below}
 use Rattle.ae_semantics.specs.Means.{At, mean}
 use Rattle.ae_semantics.specs.Atom.{part}
-use Rattle.ae_semantics.specs.Report.{Line, Report, AllDiffer, mean_of, Covers, IsOf, IsLater, Keeps, traced_part}
+use Rattle.ae_semantics.specs.Report.{LineRun, Report, AllDiffer, mean_of, Covers, IsLineOf, IsLater, KeepInTime, traced_part}
 use Rattle.ae_semantics.specs.Report.{Traced}
 use Rattle.ae_worked.proofs.ReportWords.{no_thing, of_two, of_three, pair_of_two, and_false, not_both, fork_of}
 use Rattle.ae_worked.proofs.ReportWords.{conflict_so, all_differ-so, no_line}
@@ -20,24 +20,24 @@ use Rattle.ae_worked.proofs.SplitRunExamples.{two_prints, written_then_printed}
 
 -- ---- traced
 
-apart : (q : Instance) → begins first_block q ≡ true → begins second_block q ≡ true → ⊥
+apart : (q : Instance) → is_prefix_of first_block q ≡ true → is_prefix_of second_block q ≡ true → ⊥
 apart [] e d = not_both _ refl e
 apart (a ∷ []) e d = not_both _ (and_false (nat_eq 0 a)) e
 apart (suc a ∷ b ∷ q) e d = not_both _ (ap (λ c. c && (nat_eq 0 b && true)) (eqb-zero-suc a)) e
 apart (zero ∷ zero ∷ q) e d = not_both _ refl d
 apart (zero ∷ suc b ∷ q) e d = not_both _ (ap (λ c. c && true) (eqb-zero-suc b)) e
 
-abbrev AreApart : Report → Line → Line → Type 0
+abbrev AreApart : Report → LineRun → LineRun → Type 0
 AreApart r l m = (q : Instance) → Covers (traced_part two_prints [] 10 r) l q
     → Covers (traced_part two_prints [] 10 r) m q → ⊥
 
 -- no loop has turns
-lines_apart : (s t : ℕ) (order : List ℕ) (pieces : List Piece) (out : List ℕ) (trace : List Line) (l m : Line)
+lines_apart : (s t : ℕ) (order : List ℕ) (pieces : List Piece) (out : List ℕ) (trace : List LineRun) (l m : LineRun)
     → l.path ≡ first_block → m.path ≡ second_block
     → AreApart (report s t order pieces out trace) l m
 unfolding part one many below
-lines_apart s t order pieces out trace l m e d q (inl x) (inl y) = apart q (subst (λ z. begins z q ≡ true) e x)
-    (subst (λ z. begins z q ≡ true) d y)
+lines_apart s t order pieces out trace l m e d q (inl x) (inl y) = apart q (subst (λ z. is_prefix_of z q ≡ true) e x)
+    (subst (λ z. is_prefix_of z q ≡ true) d y)
 lines_apart s t order pieces out trace l m e d q (inl x) (inr y) = absurd (no_thing y.0 y.1)
 lines_apart s t order pieces out trace l m e d q (inr x) y = absurd (no_thing x.0 x.1)
 
@@ -46,12 +46,12 @@ no_conflict = conflict_so two_prints first_block second_block
     (fork_of two_prints first_block second_block) refl no_clash
 
 abbrev HasLine : Report → At → Type 0
-HasLine r x = (l : Line) × Contains r.trace l × Covers (traced_part two_prints [] 10 r) l x.path
+HasLine r x = (l : LineRun) × Contains r.trace l × Covers (traced_part two_prints [] 10 r) l x.path
 
-abbrev both_lines : ℕ → ℕ → ℕ → ℕ → List Line
+abbrev both_lines : ℕ → ℕ → ℕ → ℕ → List LineRun
 both_lines a b c d = block_line first_block 3 a b ∷ block_line second_block 4 c d ∷ []
 
-is_covered : (r : Report) (x : At) (l : Line) → Contains r.trace l → begins l.path x.path ≡ true → HasLine r x
+is_covered : (r : Report) (x : At) (l : LineRun) → Contains r.trace l → is_prefix_of l.path x.path ≡ true → HasLine r x
 is_covered r x l c e = (l, c, inl e)
 
 -- the statements that ran: the split block, which is not simple, and the two blocks
@@ -62,9 +62,9 @@ all_covered : (r : Report) (a b c d : ℕ) → r.trace ≡ both_lines a b c d �
 all_covered r a b c d t = of_three (λ (x : At). is_simple_at two_prints x.path ≡ true → HasLine r x) _ _ _
     (λ e. absurd (not_both _ refl e))
     (λ e. is_covered r (record { path = first_block; spot = at 3 1 }) (block_line first_block 3 a b)
-    (subst (λ (ls : List Line). Contains ls (block_line first_block 3 a b)) (sym t) (0, omega arith, refl)) refl)
+    (subst (λ (ls : List LineRun). Contains ls (block_line first_block 3 a b)) (sym t) (0, omega arith, refl)) refl)
     (λ e. is_covered r (record { path = second_block; spot = at 4 1 }) (block_line second_block 4 c d)
-    (subst (λ (ls : List Line). Contains ls (block_line second_block 4 c d)) (sym t) (1, omega arith, refl)) refl)
+    (subst (λ (ls : List LineRun). Contains ls (block_line second_block 4 c d)) (sym t) (1, omega arith, refl)) refl)
 
 -- Two lines whose spans may lie anywhere, at once or one after the other.
 traced : (s t : ℕ) (order : List ℕ) (pieces : List Piece) (out : List ℕ) (a b c d : ℕ)
@@ -72,23 +72,23 @@ traced : (s t : ℕ) (order : List ℕ) (pieces : List Piece) (out : List ℕ) (
     → Traced two_prints [] 10 (report s t order pieces out (both_lines a b c d))
 unfolding mean part one many below
 traced s t order pieces out a b c d differ first second =
-    let l : Line = block_line first_block 3 a b in
-    let m : Line = block_line second_block 4 c d in
+    let l : LineRun = block_line first_block 3 a b in
+    let m : LineRun = block_line second_block 4 c d in
     let r : Report = report s t order pieces out (both_lines a b c d) in
     record {
       differ = differ;
-      spans = of_two (λ (k : Line). k.began < k.ended) l m first second;
+      spans = of_two (λ (k : LineRun). k.began < k.ended) l m first second;
       once = pair_of_two (AreApart r) l m (lines_apart s t order pieces out (both_lines a b c d) l m refl refl);
-      keeps = pair_of_two (Keeps two_prints) l m
+      keeps = pair_of_two (KeepInTime two_prints) l m
       (elim [ inl x ↦ absurd (free first_block second_block (inl refl) (inr refl) x)
       | inr x ↦ absurd (no_conflict x) ]);
       all_run = all_covered r a b c d refl;
-      run_only = of_two (IsOf (traced_part two_prints [] 10 r)) l m (inl (1, omega arith, refl))
+      run_only = of_two (IsLineOf (traced_part two_prints [] 10 r)) l m (inl (1, omega arith, refl))
       (inl (2, omega arith, refl));
-      meant = of_two (λ (k : Line). IsLater (mean_of two_prints [] 10 r) Done k.path ⊎ IsOf
+      meant = of_two (λ (k : LineRun). IsLater (mean_of two_prints [] 10 r) Done k.path ⊎ IsLineOf
       (mean_of two_prints [] 10 r) k) l m
           (inr (inl (1, omega arith, refl))) (inr (inl (2, omega arith, refl)));
-      sorted = pair_of_two (λ (j k : Line). comes_before j.path k.path ≡ true) l m refl;
+      sorted = pair_of_two (λ (j k : LineRun). comes_before j.path k.path ≡ true) l m refl;
     }
 
 in_order-traced : Traced two_prints [] 10 in_order

@@ -16,7 +16,7 @@ use Rattle.ae_rules.specs.Instances.{Instance, Point, InBlock, AtChoice, AtLoop,
 use Rattle.ae_rules.specs.Instances.{Ordered, Conflict, uses_from}
 use Rattle.ae_semantics.specs.Observations.{Carried, Gave}
 use Rattle.ae_semantics.specs.Means.{Asking}
-use Rattle.ae_semantics.specs.Report.{Event, Cell, Line, AllPairs, AllDiffer, Rises, of_cell, Leads}
+use Rattle.ae_semantics.specs.Report.{Event, Cell, LineRun, AllPairs, AllDiffer, Rises, of_cell, Leads}
 use Rattle.ae_worked.proofs.MeaningWords.{nothing_out}
 
 -- ---- the things of short lists
@@ -228,7 +228,7 @@ absent m [] h z (k, l, e) = absurd (omega (arith, l))
 absent m (x ∷ xs) h z (zero, l, e) = subst (λ y. m ≢ y) e (differs m x (and_left _ _ h))
 absent m (x ∷ xs) h z (suc k, l, e) = absent m xs (and_right _ _ h) z (k, omega (arith, l), e)
 
-pub no_line : {P : Line → Type 0} → ((l : Line) × Contains [] l × P l) → ⊥
+pub no_line : {P : LineRun → Type 0} → ((l : LineRun) × Contains [] l × P l) → ⊥
 no_line x = no_thing x.0 x.1
 
 pub all_differ-so : (xs : List ℕ) → all_differ xs ≡ true → AllDiffer xs

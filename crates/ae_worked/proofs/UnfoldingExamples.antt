@@ -15,9 +15,9 @@ use Rattle.ae_worked.proofs.ProgramWords.{at}
 use Rattle.ae_rules.specs.Verdict.{given}
 use Rattle.ae_semantics.specs.Meaning.{one, many, below}
 use Rattle.ae_semantics.specs.Atom.{part}
-use Rattle.ae_semantics.specs.Unfolding.{Passage, AgreesOnChanged, uses_of, Frame, Begun, NoMore, Moment, Within}
-use Rattle.ae_semantics.specs.Unfolding.{IsAfter, trail, fresh, StandsFor, part_of, trail_of, results, frames, halted}
-use Rattle.ae_semantics.specs.Unfolding.{left_out, Then, Halted, Finished, LeftOut, Waiting, Gained, IsEntered, IsLeft}
+use Rattle.ae_semantics.specs.Unfolding.{Passage, AgreesOnChanged, uses_of, BlockFrame, Begun, NoMore, Moment, Within}
+use Rattle.ae_semantics.specs.Unfolding.{IsAfter, trail, fresh, StandsFor, part_of_frame, trail_of, results, frames, halted}
+use Rattle.ae_semantics.specs.Unfolding.{left_out, Then, Halted, Finished, LeftOut, Waiting, Gained, IsFrameEntered, IsLeft}
 use Rattle.ae_semantics.specs.Unfolding.{halt_place}
 use Rattle.ae_worked.proofs.ReportWords.{fork_of}
 use Rattle.ae_worked.proofs.RunExamples.{trap_beside_a_print}
@@ -36,10 +36,10 @@ abbrev pub no_values : Moment
 no_values = record { state = record { locals = λ x. None; groups = λ g. None; result = None }; log = [] }
 
 -- all statements wait
-abbrev begun : Frame
+abbrev begun : BlockFrame
 begun = given (fresh trap_beside_a_print []) (Begun no_values NoMore) (λ tree. tree)
 
-begun-entered : IsEntered trap_beside_a_print (trail_of trap_beside_a_print [] 100 begun) [] begun
+begun-entered : IsFrameEntered trap_beside_a_print (trail_of trap_beside_a_print [] 100 begun) [] begun
 unfolding part trail one many below
 begun-entered = (_, (0, omega arith, refl), refl, refl, record { locals = λ x h. refl; groups = λ g h. refl;
     result = refl; log = λ h. refl })
@@ -56,7 +56,7 @@ fresh-stands = record {
   each_left_out = every _ [] tt;
   each_event = every _ [] tt;
   each_cell = every _ [] tt;
-  all_others = every _ (part_of trap_beside_a_print [] 100 begun).ran (
+  all_others = every _ (part_of_frame trap_beside_a_print [] 100 begun).ran (
     inr (inl (Within (0 ∷ []), (0, omega arith, refl), refl)),
     (
       inr (inl (Within (1 ∷ []), (1, omega arith, refl), refl)),
@@ -81,7 +81,7 @@ two_in_b = record {
   log = [];
 }
 
-abbrev halfway : Frame
+abbrev halfway : BlockFrame
 halfway = Begun no_values
     (Then (Halted (Trap 2 (at 2 1)) nothing_gained)
     (Then (Finished two_in_b nothing_gained)
@@ -101,7 +101,7 @@ unfolding part trail one many below
 second-left = (_, (0, omega arith, refl), refl, record { locals = λ x h. not_there (nat_eq 4 x) (changes_a x)
     (Some two); groups = λ g h. refl; result = refl; log = λ h. refl })
 
-halfway-entered : IsEntered trap_beside_a_print (trail_of trap_beside_a_print [] 100 halfway) [] halfway
+halfway-entered : IsFrameEntered trap_beside_a_print (trail_of trap_beside_a_print [] 100 halfway) [] halfway
 unfolding part trail one many below
 halfway-entered = (_, (0, omega arith, refl), refl, refl, record { locals = λ x h. refl; groups = λ g h. refl;
     result = refl; log = λ h. refl })
@@ -131,7 +131,7 @@ halfway-stands = record {
   each_left_out = every _ (left_out halfway) (first-before-third, tt);
   each_event = every _ [] tt;
   each_cell = every _ [] tt;
-  all_others = every _ (part_of trap_beside_a_print [] 100 halfway).ran (
+  all_others = every _ (part_of_frame trap_beside_a_print [] 100 halfway).ran (
     inr (inl (Within (0 ∷ []), (1, omega arith, refl), refl)),
     (
       inl (Within (1 ∷ []), (0, omega arith, refl), refl),

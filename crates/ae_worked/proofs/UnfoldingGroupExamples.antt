@@ -8,9 +8,9 @@ use Rattle.ae_semantics.specs.Meaning.{one, many, below}
 use Rattle.ae_semantics.specs.Means.{Asking}
 use Rattle.ae_semantics.specs.Atom.{part}
 use Rattle.ae_semantics.specs.Report.{Cell, same_instance}
-use Rattle.ae_semantics.specs.Unfolding.{Frame, IsLeft, IsEntered, Begun, NoMore, Then, Waiting, Task, Finished, InCall}
+use Rattle.ae_semantics.specs.Unfolding.{BlockFrame, IsLeft, IsFrameEntered, Begun, NoMore, Then, Waiting, Task, Finished, InCall}
 use Rattle.ae_semantics.specs.Unfolding.{InSplit, Moment, Passage, Happened, Gained, Within, Only, trail, StandsFor}
-use Rattle.ae_semantics.specs.Unfolding.{part_of, trail_of, results, unfolded, frames, events, cells}
+use Rattle.ae_semantics.specs.Unfolding.{part_of_frame, trail_of, results, unfolded, frames, events, cells}
 use Rattle.ae_worked.proofs.ProgramWords.{at}
 use Rattle.ae_worked.proofs.ReportWords.{asking_same, carried_same}
 use Rattle.ae_worked.proofs.UnfoldingExamples.{every, no_values, nothing_gained}
@@ -58,14 +58,14 @@ count_cell = record { name = record { path = 3 ∷ []; group = 6 }; first = ente
 abbrev first_done : Gained
 first_done = record { events = first_event ∷ []; cells = [] }
 
-abbrev split_frame : Frame
+abbrev split_frame : BlockFrame
 split_frame = Begun (found_at 4)
     (Then (Finished (left_at 4) first_done)
     (Then (InCall (Begun (found_at 7) (Then Waiting NoMore)))
     (Then (Task nothing_gained)
     (Then Waiting NoMore))))
 
-abbrev tree : Frame
+abbrev tree : BlockFrame
 tree = Begun (found_at 0)
     (Then (Finished (left_at 0) nothing_gained)
     (Then (Finished (left_at 1) nothing_gained)
@@ -79,17 +79,17 @@ unfolding part trail one many below
 call_left = (_, (4, omega arith, refl), refl, record { locals = λ x h. refl; groups = λ g h. refl; result = refl;
     log = λ h. refl })
 
-main_entered : IsEntered four_in_a_group (trail_of four_in_a_group [] 100 tree) [] tree
+main_entered : IsFrameEntered four_in_a_group (trail_of four_in_a_group [] 100 tree) [] tree
 unfolding part trail one many below
 main_entered = (_, (0, omega arith, refl), refl, refl, record { locals = λ x h. refl; groups = λ g h. refl;
     result = refl; log = λ h. refl })
 
-split_entered : IsEntered four_in_a_group (trail_of four_in_a_group [] 100 tree) (3 ∷ []) split_frame
+split_entered : IsFrameEntered four_in_a_group (trail_of four_in_a_group [] 100 tree) (3 ∷ []) split_frame
 unfolding part trail one many below
 split_entered = (_, (4, omega arith, refl), refl, refl, record { locals = λ x h. refl; groups = λ g h. refl;
     result = refl; log = λ h. refl })
 
-body_entered : IsEntered four_in_a_group (trail_of four_in_a_group [] 100 tree) (3 ∷ 1 ∷ [])
+body_entered : IsFrameEntered four_in_a_group (trail_of four_in_a_group [] 100 tree) (3 ∷ 1 ∷ [])
     (Begun (found_at 7) (Then Waiting NoMore))
 unfolding part trail one many below
 body_entered = (_, (7, omega arith, refl), refl, refl, record { locals = λ x h. refl; groups = λ g h. refl;
@@ -100,7 +100,7 @@ first_thing [] x e = absurd (cc e)
 first_thing (y ∷ ys) x e = (0, omega arith, cc e)
 
 -- by the tree's own observations the first block asks the same
-asked-same : slice_get (part_of four_in_a_group [] 100 tree).asked 0 ≡ Some asked_first
+asked-same : slice_get (part_of_frame four_in_a_group [] 100 tree).asked 0 ≡ Some asked_first
 unfolding part one many below
 asked-same = ap Some (asking_same _ _ refl refl refl refl refl refl (carried_same _ _ (λ x. refl) (λ g. refl) refl))
 
@@ -134,9 +134,9 @@ tree-stands = record {
   each_left_out = every _ [] tt;
   each_event = every _ (events tree)
       (record { answer = refl; asked = first_thing
-      (part_of four_in_a_group [] 100 tree).asked asked_first asked-same }, tt);
+      (part_of_frame four_in_a_group [] 100 tree).asked asked_first asked-same }, tt);
   each_cell = every _ (cells tree) (record { last = refl; entered = (0, omega arith, refl) }, tt);
-  all_others = every _ (part_of four_in_a_group [] 100 tree).ran (
+  all_others = every _ (part_of_frame four_in_a_group [] 100 tree).ran (
     inl (Within (0 ∷ []), (0, omega arith, refl), refl),
     (
       inl (Within (1 ∷ []), (1, omega arith, refl), refl),

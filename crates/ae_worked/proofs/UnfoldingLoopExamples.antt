@@ -5,8 +5,8 @@ use Rattle.ae_semantics.specs.Values.{OfInt}
 use Rattle.ae_semantics.specs.Places.{Bound}
 use Rattle.ae_semantics.specs.Meaning.{one, many, below}
 use Rattle.ae_semantics.specs.Atom.{part}
-use Rattle.ae_semantics.specs.Unfolding.{Frame, Begun, NoMore, Then, Waiting, Loop, Finished, Moment, Trail, Within}
-use Rattle.ae_semantics.specs.Unfolding.{FromTurn, Only, before_turn, trail, StandsFor, IsEntered, part_of, trail_of}
+use Rattle.ae_semantics.specs.Unfolding.{BlockFrame, Begun, NoMore, Then, Waiting, Loop, Finished, Moment, Trail, Within}
+use Rattle.ae_semantics.specs.Unfolding.{FromTurn, Only, before_turn, trail, StandsFor, IsFrameEntered, part_of_frame, trail_of}
 use Rattle.ae_semantics.specs.Unfolding.{results, turns, betweens, unfolded, frames}
 use Rattle.ae_worked.proofs.ProgramWords.{at}
 use Rattle.ae_worked.proofs.UnfoldingExamples.{every, nothing_gained}
@@ -24,13 +24,13 @@ after_a_turn-is : option_map (λ (b : Bound). b.value) (after_a_turn.state.local
 unfolding trail one many below
 after_a_turn-is = refl
 
-abbrev between_turns : Frame
+abbrev between_turns : BlockFrame
 between_turns = Begun (moment_at noted.found 0)
     (Then (Finished (moment_at noted.left 0) nothing_gained)
     (Then (Loop 1 after_a_turn nothing_gained)
     (Then Waiting NoMore)))
 
-loop_entered : IsEntered loop_of_three_turns (trail_of loop_of_three_turns [] 3 between_turns) [] between_turns
+loop_entered : IsFrameEntered loop_of_three_turns (trail_of loop_of_three_turns [] 3 between_turns) [] between_turns
 unfolding part trail one many below
 loop_entered = (_, (0, omega arith, refl), refl, refl, record { locals = λ x h. refl; groups = λ g h. refl;
     result = refl; log = λ h. refl })
@@ -52,7 +52,7 @@ between_turns-stands = record {
   each_left_out = every _ [] tt;
   each_event = every _ [] tt;
   each_cell = every _ [] tt;
-  all_others = every _ (part_of loop_of_three_turns [] 3 between_turns).ran (
+  all_others = every _ (part_of_frame loop_of_three_turns [] 3 between_turns).ran (
     inl (Within (0 ∷ []), (0, omega arith, refl), refl),
     (
       inr (inl (Only (1 ∷ []), (2, omega arith, refl), refl)),

@@ -7,7 +7,7 @@ use Rattle.std.proofs.lemmas.List.{ext_get_or, get_or_append_left, get_or_push, 
 use Rattle.std.proofs.lemmas.Bool.Decides.{nat_tests}
 use Rattle.std.proofs.lemmas.Bool.{cases_order}
 use Rattle.ae_tree.specs.Plain.{Action, Declares, Assigns, Stores, StoresAt, Calls, Chooses, ChoosesElse, Repeats, Groups, Splits, Locks, Freezes, Shares, Prints, PrintsText, Asserts, Returns, Lines, End, Next, Definition, Code}
-use Rattle.ae_tree.specs.Limits.{count}
+use Rattle.ae_tree.specs.Limits.{statement_count}
 use Rattle.ae_rules.specs.Edges.{BlockUses, IsRising, Preds}
 use Rattle.ae_rules.specs.BuiltUses.{use_at}
 use Rattle.ae_tree.specs.Built.{IsBuiltAction, AreBuilt, Built}
@@ -20,10 +20,10 @@ use Rattle.ae_rules.specs.Statements.{judge_statement}
 use Rattle.ae_rules.specs.Judges.{start}
 use Rattle.ae_rules.specs.EdgeLists.{preds, graph, those_below}
 use Rattle.ae_rules.specs.EdgeLaws.{NamesBelow, PredsAreEdges}
-use Rattle.ae_rules.specs.Blocks.{Scene, Opened, body as body_scene, scene, scene_numbered, scenes_in, scenes_among, scene_uses, scene_graph}
+use Rattle.ae_rules.specs.Blocks.{Scene, Opened, body_scene as body_scene, scene, scene_numbered, scenes_in, scenes_among, scene_uses, scene_graph}
 use Rattle.ae_rules.specs.Cases.{DeclaresOne, TodaysUsesAreACase}
 use Rattle.ae_graph.specs.Graph.{Graph, IsGraph, preds_in}
-use Rattle.ae_graph.specs.GraphText.{spelling, block_text, method_text, AreMethodTexts, IsGraphText}
+use Rattle.ae_graph.specs.GraphText.{written_name, block_text, method_text, AreMethodTexts, IsGraphText}
 use Rattle.ae_graph.proofs.Elements.{here, there, nowhere, uncons}
 use Rattle.ae_graph.specs.Graphs.{text_of_block, text_of_method, graph_text}
 
@@ -143,7 +143,7 @@ graph_of_body : (p : Code) → TodaysUsesAreACase → PredsAreEdges → Accepted
     → NamesBelow (length p.names) (use_at m.body) → (g : Graph) → IsGraph (Some m.body) g → g ≡ scene_graph p (body_scene p m)
 graph_of_body p uses exact a d m e below g h =
     let same : use_at m.body ≡ scene_uses p (body_scene p m) = fun_ext (λ i. fun_ext (λ r. sym (uses p a d m e (body_scene p m) (own_scene p m) i r))) in
-    graph_is exact (length p.names) (use_at m.body) below g (count m.body) h.0 h.1 ∙ ap (λ u. graph (length p.names) u (count m.body)) same
+    graph_is exact (length p.names) (use_at m.body) below g (statement_count m.body) h.0 h.1 ∙ ap (λ u. graph (length p.names) u (statement_count m.body)) same
 
 text_of_body : (p : Code) (m : Definition) → AreBuilt m.body → (g : Graph) → g ≡ scene_graph p (body_scene p m)
     → flat_map (text_of_block p) ((m.no, body_scene p m) ∷ scenes_among p m false m.body (start p m)) ≡ block_text m.no g
@@ -154,8 +154,8 @@ text_of_body p m b g e =
 
 text_of_one : (p : Code) (m : Definition) → m.class ≡ None → AreBuilt m.body → (g : Graph) → g ≡ scene_graph p (body_scene p m) → text_of_method p m ≡ method_text p.names m g
 text_of_one p m none b g e =
-    ap (λ (c : Option ℕ). codes "method " ++ given c [] (λ n. given (class_at p n) [] (λ (k : Class). spelling p.names k.name.name ++ codes ".")) ++ spelling p.names m.name.name ++ codes "\n" ++ flat_map (text_of_block p) ((m.no, body_scene p m) ∷ scenes_among p m false m.body (start p m))) none
-    ∙ ap (λ (t : List ℕ). codes "method " ++ spelling p.names m.name.name ++ codes "\n" ++ t) (text_of_body p m b g e)
+    ap (λ (c : Option ℕ). codes "method " ++ given c [] (λ n. given (class_at p n) [] (λ (k : Class). written_name p.names k.name.name ++ codes ".")) ++ written_name p.names m.name.name ++ codes "\n" ++ flat_map (text_of_block p) ((m.no, body_scene p m) ∷ scenes_among p m false m.body (start p m))) none
+    ∙ ap (λ (t : List ℕ). codes "method " ++ written_name p.names m.name.name ++ codes "\n" ++ t) (text_of_body p m b g e)
 
 -- what the graph text of today says is the text of the graphs of the program
 pub text_is : TodaysUsesAreACase → PredsAreEdges → (p : Code) → Accepted p → DeclaresOne p → (b : Built p) → NamesBelow (length p.names) (use_at b.method.body)

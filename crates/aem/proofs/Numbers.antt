@@ -13,9 +13,9 @@ use Rattle.ae_tree.specs.Grammar.{Derives}
 use Rattle.ae_tree.specs.Built.{Built}
 use Rattle.ae_tree.specs.Plain.{Expression, Number, Truth, Nothing, Read, Item, Length, Grouped, Negated, Minus, Binary, RightSide, Value, Taken, Zeros, Made, Returned, Lines, End, Next, Definition, Code}
 use Rattle.ae_tree.specs.Plain.{Action, Declares, Assigns, Prints}
-use Rattle.ae_rules.specs.BuiltUses.{reads, reads_right, read_if, use_of, use_at}
+use Rattle.ae_rules.specs.BuiltUses.{reads_local, reads_right, read_if, use_of, use_at}
 use Rattle.ae_tree.specs.WellShaped.{ExpressionNamed, RightNamed, ActionNamed, EachStatement, WellShaped, DerivedAreWellShaped}
-use Rattle.ae_rules.specs.EdgeLaws.{name_of, NamesBelow}
+use Rattle.ae_rules.specs.EdgeLaws.{name_of_resource, NamesBelow}
 
 from_eq : (x y : ℕ) → nat_eq x y ≡ true → x ≡ y
 from_eq x y e = grind (arith, nat_tests)
@@ -28,12 +28,12 @@ same_below : (n x y : ℕ) → x < n → nat_eq x y ≡ true → y < n
 same_below n x y l e = subst (λ (z : ℕ). z < n) (from_eq x y e) l
 
 -- what an expression reads
-read_below : (n : ℕ) (e : Expression) → ExpressionNamed n e → (y : ℕ) → reads e y ≡ true → y < n
+read_below : (n : ℕ) (e : Expression) → ExpressionNamed n e → (y : ℕ) → reads_local e y ≡ true → y < n
 read_below n (Number i at) h y r = absurd (cc)
 read_below n (Truth b at) h y r = absurd (cc)
 read_below n (Nothing at) h y r = absurd (cc)
 read_below n (Read p) h y r = same_below n p.root.name y h.0 r
-read_below n (Item p e) h y r = elim (or_cases (nat_eq p.root.name y) (reads e y) r) [
+read_below n (Item p e) h y r = elim (or_cases (nat_eq p.root.name y) (reads_local e y) r) [
   | inl q ↦ same_below n p.root.name y h.0.0 q
   | inr q ↦ read_below n e h.1 y q
 ]
@@ -41,7 +41,7 @@ read_below n (Length p at) h y r = same_below n p.root.name y h.0 r
 read_below n (Grouped e at) h y r = read_below n e h y r
 read_below n (Negated e at) h y r = read_below n e h y r
 read_below n (Minus e at) h y r = read_below n e h y r
-read_below n (Binary o a b) h y r = elim (or_cases (reads a y) (reads b y) r) [
+read_below n (Binary o a b) h y r = elim (or_cases (reads_local a y) (reads_local b y) r) [
   | inl q ↦ read_below n a h.0 y q
   | inr q ↦ read_below n b h.1 y q
 ]
@@ -66,10 +66,10 @@ group_below n g true m q l e = same_below n io g l q
 group_below n g false m q l e = absurd (cc)
 
 -- what a statement uses
-statement_below : (n : ℕ) → 0 < n → (a : Action) → ActionNamed n a → (r : Resource) (m : Mode) → use_of a r ≡ Some m → name_of r < n
+statement_below : (n : ℕ) → 0 < n → (a : Action) → ActionNamed n a → (r : Resource) (m : Mode) → use_of a r ≡ Some m → name_of_resource r < n
 statement_below n l (Declares t x e) h (resource.Local y) m u = written_below n x.name y (reads_right e y) (nat_eq x.name y) m refl h.1 (right_below n e h.2 y) u
 statement_below n l (Assigns x e) h (resource.Local y) m u = written_below n x.name y (reads_right e y) (nat_eq x.name y) m refl h.0 (right_below n e h.1 y) u
-statement_below n l (Prints e) h (resource.Local y) m u = read_below n e h y (is_read (reads e y) m u)
+statement_below n l (Prints e) h (resource.Local y) m u = read_below n e h y (is_read (reads_local e y) m u)
 statement_below n l (Prints e) h (resource.Group g) m u = group_below n g (nat_eq io g) m refl l u
 statement_below n l _ h (resource.Local y) m u = absurd (cc)
 statement_below n l _ h (resource.Group g) m u = absurd (cc)

@@ -7,7 +7,7 @@ use Rattle.ae_text.specs.declared.refusal.Rule.{Rule}
 use Rattle.ae_text.specs.declared.refusal.Rule.TheVariants.{NotText, BadChar, IntTooLarge, OpenText, TooLong, Unexpected, BlockTooLong, TooDeep, TooManyParams, NotBuilt, UnknownName, DuplicateLocal}
 use Rattle.ae_text.specs.declared.refusal.Refusal.{Refusal}
 use Rattle.ae_text.specs.declared.token.Token.{Token}
-use Rattle.ae_text.specs.Tokens.{Lexes, LexFault, place}
+use Rattle.ae_text.specs.Tokens.{Lexes, LexFault, place, first_spot}
 use Rattle.ae_text.specs.Whole.{most}
 use Rattle.ae_tree.specs.Plain.{Code}
 use Rattle.ae_tree.specs.Grammar.{Derives}
@@ -31,7 +31,7 @@ use Rattle.aem.specs.declared.answer.UsageKind.{UsageKind}
 use Rattle.aem.specs.Words.{command_of}
 use Rattle.aem.specs.Small.{IsSource}
 use Rattle.ae_graph.specs.Graphs.{graph_text}
-use Rattle.aem.specs.Top.{first_spot, IsWholeText, IsFaultAt, IsTokenAt, IsBroken, IsFirstBroken, IsMeant, IsAnswer, IsDone, ByCommand, Caused, Answers, IsTold, IsOneAnswer, IsOnlyAnswer}
+use Rattle.aem.specs.Top.{IsWholeText, IsFaultAt, IsTokenAt, IsBroken, IsFirstBroken, IsMeant, IsAnswer, IsDone, ByCommand, Caused, Answers, IsTold, IsOneAnswer, IsOnlyAnswer}
 
 -- what the layers below say of one text
 pub record Laws : Type 0 where

@@ -9,8 +9,8 @@ use Rattle.ae_tree.specs.Plain.{Definition}
 use Rattle.ae_tree.specs.Shown.{definition, lines_from, lines-out}
 use Rattle.ae_text.specs.declared.token.Token.{Token}
 use Rattle.ae_text.specs.Tokens.{Lexes, LexFault, place}
-use Rattle.ae_text.specs.Tokens.{IsDenied}
-use Rattle.ae_tree.specs.Refused.{IsRefused, IsDenied as ParserDenies}
+use Rattle.ae_text.specs.Tokens.{IsTextDenied}
+use Rattle.ae_tree.specs.Refused.{IsRefused, IsTokenDenied as ParserDenies}
 use Rattle.std.proofs.Common.{Option}
 use Rattle.ae_text.specs.declared.refusal.Spot.{Spot}
 use Rattle.ae_text.specs.declared.refusal.Rule.{Rule}
@@ -31,7 +31,7 @@ fault_broken IntTooLarge at text offset f e = (offset, f, e)
 fault_broken OpenText at text offset f e = (offset, f, e)
 fault_broken r at text offset f e = absurd f.fault
 
-pub denied : (text : List ℕ) (e : Deny) → IsDenied text e → IsUnread text e
+pub denied : (text : List ℕ) (e : Deny) → IsTextDenied text e → IsUnread text e
 denied text (d.Refused r) f = fault_broken r.rule r.at text f.0 f.1 f.2
 denied text d.Memory f = tt
 

@@ -7,13 +7,13 @@ use Rattle.ae_text.specs.declared.refusal.Rule.TheVariants.{UnknownName, Duplica
 use Rattle.ae_tree.specs.Plain.{Code, Lines}
 use Rattle.ae_tree.specs.Built.{Built}
 use Rattle.ae_tree.specs.Judgement.{Accepted, Verdict, Holds, Broken, nobody, then_judge, judge, judge_methods, IsHeld}
-use Rattle.ae_rules.specs.Cases.{BuiltDeclaresOne, DeclaresOne, TodayIsACase}
+use Rattle.ae_rules.specs.Cases.{BuiltDeclaresOne, DeclaresOne, TodaysJudgementIsACase}
 use Rattle.ae_rules.specs.Judges.{Accepts}
 use Rattle.ae_meaning.specs.declared.report.RunReport.{RunReport}
 use Rattle.ae_meaning.specs.Meaning as today
 use Rattle.ae_rules.specs.Verdict.{given}
 use Rattle.ae_semantics.specs.Means as whole
-use Rattle.ae_semantics.specs.Means.{bytes_of}
+use Rattle.ae_semantics.specs.Means.{pieces_bytes}
 use Rattle.ae_cases.specs.Laws.{as_whole, IsAsToday}
 use Rattle.ae_cases.specs.Laws as cases
 use Rattle.aem.specs.declared.answer.Command.{Command}
@@ -37,7 +37,7 @@ held_still (Holds scope) h = tt
 held_still (Broken rule at) h = h
 
 -- where today's judgement finds nothing, the whole rules accept
-pub accepts : BuiltDeclaresOne → TodayIsACase → (text : List ℕ) (p : Code) → IsSource text p → Built p → (b : Lines) → HasBody p b → FoundIn (judge b nobody) None → Accepts p
+pub accepts : BuiltDeclaresOne → TodaysJudgementIsACase → (text : List ℕ) (p : Code) → IsSource text p → Built p → (b : Lines) → HasBody p b → FoundIn (judge b nobody) None → Accepts p
 accepts one alike text p s built b h held = (alike p built (declares one text p s built)).0 (built, subst IsHeld (sym (one_judged p b h)) (held_still (judge b nobody) held))
 
 -- a rule that today's judgement gives is one of the two
@@ -47,7 +47,7 @@ name_broken DuplicateLocal at text n h = h
 name_broken rule at text n h = absurd n
 
 -- what today's judgement finds broken, the whole rules find broken first
-pub broken : BuiltDeclaresOne → TodayIsACase → (text : List ℕ) (p : Code) → IsSource text p → Built p → (b : Lines) → HasBody p b → (r : Refusal)
+pub broken : BuiltDeclaresOne → TodaysJudgementIsACase → (text : List ℕ) (p : Code) → IsSource text p → Built p → (b : Lines) → HasBody p b → (r : Refusal)
     → FoundIn (judge b nobody) (Some r) → IsBroken r.rule r.at text
 broken one alike text p s built b h r e =
     name_broken r.rule r.at text e.1 (
@@ -58,7 +58,7 @@ broken one alike text p s built b h r e =
     )
 
 -- what is accepted by the whole rules is accepted by today's
-pub accepted : TodayIsACase → (p : Code) → Built p → DeclaresOne p → Accepts p → Accepted p
+pub accepted : TodaysJudgementIsACase → (p : Code) → Built p → DeclaresOne p → Accepts p → Accepted p
 accepted alike p built d a = (alike p built d).1 a
 
 -- what is reported of today's meaning is so of the whole one
@@ -66,13 +66,13 @@ as_meant : (report : RunReport) (m : today.Meaning) (w : whole.Meant) → IsAsTo
     → (Some (as_whole report.ending) ≡ w.ending) × (report.out ≡ whole.bytes w [])
 as_meant report m w same e o = (
   ap (option_map as_whole) e ∙ sym same.ending,
-  o ∙ sym same.out ∙ sym (append-nil (bytes_of w.log)) ∙ ap (λ c. bytes_of w.log ++ given c [] (λ _. [])) (sym same.unsplit),
+  o ∙ sym same.out ∙ sym (append-nil (pieces_bytes w.log)) ∙ ap (λ c. pieces_bytes w.log ++ given c [] (λ _. [])) (sym same.unsplit),
 )
 
 -- an accepted program of the forms that run today is reported by the whole meaning
-pub meant : TodayIsACase → cases.TodayIsACase → (p : Code) → Built p → DeclaresOne p → Accepts p → (report : RunReport)
-    → Some report.ending ≡ (today.seq p [] 100000).ending → report.out ≡ (today.seq p [] 100000).out → IsMeant report p
-meant alike same p built d a report e o = as_meant report (today.seq p [] 100000) (whole.seq p [] 100000) (same p (accepted alike p built d a) d [] 100000) e o
+pub meant : TodaysJudgementIsACase → cases.TodayIsACase → (p : Code) → Built p → DeclaresOne p → Accepts p → (report : RunReport)
+    → Some report.ending ≡ (today.today_seq p [] 100000).ending → report.out ≡ (today.today_seq p [] 100000).out → IsMeant report p
+meant alike same p built d a report e o = as_meant report (today.today_seq p [] 100000) (whole.seq p [] 100000) (same p (accepted alike p built d a) d [] 100000) e o
 
 -- what an accepted program of this text comes to is the text's answer
 pub answered : (command : Command) (text : List ℕ) (p : Code) → IsSource text p → Built p → Accepts p → (what : What) → IsDoneFor command p what → IsAnswer command text what

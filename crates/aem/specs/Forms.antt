@@ -9,8 +9,8 @@ use Rattle.ae_tree.specs.Names.{io, main, this}
 use Rattle.ae_tree.specs.Built.{IsMain, AreBuilt}
 
 -- a name without steps that is not `this`
-abbrev pub IsPlain : Path → Type 0
-IsPlain p = (p.steps ≡ []) × (p.root.name ≢ this)
+abbrev pub IsPlainName : Path → Type 0
+IsPlainName p = (p.steps ≡ []) × (p.root.name ≢ this)
 
 -- `exclusive io`
 abbrev pub IsExclusiveIo : GroupNeed → Type 0

@@ -3,16 +3,12 @@ use Rattle.std.specs.Prelude.{ℕ, zero, suc, Bool, List, [], ◌∷◌, ◌++�
 use Rattle.std.specs.Fmt.{decimal}
 use Rattle.ae_text.specs.declared.refusal.Spot.{Spot}
 use Rattle.ae_meaning.specs.declared.report.Ending.{Ending}
-use Rattle.aem.specs.Texts.{feed_after, last_of, ending_text}
+use Rattle.aem.specs.Texts.{feed_after, last_byte, ending_text}
+use Rattle.ae_graph.specs.GraphText.{spaced}
 
 -- what is written for an accepted program that is checked alone
 abbrev pub checked_text : List ℕ
 checked_text = codes "accepted\n"
-
--- each number after a space
-abbrev pub spaced : List ℕ → List ℕ
-spaced [] = []
-spaced (n ∷ ns) = codes " " ++ decimal n ++ spaced ns
 
 -- the ranks of the events, where there is one
 abbrev pub order_text : List ℕ → List ℕ
@@ -49,7 +45,7 @@ pub record WholeRun : Type 0 where
 
 -- the bytes printed, with a line feed at their end, and the ending
 abbrev pub plain_text : WholeRun → List ℕ
-plain_text r = r.out ++ feed_after (last_of r.out) ++ ending_text r.ending
+plain_text r = r.out ++ feed_after (last_byte r.out) ++ ending_text r.ending
 
 -- the same with the order, what is past, and where it is asked for the trace
 abbrev pub run_text : WholeRun → (traced : Bool) → List ℕ

@@ -17,9 +17,9 @@ IsOfNames DuplicateLocal = Unit {0}
 IsOfNames _ = ⊥
 
 -- this rule is broken there, or none and this scope comes after
-abbrev pub Found : Verdict → Scope → Option Refusal → Type 0
-Found verdict after None = verdict ≡ Holds after
-Found verdict after (Some r) = (verdict ≡ Broken r.rule r.at) × IsOfNames r.rule
+abbrev pub FoundBroken : Verdict → Scope → Option Refusal → Type 0
+FoundBroken verdict after None = verdict ≡ Holds after
+FoundBroken verdict after (Some r) = (verdict ≡ Broken r.rule r.at) × IsOfNames r.rule
 
 -- the first rule that is broken, or none
 abbrev pub FoundIn : Verdict → Option Refusal → Type 0

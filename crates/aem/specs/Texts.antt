@@ -26,12 +26,12 @@ abbrev pub feed_after : Option ℕ → List ℕ
 feed_after None = []
 feed_after (Some last) = if nat_eq last 10 then [] else 10 ∷ []
 
-abbrev pub last_of : List ℕ → Option ℕ
-last_of bytes = slice_get bytes (length bytes - 1)
+abbrev pub last_byte : List ℕ → Option ℕ
+last_byte bytes = slice_get bytes (length bytes - 1)
 
 -- the bytes printed, with a line feed at their end, and the ending
 abbrev pub report_text : RunReport → List ℕ
-report_text r = r.out ++ feed_after (last_of r.out) ++ ending_text r.ending
+report_text r = r.out ++ feed_after (last_byte r.out) ++ ending_text r.ending
 
 -- what is written for an answer
 abbrev pub output : What → List ℕ

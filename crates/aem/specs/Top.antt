@@ -17,16 +17,13 @@ use Rattle.ae_cases.specs.Laws.{as_whole}
 use Rattle.aem.specs.declared.answer.What.{What}
 use Rattle.aem.specs.declared.answer.What.TheVariants as w
 use Rattle.ae_text.specs.declared.token.Token.{Token}
-use Rattle.ae_text.specs.Tokens.{Lexes, LexFault, place}
+use Rattle.ae_text.specs.Tokens.{Lexes, LexFault, place, first_spot}
 use Rattle.aem.specs.Small.{IsSource}
 use Rattle.ae_graph.specs.Graphs.{graph_text}
 use Rattle.aem.specs.declared.answer.Command.{Command}
 use Rattle.aem.specs.declared.answer.Command.TheVariants.{Graph, Run}
 use Rattle.aem.specs.declared.answer.UsageKind.{UsageKind}
 use Rattle.aem.specs.Words.{command_of}
-
-abbrev pub first_spot : Spot
-first_spot = record { line = 1; col = 1 }
 
 -- the text was read to the end of the source
 abbrev pub IsWholeText : List ℕ → Option (List ℕ) → Type 0

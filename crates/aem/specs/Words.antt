@@ -7,13 +7,13 @@ use Rattle.aem.specs.declared.answer.UsageKind.{UsageKind}
 use Rattle.aem.specs.declared.answer.UsageKind.TheVariants.{NoMode, UnknownMode, Words}
 
 -- a mode that takes no further words
-abbrev pub alone : Command → List (List ℕ) → Result Command UsageKind
-alone command [] = Ok command
-alone command (word ∷ words) = Err Words
+abbrev pub mode_alone : Command → List (List ℕ) → Result Command UsageKind
+mode_alone command [] = Ok command
+mode_alone command (word ∷ words) = Err Words
 
 -- what the words ask for, or what is wrong with them
 abbrev pub command_of : List (List ℕ) → Result Command UsageKind
 command_of [] = Err NoMode
 command_of (mode ∷ words) =
-    if bytes_eq mode (codes "run") then alone Run words
-    else (if bytes_eq mode (codes "graph") then alone Graph words else Err UnknownMode)
+    if bytes_eq mode (codes "run") then mode_alone Run words
+    else (if bytes_eq mode (codes "graph") then mode_alone Graph words else Err UnknownMode)

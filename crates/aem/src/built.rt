@@ -5,7 +5,7 @@ ghost use Rattle.ae_tree.specs.Shown.{expression, right_side, action, lines_from
 ghost use Rattle.ae_tree.specs.Grammar.{level};
 ghost use Rattle.ae_tree.specs.Names.{this};
 ghost use Rattle.ae_tree.specs.Built.{IsBuiltExpression, IsBuiltRight, IsBuiltType, IsBuiltAction, AreBuilt, IsMain, Built};
-ghost use Rattle.aem.specs.Forms.{IsExclusiveIo, NeedsIo, IsPlain, IsBare, IsBuiltMethod};
+ghost use Rattle.aem.specs.Forms.{IsExclusiveIo, NeedsIo, IsPlainName, IsBare, IsBuiltMethod};
 
 use ae_tree::{Expr, GroupNeed, Method, Name, Need, Op, Path, Program, Rhs, Stmt, StmtKind, Ty};
 
@@ -25,7 +25,7 @@ fn is_built_operator(op: Op) -> bool
 }
 
 fn is_built_path(path: &Path) -> bool
-    ensures { MatchBool result (IsPlain path.now) (IsPlain path.now → ⊥) }
+    ensures { MatchBool result (IsPlainName path.now) (IsPlainName path.now → ⊥) }
 {
     path.steps.is_empty() && path.root.name != THIS
 }

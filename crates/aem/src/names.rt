@@ -1,9 +1,9 @@
 // The names of a program: which are declared, and which are visible where they are used.
 ghost use Rattle.std.specs.Prelude.{◌≡◌, ◌↔◌, IsTrue, IfOk};
 ghost use Rattle.ae_tree.specs.Shown.{expression, right_side, action, lines_from};
-ghost use Rattle.ae_tree.specs.Judgement.{nobody, visible, free, and_also, judge, judge_action, judge_expression, judge_right};
+ghost use Rattle.ae_tree.specs.Judgement.{nobody, visible, free, visible_also, judge, judge_action, judge_expression, today_judge_right};
 ghost use Rattle.ae_tree.specs.Names.{io};
-ghost use Rattle.aem.specs.Names.{scope, Found, FoundIn};
+ghost use Rattle.aem.specs.Names.{scope, FoundBroken, FoundIn};
 
 use ae_tree::{Expr, NameAt, Rhs, Stmt, StmtKind};
 use ae_text::{Refusal, Rule};
@@ -13,7 +13,7 @@ use std::collections::HashSet;
 const IO: u32 = 0;
 
 fn unless_visible(seen: &HashSet<u32>, name: NameAt) -> Option<Refusal>
-    ensures { Found (visible name.name name.at (scope seen.now)) (scope seen.now) result }
+    ensures { FoundBroken (visible name.name name.at (scope seen.now)) (scope seen.now) result }
 {
     if seen.contains(&name.name) {
         None
@@ -26,7 +26,7 @@ fn unless_visible(seen: &HashSet<u32>, name: NameAt) -> Option<Refusal>
 }
 
 fn unless_free(seen: &HashSet<u32>, name: NameAt) -> Option<Refusal>
-    ensures { Found (free name.name name.at (scope seen.now)) (scope seen.now) result }
+    ensures { FoundBroken (free name.name name.at (scope seen.now)) (scope seen.now) result }
 {
     if name.name == IO || seen.contains(&name.name) {
         Some(Refusal {
@@ -41,7 +41,7 @@ fn unless_free(seen: &HashSet<u32>, name: NameAt) -> Option<Refusal>
 /// The first name in the expression that is not visible, if there is one.
 #[tactic(auto, using(ae_tree::specs::Shown::shows))]
 fn broken_in(seen: &HashSet<u32>, expr: &Expr) -> Option<Refusal>
-    ensures { Found (judge_expression (expression expr.now) (scope seen.now)) (scope seen.now) result }
+    ensures { FoundBroken (judge_expression (expression expr.now) (scope seen.now)) (scope seen.now) result }
 {
     match expr {
         Expr::Int(_, _) => None,
@@ -64,7 +64,7 @@ fn broken_in(seen: &HashSet<u32>, expr: &Expr) -> Option<Refusal>
 }
 
 fn broken_right(seen: &HashSet<u32>, rhs: &Rhs) -> Option<Refusal>
-    ensures { Found (judge_right (right_side rhs.now) (scope seen.now)) (scope seen.now) result }
+    ensures { FoundBroken (today_judge_right (right_side rhs.now) (scope seen.now)) (scope seen.now) result }
 {
     match rhs {
         Rhs::Expr(expr) => broken_in(seen, expr),
@@ -75,7 +75,7 @@ fn broken_right(seen: &HashSet<u32>, rhs: &Rhs) -> Option<Refusal>
 /// Judges a statement where the names of the set are visible, and makes visible the name that it declares.
 #[tactic(auto, using(ae_tree::specs::Shown::shows))]
 fn judge_statement(seen: &mut HashSet<u32>, stmt: &Stmt) -> Result<Option<Refusal>, AllocError>
-    ensures { IfOk result (Found (judge_action (action stmt.now.kind) (scope seen.old)) (scope seen.new)) }
+    ensures { IfOk result (FoundBroken (judge_action (action stmt.now.kind) (scope seen.old)) (scope seen.new)) }
 {
     match &stmt.kind {
         StmtKind::Let(_, name, rhs) => {

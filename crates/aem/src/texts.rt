@@ -2,7 +2,7 @@
 ghost use Rattle.std.specs.Prelude.{◌≡◌, ◌++◌, IfOk, string_bytes, codes};
 ghost use Rattle.std.specs.Fmt.{decimal};
 ghost use Rattle.ae_text.specs.Rules.{rule_text};
-ghost use Rattle.aem.specs.Texts.{refusal_text, ending_text, report_text, feed_after, last_of, output, ending_status, whole_status, usage_text};
+ghost use Rattle.aem.specs.Texts.{refusal_text, ending_text, report_text, feed_after, last_byte, output, ending_status, whole_status, usage_text};
 
 use crate::answer::What;
 use ae_meaning::{Ending, RunReport};
@@ -53,7 +53,7 @@ fn ending_line(alloc: Global, ending: Ending) -> Result<String, AllocError>
 
 // The line feed that is missing at the end of what was printed.
 fn missing_feed(out: &[u8]) -> &'static [u8]
-    ensures { result.now ≡ feed_after (last_of out.now) }
+    ensures { result.now ≡ feed_after (last_byte out.now) }
 {
     match out.last() {
         None => b"".as_slice(),

@@ -1,12 +1,12 @@
 // The command words.
 ghost use Rattle.std.specs.Prelude.{◌≡◌, map, string_bytes};
-ghost use Rattle.aem.specs.Words.{alone, command_of};
+ghost use Rattle.aem.specs.Words.{mode_alone, command_of};
 
 use crate::answer::{Command, UsageKind};
 
 // A mode that takes no further words.
 fn alone(command: Command, words: &[String]) -> Result<Command, UsageKind>
-    ensures { result ≡ alone command (map string_bytes words.now) }
+    ensures { result ≡ mode_alone command (map string_bytes words.now) }
 {
     if words.is_empty() {
         Ok(command)

@@ -1,8 +1,8 @@
 use Rattle.std.proofs.Common.{map, Some, arith}
 use Rattle.ae_tree.specs.Shown as shown
-use Rattle.ae_tree.specs.Grammar.{method, each}
+use Rattle.ae_tree.specs.Grammar.{method, one_by_one}
 use Rattle.ae_reading.proofs.ReadsLemmas.{exits}
-use Rattle.ae_parser.specs.Productions.{AllKeep}
+use Rattle.ae_parser.specs.Productions.{AllMethodsKeep}
 use Rattle.ae_parser.proofs.ClassLemmas.{NoMethod, methods_start, methods_more, methods_failed, methods_end, method_smaller, run_shorter}
 use Rattle.ae_parser.proofs.classes.class_methods.Goals as goal
 
@@ -13,7 +13,7 @@ pub method-requires : goal.method-requires
 method-requires c = omega (arith, c.requires, run_shorter c.methods.invariant)
 
 pub returns-in_err-method : goal.returns-in_err-method
-returns-in_err-method c = exits (map shown.definition) (each (method (Some c.args.class))) AllKeep NoMethod _ _ _ (methods_failed _ _ _ _ _ c.methods-test.ensures c.methods.invariant c.in_err-method.ensures) c.from_residual.ensures.1
+returns-in_err-method c = exits (map shown.definition) (one_by_one (method (Some c.args.class))) AllMethodsKeep NoMethod _ _ _ (methods_failed _ _ _ _ _ c.methods-test.ensures c.methods.invariant c.in_err-method.ensures) c.from_residual.ensures.1
 
 pub methods-smaller : goal.methods-smaller
 methods-smaller c = method_smaller (Some c.args.class) _ _ _ c.in_ok-method.ensures

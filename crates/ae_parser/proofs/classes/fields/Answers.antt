@@ -1,4 +1,4 @@
-use Rattle.ae_tree.specs.Grammar.{field, each}
+use Rattle.ae_tree.specs.Grammar.{field, one_by_one}
 use Rattle.ae_reading.specs.Reads.{itself, Free}
 use Rattle.ae_reading.proofs.ReadsLemmas.{exits}
 use Rattle.ae_reading.proofs.PartLemmas.{loop_start, loop_more, loop_failed}
@@ -10,7 +10,7 @@ pub fields-init : goal.fields-init
 fields-init c = loop_start field NoType _ _ c.new-fields.ensures
 
 pub returns-in_err-field : goal.returns-in_err-field
-returns-in_err-field c = exits itself (each field) Free NoType _ _ _ (loop_failed field NoType _ _ _ _ (type_goes_on _ c.fields-test.ensures) c.fields.invariant c.in_err-field.ensures) c.from_residual.ensures.1
+returns-in_err-field c = exits itself (one_by_one field) Free NoType _ _ _ (loop_failed field NoType _ _ _ _ (type_goes_on _ c.fields-test.ensures) c.fields.invariant c.in_err-field.ensures) c.from_residual.ensures.1
 
 pub fields-smaller : goal.fields-smaller
 fields-smaller c = field_smaller _ _ _ c.in_ok-field.ensures

@@ -1,11 +1,11 @@
 use Rattle.std.proofs.Common.{◌∷◌, ◌++◌, [], ℕ, ap, ◌∙◌}
 use Rattle.ae_tree.specs.declared.tree.Decl.TheVariants as decl
-use Rattle.ae_parser.specs.Productions.{class_at}
+use Rattle.ae_parser.specs.Productions.{class_behind}
 use Rattle.ae_parser.proofs.DeclarationLemmas.{added_class, leaves_one, failed_counts, took_counts}
 use Rattle.ae_parser.proofs.declarations.add_class.Goals as goal
 
 pub returns-in_err-read : goal.returns-in_err-read
-returns-in_err-read c = leaves_one class_at _ _ _ _ _ (failed_counts _ _ _ _ _ _ c.len-number.ensures c.len-first.ensures c.in_err-read.ensures) c.from_residual.ensures.1
+returns-in_err-read c = leaves_one class_behind _ _ _ _ _ (failed_counts _ _ _ _ _ _ c.len-number.ensures c.len-first.ensures c.in_err-read.ensures) c.from_residual.ensures.1
 
 pub returns : goal.returns
 returns c =

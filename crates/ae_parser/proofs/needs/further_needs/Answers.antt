@@ -1,4 +1,4 @@
-use Rattle.ae_tree.specs.Grammar.{further, need, each}
+use Rattle.ae_tree.specs.Grammar.{further, need, one_by_one}
 use Rattle.ae_reading.specs.Reads.{itself, Free, Always}
 use Rattle.ae_reading.proofs.ReadsLemmas.{exits, mark_smaller}
 use Rattle.ae_reading.proofs.Parts.{Comma}
@@ -10,7 +10,7 @@ pub needs-init : goal.needs-init
 needs-init c = loop_start (further need) Opening _ _ c.new-needs.ensures
 
 pub returns-in_err-need : goal.returns-in_err-need
-returns-in_err-need c = exits itself (each (further need)) Free Opening _ _ _ (loop_failed (further need) Opening _ _ _ _ (comma_or_brace _ c.needs-test.ensures) c.needs.invariant c.in_err-need.ensures) c.from_residual.ensures.1
+returns-in_err-need c = exits itself (one_by_one (further need)) Free Opening _ _ _ (loop_failed (further need) Opening _ _ _ _ (comma_or_brace _ c.needs-test.ensures) c.needs.invariant c.in_err-need.ensures) c.from_residual.ensures.1
 
 pub needs-smaller : goal.needs-smaller
 needs-smaller c = mark_smaller Comma need Free Always _ _ _ c.in_ok-need.ensures

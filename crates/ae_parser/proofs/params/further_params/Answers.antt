@@ -1,9 +1,9 @@
 use Rattle.std.proofs.Common.{◌<◌, ◌≤◌, length, arith}
-use Rattle.ae_tree.specs.Grammar.{param, each, further}
+use Rattle.ae_tree.specs.Grammar.{param, one_by_one, further}
 use Rattle.ae_reading.specs.Reads.{itself}
 use Rattle.ae_reading.proofs.ReadsLemmas.{exits, took_mark}
 use Rattle.ae_reading.proofs.Parts.{further_second}
-use Rattle.ae_parser.specs.Productions.{AtMost}
+use Rattle.ae_parser.specs.Productions.{AtMostParams}
 use Rattle.ae_parser.proofs.ParamLemmas.{Closing, params_start, comma_there, params_more, params_failed, params_full, params_end, param_smaller}
 use Rattle.ae_parser.proofs.params.further_params.Goals as goal
 
@@ -11,7 +11,7 @@ pub params-init : goal.params-init
 params-init c = params_start _ _ c.new-params.ensures
 
 pub returns-in_err-behind : goal.returns-in_err-behind
-returns-in_err-behind c = exits itself (each (further param)) (AtMost 15) Closing _ _ _ (comma_there _ _ _ c.params-test.ensures c.in_err-behind.ensures) c.from_residual.ensures.1
+returns-in_err-behind c = exits itself (one_by_one (further param)) (AtMostParams 15) Closing _ _ _ (comma_there _ _ _ c.params-test.ensures c.in_err-behind.ensures) c.from_residual.ensures.1
 
 pub returns-then-len-ge-MOST_FURTHER : goal.returns-then-len-ge-MOST_FURTHER
 returns-then-len-ge-MOST_FURTHER c =
@@ -21,7 +21,7 @@ returns-then-len-ge-MOST_FURTHER c =
 pub returns-in_err-param : goal.returns-in_err-param
 returns-in_err-param c =
     let few : length c.params.params < 15 = omega (arith, c.if-len-ge-MOST_FURTHER.false, c.len.ensures) in
-    exits itself (each (further param)) (AtMost 15) Closing _ _ _ (params_failed _ _ _ _ c.params-test.ensures few c.params.invariant (further_second (took_mark c.in_ok-behind.ensures) c.in_err-param.ensures)) c.from_residual-in_err-param.ensures.1
+    exits itself (one_by_one (further param)) (AtMostParams 15) Closing _ _ _ (params_failed _ _ _ _ c.params-test.ensures few c.params.invariant (further_second (took_mark c.in_ok-behind.ensures) c.in_err-param.ensures)) c.from_residual-in_err-param.ensures.1
 
 pub params-smaller : goal.params-smaller
 params-smaller c = param_smaller _ _ _ _ _ c.in_ok-behind.ensures c.in_ok-param.ensures

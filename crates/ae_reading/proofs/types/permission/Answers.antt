@@ -4,7 +4,7 @@ use Rattle.ae_text.specs.declared.token.Keyword.TheVariants as word
 use Rattle.ae_tree.specs.declared.lexeme.Lexical.TheVariants as tok
 use Rattle.ae_tree.specs.declared.tree.PermAt.TheVariants as perm_at
 use Rattle.ae_reading.proofs.ReadsLemmas.{exits, passes, took_as, failed_as}
-use Rattle.ae_reading.specs.Parts.{shared}
+use Rattle.ae_reading.specs.Parts.{shared_permission}
 use Rattle.ae_reading.proofs.TypeLemmas.{unique_along, immutable_along, lent_along, shared_along}
 use Rattle.ae_reading.proofs.types.permission.Goals as goal
 
@@ -27,4 +27,4 @@ pub returns-in_ok-at-3 : goal.returns-in_ok-at-3
 returns-in_ok-at-3 c = took_as permission (Token (tok.Word word.Lent)) perm_at.Lent (lent_along _ c.if-is_word_next-3.ensures) c.in_ok-at-3.ensures
 
 pub returns-else-is_word_next-3 : goal.returns-else-is_word_next-3
-returns-else-is_word_next-3 c = passes itself shared permission Free Free Always Always _ _ _ (λ x rest s. took_as permission shared (λ q. q) (shared_along _ c.if-is_word_next.ensures c.if-is_word_next-2.ensures c.if-is_word_next-3.ensures) s) (λ e s. failed_as permission shared (λ q. q) (shared_along _ c.if-is_word_next.ensures c.if-is_word_next-2.ensures c.if-is_word_next-3.ensures) s) c.shared.ensures
+returns-else-is_word_next-3 c = passes itself shared_permission permission Free Free Always Always _ _ _ (λ x rest s. took_as permission shared_permission (λ q. q) (shared_along _ c.if-is_word_next.ensures c.if-is_word_next-2.ensures c.if-is_word_next-3.ensures) s) (λ e s. failed_as permission shared_permission (λ q. q) (shared_along _ c.if-is_word_next.ensures c.if-is_word_next-2.ensures c.if-is_word_next-3.ensures) s) c.shared.ensures

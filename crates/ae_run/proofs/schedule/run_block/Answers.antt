@@ -1,14 +1,15 @@
 use Rattle.std.proofs.Common.{◌≡◌, ◌<◌, ◌≤◌, ◌+◌, ℕ, Bool, true, false, List, length, get_or, Option, ap, sym, subst, ◌∙◌, arith}
 use Rattle.std.specs.BinaryHeap.{heap_items}
-use Rattle.ae_tree.specs.Limits.{count}
+use Rattle.ae_tree.specs.Limits.{statement_count}
 use Rattle.ae_tree.specs.Shown.{lines_from}
 use Rattle.ae_meaning.specs.Running.{held}
 use Rattle.ae_run.specs.declared.course.First.{First}
-use Rattle.ae_run.specs.Queue.{times, zero_as_one, waits_of, AreWaits, AreReady}
-use Rattle.ae_run.specs.Course.{IsRight, Settles, went, taken}
+use Rattle.ae_run.specs.Queue.{zero_as_one, waits_of, AreWaits, AreReady}
+use Rattle.ae_run.specs.Course.{IsRight, Settles, went, was_taken}
 use Rattle.ae_run.proofs.Courses.{fresh, count-lines}
 use Rattle.ae_run.proofs.Queues.{taken_now, ready_now, ready_rest, waits_kept, room, waits_after, ready_after, fresh_waits, fresh_ready, fewer_open, over}
 use Rattle.ae_run.proofs.schedule.run_block.Goals as goal
+use Rattle.ae_text.specs.Numbers.{times}
 
 pub settle-requires-clause-within : goal.settle-requires-clause-within
 settle-requires-clause-within g c κs met =
@@ -16,8 +17,8 @@ settle-requires-clause-within g c κs met =
     let t = taken_now c.loop-j.course.fates.items c.loop-j.queue.waits.items (heap_items c.loop-j.queue.ready) (heap_items c.take.new.self.ready) c.in-Some.j c.loop-j.invariant.ready c.in-Some.ensures.ready in
     let l : c.in-Some.j < length c.loop-j.queue.waits.items = t.within in
     let e : length c.loop-j.queue.waits.items ≡ length c.args.graph.now = c.loop-j.invariant.waits.size in
-    let f : length c.args.graph.now ≡ count b = c.requires.graph.0 in
-    let g : count b ≡ length c.args.stmts.now = count-lines c.args.stmts.now in
+    let f : length c.args.graph.now ≡ statement_count b = c.requires.graph.0 in
+    let g : statement_count b ≡ length c.args.stmts.now = count-lines c.args.stmts.now in
     omega arith
 
 pub settle-requires-clause-counted : goal.settle-requires-clause-counted
@@ -26,8 +27,8 @@ settle-requires-clause-counted g c κs met =
     let t = taken_now c.loop-j.course.fates.items c.loop-j.queue.waits.items (heap_items c.loop-j.queue.ready) (heap_items c.take.new.self.ready) c.in-Some.j c.loop-j.invariant.ready c.in-Some.ensures.ready in
     let l : c.in-Some.j < length c.loop-j.queue.waits.items = t.within in
     let e : length c.loop-j.queue.waits.items ≡ length c.args.graph.now = c.loop-j.invariant.waits.size in
-    let f : length c.args.graph.now ≡ count b = c.requires.graph.0 in
-    let g : length c.loop-j.course.fates.items ≡ count b = c.loop-j.invariant.course.size in
+    let f : length c.args.graph.now ≡ statement_count b = c.requires.graph.0 in
+    let g : length c.loop-j.course.fates.items ≡ statement_count b = c.loop-j.invariant.course.size in
     omega arith
 
 pub settle-requires-clause-ready : goal.settle-requires-clause-ready
@@ -64,7 +65,7 @@ loop-j-init g c =
     let b = lines_from c.args.stmts.now in
     let fs = c.in_ok-course.course.fates.items in
     let s = held c.in_ok-course.course.state in
-    let n : length fs ≡ count b = c.in_ok-course.ensures.size ∙ sym c.requires.size ∙ c.requires.graph.0 in
+    let n : length fs ≡ statement_count b = c.in_ok-course.ensures.size ∙ sym c.requires.size ∙ c.requires.graph.0 in
     record {
       course = subst (λ (k : Option First). IsRight b fs k s) (sym c.in_ok-course.ensures.first) (fresh c.statements_change_what_they_write.ensures b fs s n c.in_ok-course.ensures.fates c.in_ok-course.ensures.locals c.in_ok-course.ensures.log);
       waits = fresh_waits c.args.graph.now fs c.in_ok-queue.queue.waits.items (c.in_ok-queue.ensures.size ∙ sym c.requires.size) c.in_ok-course.ensures.fates
@@ -102,7 +103,7 @@ loop-j-preserved g c =
     record {
       course = c.in_ok-through.ensures.course;
       waits = subst (λ (xs : List ℕ). AreWaits c.args.graph.now (went gs) xs) (sym c.in-Some.ensures.waits) (waits_kept c.args.graph.now fs gs ws j l t.untaken s c.loop-j.invariant.waits);
-      ready = subst (λ (xs : List ℕ). AreReady (taken gs) xs rest) (sym c.in-Some.ensures.waits)
+      ready = subst (λ (xs : List ℕ). AreReady (was_taken gs) xs rest) (sym c.in-Some.ensures.waits)
           (ready_rest fs gs ws ready rest j false l t.untaken c.loop-j.invariant.ready c.in-Some.ensures.ready s);
     }
 

@@ -5,10 +5,10 @@ use Rattle.ae_tree.specs.declared.tree.Stmt.{Stmt}
 use Rattle.ae_tree.specs.Plain.{Action, Lines, Repeats, Splits, Locks, Chooses, ChoosesElse}
 use Rattle.ae_tree.specs.Shown as shown
 use Rattle.ae_tree.specs.Shown.{action-While, action-Split, action-Atomic, action-If, action-If_else, lines-roll, no-roll}
-use Rattle.ae_tree.specs.Grammar.{statements, opened, opened_in}
+use Rattle.ae_tree.specs.Grammar.{statements, blocks_opened, opened_in}
 use Rattle.ae_reading.specs.Reads.{Took, Failed, Always}
 use Rattle.ae_reading.proofs.ReadsLemmas.{exits, passes, token_smaller, took_shorter}
-use Rattle.ae_statements.specs.Productions.{stmt, KeepsStmt, NoElse, Closes, braced, otherwise, KeepsBraced, shown_block, shown_stmt, shown_numbered, shown_stmts}
+use Rattle.ae_statements.specs.Productions.{stmt, KeepsStmt, NoElse, Closes, numbered_block, otherwise, KeepsBraced, shown_block, shown_stmt, shown_numbered, shown_stmts}
 use Rattle.ae_statements.proofs.ShapeLemmas.{pre_first, pre_second, took_pre}
 use Rattle.ae_statements.proofs.BlockLemmas.{KeepsLines, braced_took, braced_first, braced_inner, braced_last, has_braced, looped, loops, divided, splits, locked, locks, one_took, one_first, one_second, one_third, behind, other_absent, two_took, two_first, two_second, choice_took, choice_first, choice_second, choice_third, next_number, both_numbers, other_took_at, other_failed_at}
 use Rattle.ae_statements.proofs.LinesLemmas.{Body, lines_listed, body_start, body_more, body_failed, body_end, body_full, body_length, body_room, braced_room, stmt_smaller, simple_number}
@@ -17,17 +17,17 @@ use Rattle.ae_statements.proofs.blocks.+statements.Goals as goal
 -- ---- a block
 
 pub block-returns-in_err-rest-clause-reads : goal.block-returns-in_err-rest-clause-reads
-block-returns-in_err-rest-clause-reads t c = exits shown_block (braced c.args.no) (KeepsBraced c.args.levels) Always _ _ _ (braced_first c.args.no c.args.levels c.requires.some c.in_err-rest.ensures) c.from_residual.ensures.1
+block-returns-in_err-rest-clause-reads t c = exits shown_block (numbered_block c.args.no) (KeepsBraced c.args.levels) Always _ _ _ (braced_first c.args.no c.args.levels c.requires.some c.in_err-rest.ensures) c.from_residual.ensures.1
 
 pub block-returns-in_err-inner-clause-reads : goal.block-returns-in_err-inner-clause-reads
-block-returns-in_err-inner-clause-reads t c = exits shown_block (braced c.args.no) (KeepsBraced c.args.levels) Always _ _ _ (braced_inner c.args.no c.args.levels c.requires.some c.in_ok-rest.ensures c.in_err-inner.ensures.reads) c.from_residual-in_err-inner.ensures.1
+block-returns-in_err-inner-clause-reads t c = exits shown_block (numbered_block c.args.no) (KeepsBraced c.args.levels) Always _ _ _ (braced_inner c.args.no c.args.levels c.requires.some c.in_ok-rest.ensures c.in_err-inner.ensures.reads) c.from_residual-in_err-inner.ensures.1
 
 pub block-returns-in_err-rest-2-clause-reads : goal.block-returns-in_err-rest-2-clause-reads
-block-returns-in_err-rest-2-clause-reads t c = exits shown_block (braced c.args.no) (KeepsBraced c.args.levels) Always _ _ _ (braced_last c.args.no c.args.levels c.requires.some c.in_ok-rest.ensures c.in_ok-inner.ensures.reads c.in_err-rest-2.ensures) c.from_residual-in_err-rest-2.ensures.1
+block-returns-in_err-rest-2-clause-reads t c = exits shown_block (numbered_block c.args.no) (KeepsBraced c.args.levels) Always _ _ _ (braced_last c.args.no c.args.levels c.requires.some c.in_ok-rest.ensures c.in_ok-inner.ensures.reads c.in_err-rest-2.ensures) c.from_residual-in_err-rest-2.ensures.1
 
 pub block-returns-clause-reads : goal.block-returns-clause-reads
 block-returns-clause-reads t c =
-    let P : Lines → Type 0 = λ l. Took (braced c.args.no) (KeepsBraced c.args.levels) Always c.args.ts.now l c.in_ok-rest-2.rest.now in
+    let P : Lines → Type 0 = λ l. Took (numbered_block c.args.no) (KeepsBraced c.args.levels) Always c.args.ts.now l c.in_ok-rest-2.rest.now in
     subst P (sym (lines-roll _)) (braced_took c.args.no c.args.levels c.requires.some c.in_ok-rest.ensures c.in_ok-inner.ensures.reads c.in_ok-rest-2.ensures)
 
 pub block-returns-clause-number : goal.block-returns-clause-number
@@ -39,11 +39,11 @@ block-returns-clause-next t c = c.in_ok-inner.ensures.next ∙ ap (λ l. c.args.
 -- ---- the block behind `else`
 
 pub otherwise-returns-in_err-rest-clause-reads : goal.otherwise-returns-in_err-rest-clause-reads
-otherwise-returns-in_err-rest-clause-reads t c = exits shown_block (otherwise c.args.no) (KeepsBraced c.args.levels) Always _ _ _ (pre_first (braced c.args.no) (has_braced c.args.no c.args.levels c.requires.some) c.in_err-rest.ensures) c.from_residual.ensures.1
+otherwise-returns-in_err-rest-clause-reads t c = exits shown_block (otherwise c.args.no) (KeepsBraced c.args.levels) Always _ _ _ (pre_first (numbered_block c.args.no) (has_braced c.args.no c.args.levels c.requires.some) c.in_err-rest.ensures) c.from_residual.ensures.1
 
 pub otherwise-returns-clause-reads : goal.otherwise-returns-clause-reads
-otherwise-returns-clause-reads t c = passes shown_block (braced c.args.no) (otherwise c.args.no) (KeepsBraced c.args.levels) (KeepsBraced c.args.levels) Always Always _ _ _
-    (λ x rest s. took_pre (braced c.args.no) c.in_ok-rest.ensures s) (λ e s. pre_second (braced c.args.no) c.in_ok-rest.ensures s) c.block.ensures.reads
+otherwise-returns-clause-reads t c = passes shown_block (numbered_block c.args.no) (otherwise c.args.no) (KeepsBraced c.args.levels) (KeepsBraced c.args.levels) Always Always _ _ _
+    (λ x rest s. took_pre (numbered_block c.args.no) c.in_ok-rest.ensures s) (λ e s. pre_second (numbered_block c.args.no) c.in_ok-rest.ensures s) c.block.ensures.reads
 
 -- ---- repetition
 
@@ -63,7 +63,7 @@ repetition-returns-clause-reads t c =
     (one_took (looped c.args.no) (loops c.args.no c.args.levels _ c.requires.some c.requires.word) c.in_ok-at.ensures c.in_ok-e.ensures c.in_ok-inner.ensures.reads)
 
 pub repetition-returns-clause-next : goal.repetition-returns-clause-next
-repetition-returns-clause-next t c = next_number _ _ _ _ (ap opened (action-While _ _)) c.in_ok-inner.ensures.next
+repetition-returns-clause-next t c = next_number _ _ _ _ (ap blocks_opened (action-While _ _)) c.in_ok-inner.ensures.next
 
 -- ---- splitting
 
@@ -83,7 +83,7 @@ splitting-returns-clause-reads t c =
     (one_took (divided c.args.no) (splits c.args.no c.args.levels _ c.requires.some c.requires.word) c.in_ok-at.ensures c.in_ok-groups.ensures c.in_ok-inner.ensures.reads)
 
 pub splitting-returns-clause-next : goal.splitting-returns-clause-next
-splitting-returns-clause-next t c = next_number _ _ _ _ (ap opened (action-Split _ _)) c.in_ok-inner.ensures.next
+splitting-returns-clause-next t c = next_number _ _ _ _ (ap blocks_opened (action-Split _ _)) c.in_ok-inner.ensures.next
 
 -- ---- locking
 
@@ -103,7 +103,7 @@ locking-returns-clause-reads t c =
     (one_took (locked c.args.no) (locks c.args.no c.args.levels _ c.requires.some c.requires.word) c.in_ok-at.ensures c.in_ok-group.ensures c.in_ok-inner.ensures.reads)
 
 pub locking-returns-clause-next : goal.locking-returns-clause-next
-locking-returns-clause-next t c = next_number _ _ _ _ (ap opened (action-Atomic _ _)) c.in_ok-inner.ensures.next
+locking-returns-clause-next t c = next_number _ _ _ _ (ap blocks_opened (action-Atomic _ _)) c.in_ok-inner.ensures.next
 
 -- ---- a choice
 
@@ -124,7 +124,7 @@ choice-returns-then-not-is_word_next-clause-reads t c =
     (choice_took c.args.no c.args.levels c.requires.word c.in_ok-at.ensures c.in_ok-e.ensures (two_took c.args.no c.args.levels c.in_ok-inner.ensures.reads (other_absent (behind c.args.no (shown_block c.in_ok-inner.inner)) c.args.levels c.if-not-is_word_next.ensures)))
 
 pub choice-returns-then-not-is_word_next-clause-next : goal.choice-returns-then-not-is_word_next-clause-next
-choice-returns-then-not-is_word_next-clause-next t c = next_number _ _ _ _ (ap opened (action-If _ _)) c.in_ok-inner.ensures.next
+choice-returns-then-not-is_word_next-clause-next t c = next_number _ _ _ _ (ap blocks_opened (action-If _ _)) c.in_ok-inner.ensures.next
 
 pub choice-otherwise-requires : goal.choice-otherwise-requires
 choice-otherwise-requires t c =
@@ -150,7 +150,7 @@ choice-returns-clause-reads t c =
     (other_took_at (behind c.args.no b) c.args.levels _ c.in_ok-inner.ensures.next c.if-not-is_word_next.ensures c.in_ok-second.ensures.reads)))
 
 pub choice-returns-clause-next : goal.choice-returns-clause-next
-choice-returns-clause-next t c = both_numbers _ _ _ _ _ _ (ap opened (action-If_else _ _ _)) c.in_ok-inner.ensures.next c.in_ok-second.ensures.next
+choice-returns-clause-next t c = both_numbers _ _ _ _ _ _ (ap blocks_opened (action-If_else _ _ _)) c.in_ok-inner.ensures.next c.in_ok-second.ensures.next
 
 -- ---- a statement
 

@@ -1,7 +1,7 @@
 use Rattle.std.proofs.Common.{map}
 use Rattle.ae_tree.specs.Shown as shown
-use Rattle.ae_tree.specs.Grammar.{whole, further, each}
-use Rattle.ae_tree.specs.Limits.{AllKeep, Keeps}
+use Rattle.ae_tree.specs.Grammar.{whole_expression, further, one_by_one}
+use Rattle.ae_tree.specs.Limits.{AllKeepDepth, KeepsDepth}
 use Rattle.ae_reading.proofs.ReadsLemmas.{exits, mark_smaller}
 use Rattle.ae_reading.proofs.Parts.{Comma}
 use Rattle.ae_expressions.specs.Ends.{Ends}
@@ -12,10 +12,10 @@ pub more-init : goal.more-init
 more-init c = arguments_start _ _ c.new-args.ensures
 
 pub returns-in_err-arg : goal.returns-in_err-arg
-returns-in_err-arg c = exits (map shown.expression) (each (further whole)) AllKeep Closed _ _ _ (arguments_failed _ _ _ _ c.more-test.ensures c.more.invariant c.in_err-arg.ensures) c.from_residual.ensures.1
+returns-in_err-arg c = exits (map shown.expression) (one_by_one (further whole_expression)) AllKeepDepth Closed _ _ _ (arguments_failed _ _ _ _ c.more-test.ensures c.more.invariant c.in_err-arg.ensures) c.from_residual.ensures.1
 
 pub more-smaller : goal.more-smaller
-more-smaller c = mark_smaller Comma whole Keeps (Ends 0) _ _ _ c.in_ok-arg.ensures
+more-smaller c = mark_smaller Comma whole_expression KeepsDepth (Ends 0) _ _ _ c.in_ok-arg.ensures
 
 pub more-preserved : goal.more-preserved
 more-preserved c = arguments_more _ _ _ _ _ _ c.more-test.ensures c.in_ok-push.ensures.ok c.more.invariant c.in_ok-arg.ensures

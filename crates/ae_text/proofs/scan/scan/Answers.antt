@@ -2,7 +2,7 @@ use Rattle.std.proofs.Common.{◌-◌, ℕ, List, length, take, sym, ap, ◌∙�
 use Rattle.std.proofs.lemmas.List.{length-take}
 use Rattle.ae_text.specs.declared.token.Token.{Token}
 use Rattle.ae_text.specs.declared.refusal.Deny.{Deny}
-use Rattle.ae_text.specs.Tokens.{Lexes, IsDenied, moved}
+use Rattle.ae_text.specs.Tokens.{Lexes, IsTextDenied, spot_after}
 use Rattle.ae_text.specs.Scan.{denied}
 use Rattle.ae_text.proofs.CutLemmas.{scanned_end, scanned_next, scanned_place, scanned_denied, scanned_refused, cuts_smaller, cuts_utf8}
 use Rattle.ae_text.proofs.scan.scan.Goals as goal
@@ -10,7 +10,7 @@ use Rattle.ae_text.proofs.scan.scan.Goals as goal
 pub pieces-preserved : goal.pieces-preserved
 pieces-preserved c =
     let size : ℕ = length c.pieces.rest.now - length c.in-Ok.after.now in
-    let spot = c.advance-spot.ensures ∙ ap (λ r. moved c.pieces.spot (take size r)) c.as_bytes.ensures.value in
+    let spot = c.advance-spot.ensures ∙ ap (λ r. spot_after c.pieces.spot (take size r)) c.as_bytes.ensures.value in
     (cuts_utf8 _ _ _ c.in-Ok.ensures c.pieces.invariant.0, scanned_next _ _ _ _ _ _ _ _ c.pieces.invariant.1 c.in-Ok.ensures spot c.in_ok-push_token-in-Ok.ensures)
 
 pub pieces-smaller : goal.pieces-smaller
@@ -44,7 +44,7 @@ deny-requires-clause-first c = (scanned_place _ _ _ _ c.pieces.invariant.1).2
 
 pub returns-in-Err-clause-refused : goal.returns-in-Err-clause-refused
 returns-in-Err-clause-refused c =
-    let P : Deny → Type 0 = IsDenied c.args.text.now in
+    let P : Deny → Type 0 = IsTextDenied c.args.text.now in
     let is = c.deny.ensures ∙ ap (λ r. denied c.in-Err.fault r c.pieces.spot) c.as_bytes-in-Err.ensures.value in
     subst P (sym is) (scanned_denied _ _ _ _ _ c.pieces.invariant.1 c.in-Err.ensures)
 

@@ -1,8 +1,9 @@
 use Rattle.std.proofs.Common.{ℕ, nat_eq, if◌then◌else◌, ◌+◌, ap, sym, ◌∙◌}
 use Rattle.std.specs.BinaryHeap.{heap_items}
-use Rattle.ae_run.specs.Queue.{times, zero_as_one}
+use Rattle.ae_run.specs.Queue.{zero_as_one}
 use Rattle.ae_run.proofs.Lists.{times_pushed}
 use Rattle.ae_run.proofs.queue.Queue.admit.Goals as goal
+use Rattle.ae_text.specs.Numbers.{times}
 
 pub returns-in_ok-push-clause-ready : goal.returns-in_ok-push-clause-ready
 returns-in_ok-push-clause-ready c = λ i.

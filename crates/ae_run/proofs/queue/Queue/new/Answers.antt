@@ -1,9 +1,10 @@
 use Rattle.std.proofs.Common.{◌≡◌, ◌+◌, [], ◌∷◌, ◌++◌, nat_eq, if◌then◌else◌, length, get_or, ap, sym, ◌∙◌, length-append}
 use Rattle.std.specs.BinaryHeap.{heap_items}
 use Rattle.ae_graph.specs.Graph.{preds_in}
-use Rattle.ae_run.specs.Queue.{times, zero_as_one, waits_of}
+use Rattle.ae_run.specs.Queue.{zero_as_one, waits_of}
 use Rattle.ae_run.proofs.Lists.{begun_at, began_waits}
 use Rattle.ae_run.proofs.queue.Queue.new.Goals as goal
+use Rattle.ae_text.specs.Numbers.{times}
 
 pub loop-j-preserved : goal.loop-j-preserved
 loop-j-preserved c =

@@ -1,8 +1,9 @@
 use Rattle.std.proofs.Common.{◌≡◌, ◌<◌, ℕ, length, get_or}
 use Rattle.std.specs.BinaryHeap.{heap_items}
 use Rattle.ae_graph.specs.Graph.{preds_in}
-use Rattle.ae_run.specs.Queue.{times, zero_as_one, waits_of}
+use Rattle.ae_run.specs.Queue.{zero_as_one, waits_of}
 use Rattle.ae_run.proofs.queue.Queue.new.Given as goal
+use Rattle.ae_text.specs.Numbers.{times}
 
 abbrev pub invariant-loop-j : goal.invariant-loop-j
 invariant-loop-j l = record {

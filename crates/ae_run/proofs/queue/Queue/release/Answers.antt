@@ -2,9 +2,10 @@ use Rattle.std.proofs.Common.{◌≡◌, ◌<◌, ◌+◌, ℕ, List, length, ge
 use Rattle.std.proofs.lemmas.List.{get_or_default}
 use Rattle.std.proofs.Math.ListN.{length-set}
 use Rattle.std.specs.BinaryHeap.{heap_items}
-use Rattle.ae_run.specs.Queue.{times, zero_as_one, waits_of}
+use Rattle.ae_run.specs.Queue.{zero_as_one, waits_of}
 use Rattle.ae_run.proofs.Lists.{waits_some, released_waits, released_ready}
 use Rattle.ae_run.proofs.queue.Queue.release.Goals as goal
+use Rattle.ae_text.specs.Numbers.{times}
 
 pub lower-left-requires-clause-within : goal.lower-left-requires-clause-within
 lower-left-requires-clause-within c =

@@ -1,7 +1,8 @@
 use Rattle.std.proofs.Common.{◌≡◌, ◌+◌, ℕ, length, take}
 use Rattle.std.specs.BinaryHeap.{heap_items}
-use Rattle.ae_run.specs.Queue.{times, zero_as_one, waits_of}
+use Rattle.ae_run.specs.Queue.{zero_as_one, waits_of}
 use Rattle.ae_run.proofs.queue.Queue.release.Given as goal
+use Rattle.ae_text.specs.Numbers.{times}
 
 abbrev pub invariant-loop-succ : goal.invariant-loop-succ
 invariant-loop-succ l = record {
