@@ -17,6 +17,8 @@ use Rattle.ae_rules.specs.Context.{Local, Context, held_of, is_visible, with_hel
 use Rattle.ae_rules.specs.Expressions.{judge_value, is_value}
 use Rattle.ae_rules.specs.Into.{into}
 use Rattle.ae_rules.specs.Statements.{judge_right, judge_let, judge_assign, prints}
+use Rattle.ae_cases.proofs.from_rules.PathLemmas.{first_holds}
+use Rattle.ae_cases.proofs.from_rules.SeenLemmas.{found_is}
 
 -- ---- contexts
 
@@ -43,20 +45,11 @@ integers-held c x h i = λ y l e. held_choice (nat_eq x y) h (c.local y) l (i y)
 
 -- ---- the judgement
 
--- the first of two verdicts holds, and so does the next
-pub holds_then : {A B : Type 0} (v : Verdict A) (next : A → Verdict B) (y : B) → (v >>= next) ≡ Holds y → (x : A) × (v ≡ Holds x) × (next x ≡ Holds y)
-holds_then (Holds x) next y e = (x, refl, e)
-holds_then (Broken rule at) next y e = absurd (cc e)
-
-found_it : {A : Type 0} (o : Option A) (rule : Rule) (at : Spot) (x : A) → found o rule at ≡ Holds x → o ≡ Some x
-found_it None rule at x e = absurd (cc e)
-found_it (Some y) rule at x e = cc e
-
 -- what is given to an integer moves no name
 right_is : (p : Code) (c d : Context) (e : Expression) → judge_right p c form_of.Int (Value e) ≡ Holds d → d ≡ c
 right_is p c d e h =
-    let n = holds_then (into p c form_of.Int e) (λ name. Holds (with_name_moved name c)) d h in
-    let v = holds_then (is_value p c form_of.Int e) (λ _. Holds None) n.0 n.1 in
+    let n = first_holds (into p c form_of.Int e) (λ name. Holds (with_name_moved name c)) d h in
+    let v = first_holds (is_value p c form_of.Int e) (λ _. Holds None) n.0 n.1 in
     cc (n.2, ap (λ (name : Option ℕ). with_name_moved name c) (held_same None n.0 v.2))
   where
     held_same : {A : Type 0} (x y : A) → Holds x ≡ Holds y → x ≡ y
@@ -64,8 +57,8 @@ right_is p c d e h =
 
 pub let_is : (p : Code) (c d : Context) (at : Spot) (x : NameAt) (e : Expression) → judge_let p c (ty.Int at) x (Value e) ≡ Holds d → d ≡ with_local x.name form_of.Int c
 let_is p c d at x e h =
-    let n = holds_then (require (not (is_visible c x.name)) rule.DuplicateLocal x.at) _ d h in
-    let r = holds_then (judge_right p c form_of.Int (Value e)) (λ k. Holds (with_local x.name form_of.Int k)) d n.2 in
+    let n = first_holds (require (not (is_visible c x.name)) rule.DuplicateLocal x.at) _ d h in
+    let r = first_holds (judge_right p c form_of.Int (Value e)) (λ k. Holds (with_local x.name form_of.Int k)) d n.2 in
     cc (r.2, ap (with_local x.name form_of.Int) (right_is p c r.0 e r.1))
 
 -- an assigned local that is an integer, and the context after
@@ -77,16 +70,16 @@ pub record Assigned (c : Context) (x : ℕ) (d : Context) : Type 0 where
 
 pub assign_is : (p : Code) (c d : Context) → Integers c → (x : NameAt) (e : Expression) → judge_assign p c x (Value e) ≡ Holds d → Assigned c x.name d
 assign_is p c d i x e h =
-    let l = holds_then (found (c.local x.name) rule.UnknownName x.at) _ d h in
-    let f : c.local x.name ≡ Some l.0 = found_it (c.local x.name) rule.UnknownName x.at l.0 l.1 in
-    let q = holds_then (require (not l.0.stays) rule.ParameterMoved x.at) _ d l.2 in
-    let r = holds_then (judge_right p c l.0.form (Value e)) (λ k. Holds (with_held x.name (held_of l.0.form) k)) d q.2 in
+    let l = first_holds (found (c.local x.name) rule.UnknownName x.at) _ d h in
+    let f : c.local x.name ≡ Some l.0 = found_is (c.local x.name) rule.UnknownName x.at l.0 l.1 in
+    let q = first_holds (require (not l.0.stays) rule.ParameterMoved x.at) _ d l.2 in
+    let r = first_holds (judge_right p c l.0.form (Value e)) (λ k. Holds (with_held x.name (held_of l.0.form) k)) d q.2 in
     let int : l.0.form ≡ form_of.Int = i x.name l.0 f in
     let same : r.0 ≡ c = right_is p c r.0 e (subst (λ (t : Form). judge_right p c t (Value e) ≡ Holds r.0) int r.1) in
     record { local = l.0; found = f; form = int; after = cc (r.2, ap (with_held x.name (held_of l.0.form)) same) }
 
 pub print_is : (p : Code) (c d : Context) (at : Spot) (e : Expression) → (judge_value p c e >> prints c at) ≡ Holds d → d ≡ c
 print_is p c d at e h =
-    let v = holds_then (judge_value p c e) (λ _. prints c at) d h in
-    let r = holds_then (group_access c.group io at) (λ _. Holds c) d v.2 in
+    let v = first_holds (judge_value p c e) (λ _. prints c at) d h in
+    let r = first_holds (group_access c.group io at) (λ _. Holds c) d v.2 in
     cc r.2

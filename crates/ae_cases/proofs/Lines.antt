@@ -25,8 +25,9 @@ use Rattle.ae_semantics.specs.Meaning.{assigned, sets, assigns, printed_value, p
 use Rattle.ae_semantics.specs.Equations.{one-Declares, one-Assigns, one-Prints, many-End, many-Next}
 use Rattle.ae_semantics.specs.Means.{source_machine, pieces_bytes}
 use Rattle.ae_cases.specs.Laws.{as_whole}
-use Rattle.ae_cases.proofs.Judged.{Integers, integers-declared, integers-held, holds_then, let_is, Assigned, assign_is, print_is}
+use Rattle.ae_cases.proofs.Judged.{Integers, integers-declared, integers-held, let_is, Assigned, assign_is, print_is}
 use Rattle.ae_cases.proofs.Values.{held, outcome, SameLocals, same_value}
+use Rattle.ae_cases.proofs.from_rules.PathLemmas.{first_holds}
 
 -- ---- runs that are alike
 
@@ -168,7 +169,7 @@ pub lines_alike : (p : Code) (b : Option (Below (List Seen))) (here : Where) (al
     → AlikeRuns (today.today_many x t) (many (source_machine p) b here all j x [] s n)
 lines_alike p b here all j End d i c h t s n l k = rw (many-End (source_machine p) b here all j [] s n) k
 lines_alike p b here all j (Next at x rest) d i c h t s n l k =
-    let first = holds_then (judge_statement p here.method at x here.context) (judge_lines p here.method rest) c h in
+    let first = first_holds (judge_statement p here.method at x here.context) (judge_lines p here.method rest) c h in
     rw (many-Next (source_machine p) b here all j at x rest [] s n)
     (rw (ap (λ v. or_before v here.context) first.1)
     (action_alike p b (deeper j here) at x d.0 i first.0 first.1 t s (marked (Ran (deeper j here).path at) n) l (record { log = k.log; unsplit = k.unsplit })

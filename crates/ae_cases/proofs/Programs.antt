@@ -21,7 +21,8 @@ use Rattle.ae_semantics.specs.Meaning.{block, below, many}
 use Rattle.ae_semantics.specs.Means.{main_here, main_state, run_start, no_notes, meant, source_machine, mean, seq}
 use Rattle.ae_cases.specs.Laws.{IsAsToday, TodayIsACase}
 use Rattle.ae_cases.proofs.Lines.{AlikeRuns, alike_left, lines_alike}
-use Rattle.ae_cases.proofs.Judged.{Integers, holds_then}
+use Rattle.ae_cases.proofs.Judged.{Integers}
+use Rattle.ae_cases.proofs.from_rules.PathLemmas.{first_holds}
 
 -- runs that are alike come to the same
 alike_meant : (r : today.Run) (q : Run (List Seen)) → AlikeRuns r q → IsAsToday (today.meaning_of_run r) (meant q)
@@ -59,9 +60,9 @@ no_locals p m e d x l h = absurd (no_local (nat_eq this x) (option_map (me_local
 -- the body of an accepted program's one method is judged
 body_judged : (p : Code) (m : Definition) → p.methods ≡ m ∷ [] → Accepts p → (c : Context) × (judge_lines p m m.body (rules.start p m) ≡ Holds c)
 body_judged p m e a =
-    let t = holds_then (table_verdict p) (λ _. each (judge_method p) p.methods) tt a in
-    let h = holds_then (judge_method p m) (λ _. fine) tt (subst (λ (ms : List Definition). each (judge_method p) ms ≡ Holds tt) e t.2) in
-    let r = holds_then (judge_lines p m m.body (rules.start p m)) _ h.0 h.1 in
+    let t = first_holds (table_verdict p) (λ _. each (judge_method p) p.methods) tt a in
+    let h = first_holds (judge_method p m) (λ _. fine) tt (subst (λ (ms : List Definition). each (judge_method p) ms ≡ Holds tt) e t.2) in
+    let r = first_holds (judge_lines p m m.body (rules.start p m)) _ h.0 h.1 in
     (r.0, r.1)
 
 body_alike : (p : Code) (m : Definition) (ints : List ℤ) (fuel : ℕ) → takers p m ≡ [] → AreBuilt m.body → Integers (rules.start p m)

@@ -12,10 +12,10 @@ use Rattle.ae_tree.specs.Limits.{marks, rank}
 use Rattle.ae_reading.specs.declared.fail.Why.{Why}
 use Rattle.ae_reading.specs.declared.fail.Why.TheVariants.{Over}
 use Rattle.ae_reading.specs.Reads.{head, Is, Always, Free, Took, Stopped, Larger, TokenMark}
-use Rattle.ae_reading.proofs.ReadsLemmas.{Lang, Bound, Both, Limits, Pair, Has, Links, Along, NoneAt, took_as, stopped_as, took_then, stopped_second, stopped_first_with, took_mark, nowhere, at_once, took_kind, free}
-use Rattle.ae_reading.proofs.Begins.{Begins, opens_mark, opens_so}
-use Rattle.ae_reading.proofs.Parts.{optional, left_out, took_optional, stopped_optional}
-use Rattle.ae_reading.proofs.Runs.{each_turns, Run, each-append, each-one, run_start, run_more, run_stopped, run_full, run_end}
+use Rattle.ae_expressions.proofs.from_reading.ReadsLemmas.{Lang, Bound, Both, Limits, Pair, Has, Links, Along, NoneAt, took_as, stopped_as, took_then, stopped_second, stopped_first_with, took_mark, nowhere, at_once, took_kind, free}
+use Rattle.ae_expressions.proofs.from_reading.Begins.{Begins, opens_mark, opens_so}
+use Rattle.ae_expressions.proofs.from_reading.Parts.{optional, left_out, took_optional, stopped_optional}
+use Rattle.ae_expressions.proofs.from_reading.Runs.{each_turns, Run, each-append, each-one, run_start, run_more, run_stopped, run_full, run_end}
 use Rattle.ae_expressions.specs.Ends.{Ends}
 use Rattle.ae_expressions.specs.Productions.{NoOperator, IsOperator, at_level, AtMostMarks}
 use Rattle.ae_expressions.proofs.OperatorLemmas.{operator_ends, same_operator, same_level, over_two, first_sign, ends_later, ends_at, goes_on}

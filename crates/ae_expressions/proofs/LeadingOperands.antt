@@ -11,9 +11,9 @@ use Rattle.ae_tree.specs.declared.tree.Op.{Op}
 use Rattle.ae_tree.specs.Plain.{Expression, Number, Truth, Nothing, Read, Item, Length, Grouped, Negated, Minus, Binary}
 use Rattle.ae_tree.specs.Grammar.{Tokens, path, level, left_level, sign_of}
 use Rattle.ae_reading.specs.Reads.{head, Is, Isnt}
-use Rattle.ae_reading.proofs.ReadsLemmas.{Follow}
-use Rattle.ae_reading.proofs.UniquePaths.{IsRoot, begins_path, unique_path}
-use Rattle.ae_reading.proofs.Begins.{Begins, of_other}
+use Rattle.ae_expressions.proofs.from_reading.ReadsLemmas.{Follow}
+use Rattle.ae_expressions.proofs.from_reading.UniquePaths.{IsRoot, begins_path, unique_path}
+use Rattle.ae_expressions.proofs.from_reading.Begins.{Begins, of_other}
 use Rattle.ae_expressions.proofs.UniqueExpressions.{left_cases, Form, OfPath, Parts, form, form_of, form_at_root, operand_cases, operand_first, begins_bracketed}
 use Rattle.ae_expressions.specs.Productions.{at_level}
 use Rattle.ae_expressions.proofs.OperatorLemmas.{no_operator}

@@ -1,3 +1,5 @@
+-- The lemmas of the crates below that this one goes by, and its own.
+pub use Rattle.ae_reading.proofs as from_reading
 pub mod OptionLemmas
 pub mod OperatorLemmas
 pub mod StepLemmas

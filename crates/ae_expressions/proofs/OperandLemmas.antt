@@ -18,10 +18,10 @@ use Rattle.ae_tree.specs.Refused.{AreSpellable}
 use Rattle.ae_reading.specs.declared.fail.Fail.{Fail}
 use Rattle.ae_reading.specs.declared.fail.Why.TheVariants.{Unexpected, Over}
 use Rattle.ae_reading.specs.Reads.{head, Always, Is, Isnt, Free, Took, Stopped, Failed, Larger, Token, TokenMark}
-use Rattle.ae_reading.proofs.ReadsLemmas.{took_before, failed_before, over_here, Lang, Bound, Follow, Both, Limits, Pair, Has, Links, Along, has_both, has_mark, took_as, failed_as, failed_by, stopped_as, stopped_here, stopped_second, stopped_first_with, first, second, both, took_then, nowhere, at_once, free, took_mark, failed_mark, io_name}
-use Rattle.ae_reading.proofs.Begins.{Opens, is_isnt, of_kind, of_other, begins_mark, begins_both, opens_one, opens_at, opens_mark, opens_so}
-use Rattle.ae_reading.proofs.Parts.{optional, left_out, took_optional, stopped_optional}
-use Rattle.ae_reading.proofs.UniquePaths.{IsRoot, begins_path}
+use Rattle.ae_expressions.proofs.from_reading.ReadsLemmas.{took_before, failed_before, over_here, Lang, Bound, Follow, Both, Limits, Pair, Has, Links, Along, has_both, has_mark, took_as, failed_as, failed_by, stopped_as, stopped_here, stopped_second, stopped_first_with, first, second, both, took_then, nowhere, at_once, free, took_mark, failed_mark, io_name}
+use Rattle.ae_expressions.proofs.from_reading.Begins.{Opens, is_isnt, of_kind, of_other, begins_mark, begins_both, opens_one, opens_at, opens_mark, opens_so}
+use Rattle.ae_expressions.proofs.from_reading.Parts.{optional, left_out, took_optional, stopped_optional}
+use Rattle.ae_expressions.proofs.from_reading.UniquePaths.{IsRoot, begins_path}
 use Rattle.ae_expressions.specs.Ends.{Ends}
 use Rattle.ae_expressions.specs.declared.starts.Mark.{Mark as Marked}
 use Rattle.ae_expressions.specs.declared.starts.Mark.TheVariants as mark
@@ -187,9 +187,6 @@ literal_fits n ts rest x t = took_before (λ o f. tt) (took_as literal literal (
 
 pub literal_failed : (n : ℕ) (ts : Tokens) (e : Fail) → Failed literal Free Always ts e → Failed literal (AtMostMarks n) (Ends 5) ts e
 literal_failed n ts e f = failed_before (λ o f. tt) (failed_as literal literal (λ y. y) (literal_along n ts) f)
-
-pub literal_marks : (x : Expression) (ts rest : Tokens) → Took literal Free Always ts x rest → marks x ≡ 0
-literal_marks x ts rest t = no_marks x t.derives.0
 
 -- ---- what may follow
 

@@ -9,7 +9,7 @@ use Rattle.ae_tree.specs.declared.tree.Op.{Op}
 use Rattle.ae_tree.specs.declared.tree.Op.TheVariants as op
 use Rattle.ae_tree.specs.Grammar.{Tokens, ◌⨾◌, level, left_level, sign_of, a_sign}
 use Rattle.ae_reading.specs.Reads.{head, Is}
-use Rattle.ae_reading.proofs.Begins.{of_kind}
+use Rattle.ae_expressions.proofs.from_reading.Begins.{of_kind}
 use Rattle.ae_expressions.specs.Ends.{Ends}
 use Rattle.ae_expressions.specs.Productions.{IsOperator, operator_of, IsClosing}
 
@@ -27,33 +27,6 @@ operator_back op.Sub = refl
 operator_back op.Mul = refl
 operator_back op.Div = refl
 operator_back op.Rem = refl
-
-pub operator_sign : (g : Sign) (o : Op) → operator_of g ≡ Some o → g ≡ sign_of o
-operator_sign sign.OpenBrace o e = cc
-operator_sign sign.CloseBrace o e = cc
-operator_sign sign.OpenParen o e = cc
-operator_sign sign.CloseParen o e = cc
-operator_sign sign.OpenBracket o e = cc
-operator_sign sign.CloseBracket o e = cc
-operator_sign sign.Less o e = let s : op.Lt ≡ o = cc in ap sign_of s
-operator_sign sign.Greater o e = let s : op.Gt ≡ o = cc in ap sign_of s
-operator_sign sign.Away o e = cc
-operator_sign sign.Comma o e = cc
-operator_sign sign.Semicolon o e = cc
-operator_sign sign.Dot o e = cc
-operator_sign sign.Assign o e = cc
-operator_sign sign.Equal o e = let s : op.Eq ≡ o = cc in ap sign_of s
-operator_sign sign.NotEqual o e = let s : op.Ne ≡ o = cc in ap sign_of s
-operator_sign sign.LessEqual o e = let s : op.Le ≡ o = cc in ap sign_of s
-operator_sign sign.GreaterEqual o e = let s : op.Ge ≡ o = cc in ap sign_of s
-operator_sign sign.Plus o e = let s : op.Add ≡ o = cc in ap sign_of s
-operator_sign sign.Minus o e = let s : op.Sub ≡ o = cc in ap sign_of s
-operator_sign sign.Star o e = let s : op.Mul ≡ o = cc in ap sign_of s
-operator_sign sign.Slash o e = let s : op.Div ≡ o = cc in ap sign_of s
-operator_sign sign.Percent o e = let s : op.Rem ≡ o = cc in ap sign_of s
-operator_sign sign.Not o e = cc
-operator_sign sign.AndAnd o e = let s : op.And ≡ o = cc in ap sign_of s
-operator_sign sign.OrOr o e = let s : op.Or ≡ o = cc in ap sign_of s
 
 -- two operators with one sign are one
 pub same_operator : (o p : Op) → tok.Sign (sign_of o) ≡ tok.Sign (sign_of p) → o ≡ p

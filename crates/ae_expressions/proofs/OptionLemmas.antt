@@ -8,8 +8,8 @@ use Rattle.ae_tree.specs.Limits.{early, rank}
 use Rattle.ae_tree.specs.Grammar.{Tokens}
 use Rattle.ae_reading.specs.declared.fail.Why.{Why}
 use Rattle.ae_reading.specs.Reads.{head, Is, IsWithinAll, Stopped, Counts, Beyond}
-use Rattle.ae_reading.proofs.ReadsLemmas.{Lang, Bound, Follow, lead_here, beyond_as}
-use Rattle.ae_reading.proofs.Parts.{optional}
+use Rattle.ae_expressions.proofs.from_reading.ReadsLemmas.{Lang, Bound, Follow, lead_here, beyond_as}
+use Rattle.ae_expressions.proofs.from_reading.Parts.{optional}
 
 pub begun : (k : Lexical) (ts : Tokens) → Is k (head ts) → (t : Lexeme) × (later : Tokens) × (ts ≡ t ∷ later) × (t.kind ≡ k)
 begun k [] i = absurd i

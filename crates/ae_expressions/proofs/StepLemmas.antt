@@ -11,10 +11,10 @@ use Rattle.ae_tree.specs.Names.{io}
 use Rattle.ae_reading.specs.declared.fail.Fail.{Fail}
 use Rattle.ae_reading.specs.declared.fail.Why.TheVariants.{Over}
 use Rattle.ae_reading.specs.Reads.{head, Always, Is, Isnt, Free, IsWithinAll, Took, Stopped, Failed, Larger}
-use Rattle.ae_reading.proofs.ReadsLemmas.{Bound, Links, failed_by, stopped_as, stopped_second, at_once, free, io_name}
-use Rattle.ae_reading.proofs.Begins.{is_isnt}
-use Rattle.ae_reading.proofs.PathLemmas.{dot, stepped, path_of, path_along, path_took, path_failed_root, path_failed_steps, no_step}
-use Rattle.ae_reading.proofs.Runs.{Run, run_start, run_more, run_stopped, run_full, run_end}
+use Rattle.ae_expressions.proofs.from_reading.ReadsLemmas.{Bound, Links, failed_by, stopped_as, stopped_second, at_once, free, io_name}
+use Rattle.ae_expressions.proofs.from_reading.Begins.{is_isnt}
+use Rattle.ae_expressions.proofs.from_reading.PathLemmas.{dot, stepped, path_of, path_along, path_took, path_failed_root, path_failed_steps, no_step}
+use Rattle.ae_expressions.proofs.from_reading.Runs.{Run, run_start, run_more, run_stopped, run_full, run_end}
 use Rattle.ae_expressions.specs.Productions.{IsShortPath}
 use Rattle.ae_expressions.proofs.OptionLemmas.{begun, none_before}
 

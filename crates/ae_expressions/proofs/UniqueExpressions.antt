@@ -16,12 +16,12 @@ use Rattle.ae_tree.specs.declared.tree.Op.TheVariants as op
 use Rattle.ae_tree.specs.Plain.{Expression, Number, Truth, Nothing, Read, Item, Length, Grouped, Negated, Minus, Binary}
 use Rattle.ae_tree.specs.Grammar.{Tokens, ◌⨾◌, one_token, one_by_one, path, level, left_level, sign_of, a_sign, truth_word, expression_at}
 use Rattle.ae_reading.specs.Reads.{head, Always, Is, Isnt, Token, TokenMark}
-use Rattle.ae_reading.proofs.ReadsLemmas.{Lang, Both, Links, lengths}
-use Rattle.ae_reading.proofs.UniqueLemmas.{Unique, Apart, apart_by, unique_token, unique_at, unique_mark, unique_then, unique_both, unique_each, unique_as, unique_under, unique_always, unique_choice, by_first, unique_optional}
-use Rattle.ae_reading.proofs.UniquePaths.{IsRoot, begins_path, unique_path}
-use Rattle.ae_reading.proofs.Runs.{each_turns}
-use Rattle.ae_reading.proofs.Begins.{Begins, begins_token, begins_mark, begins_both, of_kind, of_other, links_by, is_isnt}
-use Rattle.ae_reading.proofs.Parts.{optional}
+use Rattle.ae_expressions.proofs.from_reading.ReadsLemmas.{Lang, Both, Links, lengths}
+use Rattle.ae_expressions.proofs.from_reading.UniqueLemmas.{Unique, Apart, apart_by, unique_token, unique_at, unique_mark, unique_then, unique_both, unique_each, unique_as, unique_under, unique_always, unique_choice, by_first, unique_optional}
+use Rattle.ae_expressions.proofs.from_reading.UniquePaths.{IsRoot, begins_path, unique_path}
+use Rattle.ae_expressions.proofs.from_reading.Runs.{each_turns}
+use Rattle.ae_expressions.proofs.from_reading.Begins.{Begins, begins_token, begins_mark, begins_both, of_kind, of_other, links_by, is_isnt}
+use Rattle.ae_expressions.proofs.from_reading.Parts.{optional}
 use Rattle.ae_expressions.specs.Ends.{Ends}
 use Rattle.ae_expressions.specs.Productions.{at_level, operator_of}
 use Rattle.ae_expressions.proofs.OperatorLemmas.{same_operator, no_operator, low_level, ends_later}

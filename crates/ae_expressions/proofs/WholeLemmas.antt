@@ -7,7 +7,7 @@ use Rattle.ae_tree.specs.Grammar.{Tokens, whole_expression}
 use Rattle.ae_tree.specs.Limits.{KeepsDepth}
 use Rattle.ae_reading.specs.declared.fail.Fail.{Fail}
 use Rattle.ae_reading.specs.Reads.{Took, Failed}
-use Rattle.ae_reading.proofs.ReadsLemmas.{Along, took_as, failed_as}
+use Rattle.ae_expressions.proofs.from_reading.ReadsLemmas.{Along, took_as, failed_as}
 use Rattle.ae_expressions.specs.Ends.{Ends}
 use Rattle.ae_expressions.specs.Productions.{AtMostMarks, at_level}
 

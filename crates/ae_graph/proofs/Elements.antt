@@ -6,15 +6,14 @@ use Rattle.std.specs.List.{Contains, filter, flat_map, list_any}
 use Rattle.std.specs.List.Sorted.{IsStrictlyIncreasing}
 use Rattle.std.proofs.lemmas.Bool.Decides.{nat_tests}
 use Rattle.ae_rules.specs.Edges.{IsRising}
+use Rattle.std.proofs.lemmas.Bool.{eqb-true, or_right, or_cases, or_left, eq-eqb}
+use Rattle.ae_graph.proofs.from_text.Basics.{empty_has_nothing}
 
 pub here : {X : Type 0} (x : X) (xs : List X) → Contains (x ∷ xs) x
 here x xs = (0, omega arith, refl)
 
 pub there : {X : Type 0} (x : X) (xs : List X) (y : X) → Contains xs y → Contains (x ∷ xs) y
 there x xs y h = (suc h.0, omega (arith, h.1), h.2)
-
-pub nowhere : {X : Type 0} (y : X) → Contains [] y → ⊥
-nowhere y h = absurd (omega (arith, h.1))
 
 uncons_at : {X : Type 0} (x : X) (xs : List X) (y : X) (k : ℕ) → k < length (x ∷ xs) → get_or (x ∷ xs) k y ≡ y → (x ≡ y) ⊎ Contains xs y
 uncons_at x xs y zero h e = inl e
@@ -25,7 +24,7 @@ pub uncons : {X : Type 0} (x : X) (xs : List X) (y : X) → Contains (x ∷ xs) 
 uncons x xs y h = uncons_at x xs y h.0 h.1 h.2
 
 pub in_map : {X Y : Type 0} (f : X → Y) (xs : List X) (x : X) → Contains xs x → Contains (map f xs) (f x)
-in_map f [] x h = absurd (nowhere x h)
+in_map f [] x h = absurd (empty_has_nothing x h)
 in_map f (z ∷ xs) x h =
     elim (uncons z xs x h) [
       | inl e ↦ subst (λ (w : _). Contains (f z ∷ map f xs) (f w)) e (here (f z) (map f xs))
@@ -33,7 +32,7 @@ in_map f (z ∷ xs) x h =
     ]
 
 pub from_map : {X Y : Type 0} (f : X → Y) (xs : List X) (y : Y) → Contains (map f xs) y → (x : X) × Contains xs x × (f x ≡ y)
-from_map f [] y h = absurd (nowhere y h)
+from_map f [] y h = absurd (empty_has_nothing y h)
 from_map f (z ∷ xs) y h =
     elim (uncons (f z) (map f xs) y h) [
       | inl e ↦ (z, here z xs, e)
@@ -44,28 +43,11 @@ from_map f (z ∷ xs) y h =
 abbrev pub has : List ℕ → ℕ → Bool
 has xs y = list_any (λ x. nat_eq x y) xs
 
-or_left : (a b : Bool) → a ≡ true → (a || b) ≡ true
-or_left a b e = rw e refl
-
-or_right : (a b : Bool) → b ≡ true → (a || b) ≡ true
-or_right true b e = refl
-or_right false b e = e
-
-or_cases : (a b : Bool) → (a || b) ≡ true → (a ≡ true) ⊎ (b ≡ true)
-or_cases true b e = inl refl
-or_cases false b e = inr e
-
-eq_true : (x y : ℕ) → x ≡ y → nat_eq x y ≡ true
-eq_true x y e = grind (arith, nat_tests)
-
-from_eq : (x y : ℕ) → nat_eq x y ≡ true → x ≡ y
-from_eq x y e = grind (arith, nat_tests)
-
 pub has_from : (xs : List ℕ) (y : ℕ) → Contains xs y → has xs y ≡ true
-has_from [] y h = absurd (nowhere y h)
+has_from [] y h = absurd (empty_has_nothing y h)
 has_from (x ∷ xs) y h =
     elim (uncons x xs y h) [
-      | inl e ↦ or_left (nat_eq x y) (has xs y) (eq_true x y e)
+      | inl e ↦ or_left (nat_eq x y) (has xs y) (eq-eqb x y e)
       | inr k ↦ or_right (nat_eq x y) (has xs y) (has_from xs y k)
     ]
 
@@ -73,7 +55,7 @@ pub from_has : (xs : List ℕ) (y : ℕ) → has xs y ≡ true → Contains xs y
 from_has [] y h = absurd (cc)
 from_has (x ∷ xs) y h =
     elim (or_cases (nat_eq x y) (has xs y) h) [
-      | inl e ↦ let q : x ≡ y = from_eq x y e in subst (λ (w : ℕ). Contains (x ∷ xs) w) q (here x xs)
+      | inl e ↦ let q : x ≡ y = eqb-true x y e in subst (λ (w : ℕ). Contains (x ∷ xs) w) q (here x xs)
       | inr k ↦ there x xs y (from_has xs y k)
     ]
 
@@ -98,7 +80,7 @@ later_kept false z xs x h = h
 
 -- an element that passes the test is kept
 pub in_filter : {X : Type 0} (t : X → Bool) (xs : List X) (x : X) → Contains xs x → t x ≡ true → Contains (filter t xs) x
-in_filter t [] x h e = absurd (nowhere x h)
+in_filter t [] x h e = absurd (empty_has_nothing x h)
 in_filter t (z ∷ xs) x h e =
     elim (uncons z xs x h) [
       | inl q ↦ first_kept (t z) z (filter t xs) x (ap t q ∙ e) q
@@ -111,7 +93,7 @@ first_or_later false z xs x h = inr h
 
 -- what is kept was there, and passes the test
 pub from_filter : {X : Type 0} (t : X → Bool) (xs : List X) (x : X) → Contains (filter t xs) x → Contains xs x × (t x ≡ true)
-from_filter t [] x h = absurd (nowhere x h)
+from_filter t [] x h = absurd (empty_has_nothing x h)
 from_filter t (z ∷ xs) x h =
     elim (first_or_later (t z) z (filter t xs) x h) [
       | inl q ↦ (subst (λ (w : _). Contains (z ∷ xs) w) q.1 (here z xs), sym (ap t q.1) ∙ q.0)
@@ -119,7 +101,7 @@ from_filter t (z ∷ xs) x h =
     ]
 
 pub in_flat_map : {X Y : Type 0} (f : X → List Y) (xs : List X) (x : X) (y : Y) → Contains xs x → Contains (f x) y → Contains (flat_map f xs) y
-in_flat_map f [] x y h k = absurd (nowhere x h)
+in_flat_map f [] x y h k = absurd (empty_has_nothing x h)
 in_flat_map f (z ∷ xs) x y h k =
     elim (uncons z xs x h) [
       | inl q ↦ Contains-append_left (f z) (flat_map f xs) y (subst (λ (w : _). Contains (f w) y) (sym q) k)
@@ -127,7 +109,7 @@ in_flat_map f (z ∷ xs) x y h k =
     ]
 
 pub from_flat_map : {X Y : Type 0} (f : X → List Y) (xs : List X) (y : Y) → Contains (flat_map f xs) y → (x : X) × Contains xs x × Contains (f x) y
-from_flat_map f [] y h = absurd (nowhere y h)
+from_flat_map f [] y h = absurd (empty_has_nothing y h)
 from_flat_map f (z ∷ xs) y h =
     elim (Contains-append_cases (f z) (flat_map f xs) y h) [
       | inl k ↦ (z, here z xs, k)

@@ -15,8 +15,10 @@ use Rattle.ae_rules.specs.BuiltUses.{use_of, local_mode, group_mode}
 use Rattle.ae_rules.specs.Edges.{IsRising}
 use Rattle.ae_graph.specs.Rising.{IsRisingOf}
 use Rattle.ae_graph.specs.Footprint.{IsFootprint, AreInOrder, AreLocalUses, read_by, written_by, is_written, local_use, group_uses}
-use Rattle.ae_graph.proofs.Elements.{here, nowhere, uncons, in_map, from_map, has, has_from, from_has}
+use Rattle.ae_graph.proofs.Elements.{here, uncons, in_map, from_map, has, has_from, from_has}
 use Rattle.ae_graph.proofs.Names.{mode_of, local_mode-is}
+use Rattle.std.proofs.lemmas.Bool.{eqb-true}
+use Rattle.ae_graph.proofs.from_text.Basics.{empty_has_nothing}
 
 -- ---- order
 
@@ -41,10 +43,10 @@ in_written (Some x) y h = let e : x ≡ y = grind (arith, nat_tests) in subst (�
 
 written_from : (x y : ℕ) → (x ≡ y) ⊎ Contains [] y → nat_eq x y ≡ true
 written_from x y (inl e) = grind (arith, nat_tests)
-written_from x y (inr k) = absurd (nowhere y k)
+written_from x y (inr k) = absurd (empty_has_nothing y k)
 
 from_written : (w : Option ℕ) (y : ℕ) → Contains (option_to_list w) y → is_written w y ≡ true
-from_written None y h = absurd (nowhere y h)
+from_written None y h = absurd (empty_has_nothing y h)
 from_written (Some x) y h = written_from x y (uncons x [] y h)
 
 abbrev mode_if : Bool → Mode
@@ -97,19 +99,16 @@ no_local : (a : Action) (y : ℕ) (m : Mode) → Contains (group_uses a) (record
 no_local (Prints e) y m h =
     elim (uncons _ [] _ h) [
       | inl q ↦ let p : Group io ≡ Local y = ap (λ (u : Use). u.what) q in cc
-      | inr k ↦ nowhere _ k
+      | inr k ↦ empty_has_nothing _ k
     ]
-no_local _ y m h = nowhere _ h
+no_local _ y m h = empty_has_nothing _ h
 
 whole_cases : (b : Bool) (m : Mode) → (if b then Some mode.GroupWhole else None) ≡ Some m → (b ≡ true) × (mode.GroupWhole ≡ m)
 whole_cases true m e = (refl, cc)
 whole_cases false m e = absurd (cc)
 
-equal_from : (x y : ℕ) → nat_eq x y ≡ true → x ≡ y
-equal_from x y e = grind (arith, nat_tests)
-
 whole_if : (g : ℕ) (m : Mode) → (if nat_eq io g then Some mode.GroupWhole else None) ≡ Some m → (io ≡ g) × (mode.GroupWhole ≡ m)
-whole_if g m e = let b = whole_cases (nat_eq io g) m e in (equal_from io g b.0, b.1)
+whole_if g m e = let b = whole_cases (nat_eq io g) m e in (eqb-true io g b.0, b.1)
 
 group_there : (a : Action) (g : ℕ) (m : Mode) → Contains (group_uses a) (record { what = Group g; mode = m }) → group_mode a g ≡ Some m
 group_there (Prints e) g m h =
@@ -119,9 +118,9 @@ group_there (Prints e) g m h =
           let i : io ≡ g = cc in
           let n : mode.GroupWhole ≡ m = ap (λ (u : Use). u.mode) q in
           subst (λ (z : ℕ). (if nat_eq io z then Some mode.GroupWhole else None) ≡ Some m) i (ap Some n)
-      | inr k ↦ absurd (nowhere _ k)
+      | inr k ↦ absurd (empty_has_nothing _ k)
     ]
-group_there _ g m h = absurd (nowhere _ h)
+group_there _ g m h = absurd (empty_has_nothing _ h)
 
 group_back : (a : Action) (g : ℕ) (m : Mode) → group_mode a g ≡ Some m → Contains (group_uses a) (record { what = Group g; mode = m })
 group_back (Prints e) g m h =

@@ -1,3 +1,5 @@
+-- The lemmas of the crates below that this one goes by, and its own.
+pub use Rattle.ae_text.proofs as from_text
 pub mod Rules
 pub mod Elements
 pub mod Names

@@ -8,18 +8,15 @@ use Rattle.ae_tree.specs.Plain.{Action, Declares, Assigns, Prints}
 use Rattle.ae_rules.specs.BuiltUses.{reads_local, reads_right, read_if, local_mode}
 use Rattle.ae_graph.specs.Footprint.{names_in, names_right, read_by, written_by, is_written}
 use Rattle.ae_graph.proofs.Elements.{has}
-
-or_false : (a : Bool) → (a || false) ≡ a
-or_false true = refl
-or_false false = refl
+use Rattle.std.proofs.Math.Bool.{or-false}
 
 pub has-names_in : (e : Expression) (y : ℕ) → has (names_in e) y ≡ reads_local e y
 has-names_in (Number n at) y = refl
 has-names_in (Truth b at) y = refl
 has-names_in (Nothing at) y = refl
-has-names_in (Read p) y = or_false (nat_eq p.root.name y)
+has-names_in (Read p) y = or-false (nat_eq p.root.name y)
 has-names_in (Item p e) y = ap (λ b. nat_eq p.root.name y || b) (has-names_in e y)
-has-names_in (Length p at) y = or_false (nat_eq p.root.name y)
+has-names_in (Length p at) y = or-false (nat_eq p.root.name y)
 has-names_in (Grouped e at) y = has-names_in e y
 has-names_in (Negated e at) y = has-names_in e y
 has-names_in (Minus e at) y = has-names_in e y

@@ -16,7 +16,10 @@ use Rattle.ae_rules.specs.BuiltUses.{ArePreds, statement_at}
 use Rattle.ae_rules.specs.Edges.{IsRising}
 use Rattle.ae_graph.specs.Graph.{Graph, preds_in, edges_to, edges_from, AreSuccs}
 use Rattle.ae_graph.specs.Succs.{AreEarlier, is_among, joined, JoinsWaiters}
-use Rattle.ae_graph.proofs.Elements.{here, there, nowhere, has_from, from_has}
+use Rattle.ae_graph.proofs.Elements.{here, there, has_from, from_has}
+use Rattle.std.proofs.lemmas.Bool.{false_from_ne_true}
+use Rattle.ae_graph.proofs.from_text.Basics.{empty_has_nothing}
+use Rattle.std.proofs.Math.Bool.{or-false}
 
 pub count_lines : (xs : List Stmt) → statement_count (lines_from xs) ≡ length xs
 count_lines [] = refl
@@ -62,7 +65,7 @@ edges_from-push j (p ∷ g) row =
     next_length : (j n : ℕ) → j + 1 + n ≡ j + suc n
     next_length j n = omega arith
 
-length_taken : (g : Graph) (i : ℕ) → i < length g → length (take i g) ≡ i
+pub length_taken : (g : Graph) (i : ℕ) → i < length g → length (take i g) ≡ i
 length_taken g i h = grind (arith, common_steps)
 
 pub edges_more : (es fs : List Edge) (g : Graph) (i : ℕ) (row : List ℕ) → i < length g → row ≡ get_or g i row → es ≡ edges_from 0 (take i g) → fs ≡ es ++ edges_to i row
@@ -77,7 +80,7 @@ edges_more es fs g i row h r e f =
 
 -- ---- those that wait for a statement
 
-rising_tail : (x : ℕ) (xs : List ℕ) → IsRising (x ∷ xs) → IsRising xs
+pub rising_tail : (x : ℕ) (xs : List ℕ) → IsRising (x ∷ xs) → IsRising xs
 rising_tail x [] r = tt
 rising_tail x (y ∷ xs) r = r.1
 
@@ -102,16 +105,8 @@ not_in_front xs r k h c =
     let q : get_or xs c.0 0 ≡ get_or xs k 0 = sym d ∙ sym e ∙ c.2 in
     absurd (omega (arith, w, q))
 
-false_if : (t : Bool) → (t ≡ true → ⊥) → t ≡ false
-false_if true h = absurd (h refl)
-false_if false h = refl
-
 not_among : (xs : List ℕ) → IsRising xs → (k : ℕ) → k < length xs → is_among (take k xs) (get_or xs k 0) ≡ false
-not_among xs r k h = false_if (is_among (take k xs) (get_or xs k 0)) (λ e. not_in_front xs r k h (from_has (take k xs) (get_or xs k 0) e))
-
-or_false : (a : Bool) → (a || false) ≡ a
-or_false true = refl
-or_false false = refl
+not_among xs r k h = false_from_ne_true (is_among (take k xs) (get_or xs k 0)) (λ e. not_in_front xs r k h (from_has (take k xs) (get_or xs k 0) e))
 
 or_true : (a : Bool) → (a || true) ≡ true
 or_true true = refl
@@ -121,7 +116,7 @@ among_more : (xs : List ℕ) (k i : ℕ) → k < length xs → is_among (take (k
 among_more xs k i h =
     ap (λ (l : List ℕ). is_among l i) (take_more xs k 0 h)
     ∙ list_any-append (λ x. nat_eq x i) (take k xs) (get_or xs k 0 ∷ [])
-    ∙ ap (λ b. is_among (take k xs) i || b) (or_false (nat_eq (get_or xs k 0) i))
+    ∙ ap (λ b. is_among (take k xs) i || b) (or-false (nat_eq (get_or xs k 0) i))
 
 join_here : (froms : List ℕ) (j : ℕ) (old now new : Graph) (k : ℕ) (waiters : List ℕ) → IsRising froms → All (λ i. i < length old) froms → k < length froms
     → JoinsWaiters (take k froms) j old now → waiters ≡ get_or now (get_or froms k 0) [] ++ j ∷ [] → new ≡ set now (get_or froms k 0) waiters
@@ -143,7 +138,7 @@ join_there : (froms : List ℕ) (j : ℕ) (old now new : Graph) (k : ℕ) (waite
     → (i : ℕ) → i < length old → i ≢ get_or froms k 0 → get_or new i [] ≡ joined (is_among (take (k + 1) froms) i) j (get_or old i [])
 join_there froms j old now new k waiters h w f i l ne =
     let at : get_or new i [] ≡ get_or now i [] = ap (λ (g : Graph). get_or g i []) f ∙ get_or-set_other now (get_or froms k 0) i waiters [] ne in
-    let among : is_among (take (k + 1) froms) i ≡ is_among (take k froms) i = among_more froms k i h ∙ ap (λ b. is_among (take k froms) i || b) (other_eq (get_or froms k 0) i ne) ∙ or_false (is_among (take k froms) i) in
+    let among : is_among (take (k + 1) froms) i ≡ is_among (take k froms) i = among_more froms k i h ∙ ap (λ b. is_among (take k froms) i || b) (other_eq (get_or froms k 0) i ne) ∙ or-false (is_among (take k froms) i) in
     at ∙ w.each i l ∙ ap (λ b. joined b j (get_or old i [])) (sym among)
   where
     other_eq : (x i : ℕ) → i ≢ x → nat_eq x i ≡ false
@@ -174,7 +169,7 @@ join_more froms j old now new k waiters r a h w e f = record {
 -- ---- those that wait for a statement, with one more list
 
 past_end : (g : Graph) (j i : ℕ) → Contains (preds_in g j) i → j < length g
-past_end [] j i h = absurd (nowhere i h)
+past_end [] j i h = absurd (empty_has_nothing i h)
 past_end (p ∷ g) zero i h = omega arith
 past_end (p ∷ g) (suc j) i h = let w : j < length g = past_end g j i h in omega (arith, w)
 
@@ -240,12 +235,6 @@ succs_more g i j row waiters more a h r m =
     let k : take j g ++ row ∷ [] ≡ take (j + 1) g = ap (λ (x : List ℕ). take j g ++ x ∷ []) r ∙ sym (take_more g j row h) in
     let b : joined (is_among row i) (length (take j g)) waiters ≡ more = ap (λ (x : ℕ). joined (is_among row i) x waiters) n ∙ sym m in
     subst (λ (x : List ℕ). AreSuccs (take (j + 1) g) i x) b (subst (λ (x : Graph). AreSuccs x i (joined (is_among row i) (length (take j g)) waiters)) k s)
-
--- the earlier statements of a list are below the number of lists
-pub below_length : (g : Graph) → AreEarlier g → (j : ℕ) → j < length g → (row : List ℕ) → row ≡ preds_in g j → IsRising row × All (λ i. i < length g) row
-below_length g a j h row e =
-    let p = a j h in
-    (subst IsRising (sym e) p.0, All-same (λ i. i < length g) row (preds_in g j) e (All-weaker (λ i. i < j) (λ i. i < length g) (λ i k. omega (arith, k, h)) (preds_in g j) p.1))
 
 -- the graph of a block leads from earlier statements to later ones
 pub earlier : (b : Lines) (g : Graph) → ((j : ℕ) → j < length g → ArePreds b j (preds_in g j)) → AreEarlier g

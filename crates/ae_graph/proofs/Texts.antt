@@ -8,6 +8,7 @@ use Rattle.ae_tree.specs.Plain.{Definition}
 use Rattle.ae_tree.specs.Shown.{definition}
 use Rattle.ae_graph.specs.Graph.{Graph}
 use Rattle.ae_graph.specs.GraphText.{spaced, line_text, lines_text, method_text, AreMethodTexts, PutsMethod}
+use Rattle.ae_graph.proofs.Rows.{length_taken}
 
 spaced-push : (xs : List ℕ) (x : ℕ) → spaced (xs ++ x ∷ []) ≡ spaced xs ++ 32 ∷ decimal x
 spaced-push [] x = append-nil (32 ∷ decimal x)
@@ -30,9 +31,6 @@ lines_text-push j (p ∷ g) row =
   where
     next_length : (j n : ℕ) → j + 1 + n ≡ j + suc n
     next_length j n = omega arith
-
-length_taken : (g : Graph) (i : ℕ) → i < length g → length (take i g) ≡ i
-length_taken g i h = grind (arith, common_steps)
 
 pub lines_more : (old now new : List ℕ) (g : Graph) (i : ℕ) (row : List ℕ) → i < length g → row ≡ get_or g i row → now ≡ old ++ lines_text 0 (take i g) → new ≡ now ++ line_text i row
     → new ≡ old ++ lines_text 0 (take (i + 1) g)

@@ -16,7 +16,9 @@ use Rattle.ae_graph.specs.declared.waits.Past.{Past}
 use Rattle.ae_graph.specs.Rising.{IsRisingOf}
 use Rattle.ae_graph.specs.Footprint.{IsFootprint, IsBelow, AreInOrder}
 use Rattle.ae_graph.specs.Opened.{added, added_if, opened, is_same, after_uses, waited, waited_by}
-use Rattle.ae_graph.proofs.Elements.{here, there, nowhere, uncons, in_map, from_map, in_filter, from_filter, in_flat_map, from_flat_map}
+use Rattle.ae_graph.proofs.Elements.{here, there, uncons, in_map, from_map, in_filter, from_filter, in_flat_map, from_flat_map}
+use Rattle.std.proofs.lemmas.Bool.{eqb-true, not-true, not_from_false}
+use Rattle.ae_graph.proofs.from_text.Basics.{no_test_is_both, empty_has_nothing, below_or_last}
 
 -- ---- open uses
 
@@ -26,13 +28,6 @@ pub record IsOpen (b : Lines) (j : ℕ) (r : Resource) (p : Past) : Type 0 where
   pub used : use_at b p.stmt r ≡ Some p.mode
   pub clear : (k : ℕ) → p.stmt < k → k < j → IsWeak (use_at b k r)
 
-below_or_at : (k j : ℕ) → k < suc j → (k < j) ⊎ (k ≡ j)
-below_or_at k j h = split (nat_lt k j) refl
-  where
-    split : (t : Bool) → nat_lt k j ≡ t → (k < j) ⊎ (k ≡ j)
-    split true e = inl (grind (arith, nat_tests))
-    split false e = inr (grind (arith, nat_tests))
-
 clear_at : (b : Lines) (j : ℕ) (r : Resource) (p : Past) → IsOpen b j r p → IsWeak (use_at b j r) → (k : ℕ) → p.stmt < k → (k < j) ⊎ (k ≡ j) → IsWeak (use_at b k r)
 clear_at b j r p o w k l (inl m) = o.clear k l m
 clear_at b j r p o w k l (inr e) = subst (λ (n : ℕ). IsWeak (use_at b n r)) (sym e) w
@@ -41,7 +36,7 @@ later : (b : Lines) (j : ℕ) (r : Resource) (p : Past) → IsOpen b j r p → I
 later b j r p o w = record {
   before = omega (arith, o.before);
   used = o.used;
-  clear = λ k l m. clear_at b j r p o w k l (below_or_at k j m);
+  clear = λ k l m. clear_at b j r p o w k l (below_or_last k j m);
 }
 
 earlier : (b : Lines) (j : ℕ) (r : Resource) (p : Past) → IsOpen b (suc j) r p → p.stmt < j → IsOpen b j r p
@@ -51,7 +46,7 @@ latest : (b : Lines) (j : ℕ) (r : Resource) (m : Mode) (p : Past) → use_at b
 latest b j r m p e q = subst (λ (x : Past). IsOpen b (suc j) r x) q (record { before = omega arith; used = e; clear = λ k l n. absurd (omega (arith, l, n)) })
 
 from_added : (ps : List Past) (n : Past) (p : Past) (t : Bool) → Contains (if t then n ∷ [] else ps ++ n ∷ []) p → ((t ≡ false) × Contains ps p) ⊎ (n ≡ p)
-from_added ps n p true h = elim (uncons n [] p h) [ inl q ↦ inr q | inr k ↦ absurd (nowhere p k) ]
+from_added ps n p true h = elim (uncons n [] p h) [ inl q ↦ inr q | inr k ↦ absurd (empty_has_nothing p k) ]
 from_added ps n p false h = elim (Contains-push_cases ps n p h) [ inl k ↦ inl (refl, k) | inr q ↦ inr q ]
 
 last_added : (ps : List Past) (n : Past) (t : Bool) → Contains (if t then n ∷ [] else ps ++ n ∷ []) n
@@ -76,7 +71,7 @@ open_step b j r p (Some m) e go h =
 
 -- what is kept is open
 pub is_open : (b : Lines) (j : ℕ) (r : Resource) (p : Past) → Contains (opened b j r) p → IsOpen b j r p
-is_open b zero r p h = absurd (nowhere p h)
+is_open b zero r p h = absurd (empty_has_nothing p h)
 is_open b (suc j) r p h = open_step b j r p (use_at b j r) refl (is_open b j r p) h
 
 kept_step : (b : Lines) (j : ℕ) (r : Resource) (p : Past) (o : Option Mode) → use_at b j r ≡ o → IsOpen b (suc j) r p → (p.stmt < j) ⊎ (p.stmt ≡ j)
@@ -95,29 +90,21 @@ kept_step b j r p (Some m) e o (inr q) go =
 -- what is open is kept
 pub is_kept : (b : Lines) (j : ℕ) (r : Resource) (p : Past) → IsOpen b j r p → Contains (opened b j r) p
 is_kept b zero r p o = absurd (omega (arith, o.before))
-is_kept b (suc j) r p o = kept_step b j r p (use_at b j r) refl o (below_or_at p.stmt j o.before) (is_kept b j r p)
+is_kept b (suc j) r p o = kept_step b j r p (use_at b j r) refl o (below_or_last p.stmt j o.before) (is_kept b j r p)
 
 -- ---- the statements for which uses wait
-
-not_true : (t : Bool) → not t ≡ true → t ≡ false
-not_true true e = absurd (cc)
-not_true false e = refl
-
-true_not : (t : Bool) → t ≡ false → not t ≡ true
-true_not true e = absurd (cc)
-true_not false e = refl
 
 -- a use that is kept, of this statement, in a mode that does not go with m
 pub from_waited : (m : Mode) (ps : List Past) (i : ℕ) → Contains (waited m ps) i → (p : Past) × Contains ps p × (p.stmt ≡ i) × (are_compatible p.mode m ≡ false)
 from_waited m ps i h =
     let f = from_map (λ (p : Past). p.stmt) (filter (λ p. not (are_compatible p.mode m)) ps) i h in
     let g = from_filter (λ (p : Past). not (are_compatible p.mode m)) ps f.0 f.1 in
-    (f.0, g.0, f.2, not_true (are_compatible f.0.mode m) g.1)
+    (f.0, g.0, f.2, not-true (are_compatible f.0.mode m) g.1)
 
 pub in_waited : (m : Mode) (ps : List Past) (p : Past) → Contains ps p → are_compatible p.mode m ≡ false → Contains (waited m ps) p.stmt
 in_waited m ps p h e =
     in_map (λ (q : Past). q.stmt) (filter (λ q. not (are_compatible q.mode m)) ps) p
-    (in_filter (λ (q : Past). not (are_compatible q.mode m)) ps p h (true_not (are_compatible p.mode m) e))
+    (in_filter (λ (q : Past). not (are_compatible q.mode m)) ps p h (not_from_false (are_compatible p.mode m) e))
 
 used_at : (b : Lines) (j : ℕ) (a : Action) (r : Resource) → statement_at b j ≡ Some a → use_at b j r ≡ use_of a r
 used_at b j a r e = ap (λ o. used_by o r) e
@@ -189,17 +176,11 @@ not_same (Local x) (Group y) h = refl
 not_same (Group x) (Local y) h = absurd h
 not_same (Group x) (Group y) h = grind (arith, nat_tests, h)
 
-true_false : (b : Bool) → b ≡ true → b ≡ false → ⊥
-true_false b e f = cc
-
-same_number : (x y : ℕ) → nat_eq x y ≡ true → x ≡ y
-same_number x y e = grind (arith, nat_tests)
-
 same_is : (x y : Resource) → is_same x y ≡ true → x ≡ y
-same_is (Local x) (Local y) e = ap Local (same_number x y e)
+same_is (Local x) (Local y) e = ap Local (eqb-true x y e)
 same_is (Local x) (Group y) e = absurd (cc)
 same_is (Group x) (Local y) e = absurd (cc)
-same_is (Group x) (Group y) e = ap Group (same_number x y e)
+same_is (Group x) (Group y) e = ap Group (eqb-true x y e)
 
 same_self : (x : Resource) → is_same x x ≡ true
 same_self (Local x) = grind (arith, nat_tests)
@@ -223,7 +204,7 @@ tail_in_order u [] h = tt
 tail_in_order u (v ∷ us) h = h.1
 
 above : (u : Use) (us : List Use) → AreInOrder (u ∷ us) → (v : Use) → Contains us v → IsBelow u.what v.what
-above u [] h v k = absurd (nowhere v k)
+above u [] h v k = absurd (empty_has_nothing v k)
 above u (w ∷ us) h v k =
     elim (uncons w us v k) [
       | inl q ↦ subst (λ (x : Use). IsBelow u.what x.what) q h.0
@@ -250,12 +231,12 @@ IsUse us r o = (m : Mode) → Contains us (record { what = r; mode = m }) ↔ (o
 
 after_none : (j : ℕ) (r : Resource) (ps : List Past) (o : Option Mode) → IsUse [] r o → ps ≡ added_if j ps o
 after_none j r ps None h = refl
-after_none j r ps (Some m) h = absurd (nowhere _ ((h m).1 refl))
+after_none j r ps (Some m) h = absurd (empty_has_nothing _ ((h m).1 refl))
 
 not_first : (u : Use) (us : List Use) (r : Resource) (m : Mode) → is_same u.what r ≡ false → (u ≡ record { what = r; mode = m }) ⊎ Contains us (record { what = r; mode = m }) → Contains us (record { what = r; mode = m })
 not_first u us r m q (inl e) =
     let s : is_same u.what r ≡ true = subst (λ (x : Resource). is_same u.what x ≡ true) (ap (λ (v : Use). v.what) e) (same_self u.what) in
-    absurd (true_false (is_same u.what r) s q)
+    absurd (no_test_is_both (is_same u.what r) s q)
 not_first u us r m q (inr k) = k
 
 after_first : (j : ℕ) (r : Resource) (ps : List Past) (u : Use) (us : List Use) (o : Option Mode) → AreInOrder (u ∷ us) → IsUse (u ∷ us) r o

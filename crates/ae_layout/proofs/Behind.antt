@@ -7,10 +7,11 @@ use Rattle.ae_text.specs.declared.token.Sign.TheVariants as sign
 use Rattle.ae_text.specs.declared.token.TokenKind.{TokenKind}
 use Rattle.ae_text.specs.declared.token.TokenKind.TheVariants as t
 use Rattle.ae_text.specs.Tokens.{Text, Stops, is_digit, begins_word, goes_on, sign_text, IsWord, IsNumber, IsQuoted, Spells, IsLongest, NoComment, IsInRange, IsToken}
-use Rattle.ae_text.proofs.SpellingLemmas.{keyword_is_word, sign_first, signs_start, begins_ascii, NoDouble, single_longest, double_longest}
-use Rattle.ae_text.proofs.QuoteLemmas.{quoted_longest}
-use Rattle.ae_text.proofs.LexLemmas.{spells_sign, spells_quote, longest_word, longest_number}
+use Rattle.ae_layout.proofs.from_text.SpellingLemmas.{keyword_is_word, sign_first, signs_start, begins_ascii, NoDouble, single_longest, double_longest}
+use Rattle.ae_layout.proofs.from_text.QuoteLemmas.{quoted_longest, tail_is}
+use Rattle.ae_layout.proofs.from_text.LexLemmas.{spells_sign, spells_quote, longest_word, longest_number, longest_quoted}
 use Rattle.ae_layout.specs.Rows.{goes_on_with, stay_apart}
+use Rattle.ae_layout.proofs.from_text.TextLemmas.{first_is, no_truth, not_both}
 
 -- a character that goes on with a sign, to a longer one or to a comment
 abbrev pub lengthens : ℕ → Bool
@@ -25,20 +26,8 @@ Ends (t.Sign g) rest = Stops lengthens rest
 Ends (t.Text b) rest = Unit {0}
 Ends t.End rest = Unit {0}
 
-first_is : (b c : ℕ) (s r : Text) → b ∷ s ≡ c ∷ r → b ≡ c
-first_is b c s r e = cc
-
 second_is : (b b' c c' : ℕ) (s r : Text) → b ∷ c ∷ s ≡ b' ∷ c' ∷ r → c ≡ c'
 second_is b b' c c' s r e = cc
-
-rest_is : (b b' : ℕ) (s r : Text) → b ∷ s ≡ b' ∷ r → s ≡ r
-rest_is b b' s r e = cc
-
-no_truth : IsTrue false → ⊥
-no_truth h = cc
-
-not_both : (b : Bool) → IsTrue b → b ≡ false → ⊥
-not_both b h e = cc
 
 -- what is not true is false
 false_by : (b : Bool) → (IsTrue b → ⊥) → b ≡ false
@@ -150,21 +139,12 @@ sign_no_comment g rest n = λ c e. by_shape c e (shape_of (sign_text g) (sign_fo
     by_shape c e (inl p) =
         let S : Text → Type 0 = Stops lengthens in
         let all : p.0 ∷ rest ≡ 47 ∷ 47 ∷ c = ap (λ x. x ++ rest) (sym p.1) ∙ e in
-        let slash : lengthens 47 ≡ false = subst S (rest_is p.0 47 rest (47 ∷ c) all) n in not_both (lengthens 47) refl slash
+        let slash : lengthens 47 ≡ false = subst S (tail_is p.0 47 rest (47 ∷ c) all) n in not_both (lengthens 47) refl slash
     by_shape c e (inr p) =
         let all : p.0 ∷ p.1 ∷ rest ≡ 47 ∷ 47 ∷ c = ap (λ x. x ++ rest) (sym p.2) ∙ e in
         second_no_slash p.1 (second_is p.0 47 p.1 47 rest c all) p.3
 
 -- ---- words, numbers and texts
-
-quote_longest : (bytes s rest : Text) → IsQuoted bytes s → IsLongest s rest
-quote_longest bytes [] rest h = λ k more r e g. absurd (let no_way : [] ≡ 34 ∷ _ = h.whole in cc)
-quote_longest bytes (b ∷ s) rest h = λ k more r e g.
-    let quote : b ≡ 34 = first_is b 34 s _ h.whole in
-    let P : ℕ → Type 0 = λ w. Spells k (w ∷ (s ++ more)) in
-    let Q : ℕ → Type 0 = λ w. IsQuoted bytes (w ∷ s) in
-    let q = spells_quote k (s ++ more) (subst P quote g) in
-    quoted_longest bytes q.0 (34 ∷ s) more (subst Q quote h) q.2
 
 word_no_comment : (s rest : Text) → IsWord s → NoComment (s ++ rest)
 word_no_comment [] rest w = absurd w
@@ -185,7 +165,7 @@ quote_no_comment bytes s rest q = λ c e. let quote : 34 ≡ 47 = first_is 34 47
 pub token_is : (k : TokenKind) (s rest : Text) → Spells k s → IsInRange k s → Ends k rest → IsToken k s rest
 token_is (t.Name b) s rest h r n = record { spells = h; longest = longest_word s rest h.1 n; no_comment = word_no_comment s rest h.1; in_range = r }
 token_is (t.Int m) s rest h r n = record { spells = h; longest = longest_number s rest h.0 n; no_comment = number_no_comment s rest h.0; in_range = r }
-token_is (t.Text b) s rest h r n = record { spells = h; longest = quote_longest b s rest h; no_comment = quote_no_comment b s rest h; in_range = r }
+token_is (t.Text b) s rest h r n = record { spells = h; longest = longest_quoted b s rest h; no_comment = quote_no_comment b s rest h; in_range = r }
 token_is (t.Word w) s rest h r n =
     let P : Text → Type 0 = IsWord in
     let is : IsWord s = subst P (sym h) (keyword_is_word w) in

@@ -12,6 +12,7 @@ use Rattle.ae_layout.specs.Rows.{Every, CanSpell, stay_apart, PartFrom, ArePart,
 use Rattle.ae_layout.proofs.Escapes.{scalars-append}
 use Rattle.ae_layout.proofs.Written.{Written, written}
 use Rattle.ae_layout.proofs.Behind.{Ends, token_is, space_ends, feed_ends, parts_ends}
+use Rattle.ae_layout.proofs.Texts.{printed-is}
 
 -- ---- a text with its pieces
 
@@ -78,10 +79,6 @@ record Behind (k : TokenKind) (bytes : Text) (ks : List TokenKind) : Type 0 wher
   cut : IsCut bytes characters ks
   ends : Ends k characters
 
-printed_is : (x : Printed) → printed_text x ≡ gap x.close ++ token_text x.kind
-unfolding printed_text
-printed_is x = refl
-
 token_behind : (close : Bool) (j k : TokenKind) (bytes : Text) (ks : List TokenKind) → (close ≡ true → IsTrue (stay_apart j k)) → Written k → Behind k bytes ks → Behind j ((gap close ++ token_text k) ++ bytes) (k ∷ ks)
 token_behind true j k bytes ks p w b = record {
   characters = w.characters ++ b.characters;
@@ -100,7 +97,7 @@ behind_as k bytes bytes' ks e b = let P : Text → Type 0 = λ x. Behind k x ks 
 tokens_behind : (k : TokenKind) (xs : List Printed) (bytes : Text) (ks : List TokenKind) → PartFrom k xs → Every CanSpell (kinds xs) → ((j : TokenKind) → Behind j bytes ks) → Behind k (tokens_text xs ++ bytes) (kinds xs ++ ks)
 tokens_behind k [] bytes ks p c b = b k
 tokens_behind k (x ∷ xs) bytes ks p c b =
-    behind_as k _ _ _ (sym (append_assoc (printed_text x) (tokens_text xs) bytes ∙ ap (λ y. y ++ (tokens_text xs ++ bytes)) (printed_is x)))
+    behind_as k _ _ _ (sym (append_assoc (printed_text x) (tokens_text xs) bytes ∙ ap (λ y. y ++ (tokens_text xs ++ bytes)) (printed-is x)))
     (token_behind x.close k x.kind (tokens_text xs ++ bytes) (kinds xs ++ ks) p.0 (written x.kind c.0) (tokens_behind x.kind xs bytes ks p.1 c.1 b))
 
 -- ---- a line
@@ -121,7 +118,7 @@ whole_as bytes bytes' ks e w = let P : Text → Type 0 = λ x. Whole x ks in sub
 line_whole : (xs : List Printed) (bytes : Text) (ks : List TokenKind) → ArePart xs → Every CanSpell (kinds xs) → Whole bytes ks → Whole (tokens_text xs ++ 10 ∷ bytes) (kinds xs ++ ks)
 line_whole [] bytes ks p c w = (10 ∷ w.0, cut_feed bytes w.0 ks w.1)
 line_whole (x ∷ xs) bytes ks p c w =
-    whole_as _ _ _ (sym (append_assoc (printed_text x) (tokens_text xs) (10 ∷ bytes) ∙ ap (λ y. y ++ (tokens_text xs ++ 10 ∷ bytes)) (printed_is x)))
+    whole_as _ _ _ (sym (append_assoc (printed_text x) (tokens_text xs) (10 ∷ bytes) ∙ ap (λ y. y ++ (tokens_text xs ++ 10 ∷ bytes)) (printed-is x)))
     (token_whole x.close x.kind (tokens_text xs ++ 10 ∷ bytes) (kinds xs ++ ks) (written x.kind c.0) (tokens_behind x.kind xs (10 ∷ bytes) ks p c.1 (feed_behind bytes ks w)))
 
 indent_whole : (s bytes : Text) (ks : List TokenKind) → Each is_space s → Whole bytes ks → Whole (s ++ bytes) ks

@@ -1,6 +1,6 @@
 -- A text between quotes, as the layout writes it, is read as that text.
 use Rattle.std.proofs.Common.{◌≡◌, ℕ, suc, ◌<◌, ◌≤◌, Bool, true, false, ◌&&◌, ◌==◌, if◌then◌else◌, IsTrue, List, [], ◌∷◌, ◌++◌, length, get_or, refl, sym, ap, ◌∙◌, subst, append_assoc, append-nil, eqb-true, lit<, arith, ◌⊎◌, inl, inr}
-use Rattle.std.proofs.lemmas.Bool.{cases_lt}
+use Rattle.std.proofs.lemmas.Bool.{cases_lt, and_parts}
 use Rattle.std.specs.Char.{encode_utf8, IsScalar}
 use Rattle.std.specs.Str.{encode_utf8_all, all_scalars}
 use Rattle.std.proofs.lemmas.Str.{encodes-append, encode_ascii, inside_one}
@@ -8,7 +8,7 @@ use Rattle.ae_text.specs.declared.texts.Part.{Part}
 use Rattle.ae_text.specs.declared.texts.Part.TheVariants.{Plain, Escape}
 use Rattle.ae_text.specs.Tokens.{Text, in_text, escape_meaning, parts_text, AreParts, AreKnownEscapes, parts_meaning, IsQuoted}
 use Rattle.ae_layout.specs.Spelling.{escaped_byte as written_byte, all_escaped}
-use Rattle.ae_text.proofs.TextLemmas.{spelled-append, parts-append}
+use Rattle.ae_layout.proofs.from_text.TextLemmas.{spelled-append, parts-append}
 
 -- ---- one character
 
@@ -45,13 +45,9 @@ itself_in_text c e g h = rw (e, g, h) refl
 
 -- ---- characters and bytes
 
-both_true : (a b : Bool) → (a && b) ≡ true → (a ≡ true) × (b ≡ true)
-both_true true b e = (refl, e)
-both_true false b e = absurd (cc)
-
 pub scalars-append : (cs ds : Text) → all_scalars cs ≡ true → all_scalars ds ≡ true → all_scalars (cs ++ ds) ≡ true
 scalars-append [] ds m n = n
-scalars-append (c ∷ cs) ds m n = let p = both_true _ (all_scalars cs) m in rw p.0 (scalars-append cs ds p.1 n)
+scalars-append (c ∷ cs) ds m n = let p = and_parts _ (all_scalars cs) m in rw p.0 (scalars-append cs ds p.1 n)
 
 scalar_one : (c : ℕ) → IsScalar c → all_scalars (c ∷ []) ≡ true
 scalar_one c h = rw h refl
@@ -154,7 +150,7 @@ parts_mean (c ∷ cs) = meant_more (part_of c) (parts_of cs) ∙ ap (λ x. x ++ 
 parts_scalars : (cs : Text) → all_scalars cs ≡ true → all_scalars (parts_text (parts_of cs)) ≡ true
 parts_scalars [] h = refl
 parts_scalars (c ∷ cs) h =
-    let p = both_true _ (all_scalars cs) h in
+    let p = and_parts _ (all_scalars cs) h in
     let P : Text → Type 0 = λ x. all_scalars x ≡ true in
     subst P (sym (spelled-append (part_of c ∷ []) (parts_of cs))) (scalars-append (parts_text (part_of c ∷ [])) (parts_text (parts_of cs)) ((fits c).scalars p.0) (parts_scalars cs p.1))
 
@@ -162,8 +158,8 @@ parts_scalars (c ∷ cs) h =
 
 meant_scalars : (ps : List Part) → all_scalars (parts_text ps) ≡ true → AreKnownEscapes ps → all_scalars (parts_meaning ps) ≡ true
 meant_scalars [] h k = refl
-meant_scalars (Plain c ∷ ps) h k = let p = both_true _ (all_scalars (parts_text ps)) h in rw p.0 (meant_scalars ps p.1 k)
-meant_scalars (Escape c ∷ ps) h k = let p = both_true _ (all_scalars (parts_text ps)) h in scalars-append (escape_meaning c ∷ []) (parts_meaning ps) (scalar_one (escape_meaning c) (by_test (c == 110) (c == 116) p.0)) (meant_scalars ps p.1 k.1)
+meant_scalars (Plain c ∷ ps) h k = let p = and_parts _ (all_scalars (parts_text ps)) h in rw p.0 (meant_scalars ps p.1 k)
+meant_scalars (Escape c ∷ ps) h k = let p = and_parts _ (all_scalars (parts_text ps)) h in scalars-append (escape_meaning c ∷ []) (parts_meaning ps) (scalar_one (escape_meaning c) (by_test (c == 110) (c == 116) p.0)) (meant_scalars ps p.1 k.1)
   where
     by_test : (m n : Bool) → IsScalar c → IsScalar (if m then 10 else (if n then 9 else c))
     by_test true n h = refl
@@ -172,7 +168,7 @@ meant_scalars (Escape c ∷ ps) h k = let p = both_true _ (all_scalars (parts_te
 
 inner_scalars : (s : Text) → all_scalars (s ++ 34 ∷ []) ≡ true → all_scalars s ≡ true
 inner_scalars [] h = refl
-inner_scalars (c ∷ s) h = let p = both_true _ (all_scalars (s ++ 34 ∷ [])) h in rw p.0 (inner_scalars s p.1)
+inner_scalars (c ∷ s) h = let p = and_parts _ (all_scalars (s ++ 34 ∷ [])) h in rw p.0 (inner_scalars s p.1)
 
 -- ---- the text as the layout writes it
 

@@ -11,16 +11,13 @@ use Rattle.ae_layout.specs.Layout.{program_rows, layout}
 use Rattle.ae_layout.specs.Rows.{Every, CanSpell, kinds_of, Spellable, LexesAs}
 use Rattle.ae_layout.proofs.Cut.{kinds_in, tokens_kinds, rows_lex}
 use Rattle.ae_layout.proofs.Forms.{program_spelled}
-
-both_true : (a b : Bool) → (a && b) ≡ true → (a ≡ true) × (b ≡ true)
-both_true true b e = (refl, e)
-both_true false b e = absurd (cc)
+use Rattle.std.proofs.lemmas.Bool.{and_parts}
 
 -- characters end to end: those of each part
 scalars_parts : (s r : Text) → all_scalars (s ++ r) ≡ true → (all_scalars s ≡ true) × (all_scalars r ≡ true)
 scalars_parts [] r h = (refl, h)
 scalars_parts (c ∷ s) r h =
-    let p = both_true _ (all_scalars (s ++ r)) h in
+    let p = and_parts _ (all_scalars (s ++ r)) h in
     let q = scalars_parts s r p.1 in
     (rw p.0 q.0, q.1)
 

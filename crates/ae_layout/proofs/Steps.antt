@@ -22,9 +22,6 @@ then_tokens o0 o1 o2 xs ys p q = q ∙ ap (λ s. s ++ tokens_text ys) p ∙ appe
 pub token_then : (o0 o1 o2 : Text) (x : Printed) (ys : List Printed) → o1 ≡ o0 ++ printed_text x → o2 ≡ o1 ++ tokens_text ys → o2 ≡ o0 ++ tokens_text (x ∷ ys)
 token_then o0 o1 o2 x ys p q = q ∙ ap (λ s. s ++ tokens_text ys) p ∙ append_assoc o0 (printed_text x) (tokens_text ys)
 
-pub then_rows : (o0 o1 o2 : Text) (xs ys : List Row) → o1 ≡ o0 ++ rows_text xs → o2 ≡ o1 ++ rows_text ys → o2 ≡ o0 ++ rows_text (xs ++ ys)
-then_rows o0 o1 o2 xs ys p q = q ∙ ap (λ s. s ++ rows_text ys) p ∙ append_assoc o0 (rows_text xs) (rows_text ys) ∙ ap (λ s. o0 ++ s) (sym (rows_text-append xs ys))
-
 -- one more item behind a comma
 pub commas_step : {A : Type 0} (f : A → List Printed) (xs : List A) (i : ℕ) (x : A) (whole o1 o2 o3 : Text) → i < length xs → x ≡ get_or xs i x → whole ≡ o1 ++ tokens_text (after_commas f (drop i xs)) → o2 ≡ o1 ++ printed_text (near (t.Sign sign.Comma)) → o3 ≡ o2 ++ tokens_text (f x) → whole ≡ o3 ++ tokens_text (after_commas f (drop (i + 1) xs))
 commas_step f xs i x whole o1 o2 o3 lt is h p q =

@@ -10,10 +10,11 @@ use Rattle.ae_text.specs.declared.token.Sign.TheVariants as sign
 use Rattle.ae_text.specs.declared.token.TokenKind.{TokenKind}
 use Rattle.ae_text.specs.declared.token.TokenKind.TheVariants as t
 use Rattle.ae_text.specs.Tokens.{Text, Each, is_digit, sign_text, IsNumber, digits_value, value_from, parts_meaning, IsQuoted, Spells, IsInRange}
-use Rattle.ae_text.proofs.SpellingLemmas.{keyword_same}
+use Rattle.ae_layout.proofs.from_text.SpellingLemmas.{keyword_same}
 use Rattle.ae_layout.specs.Spelling.{token_text}
 use Rattle.ae_layout.specs.Rows.{CanSpell}
 use Rattle.ae_layout.proofs.Escapes.{quoted, quoted_bytes, quoted_is, quoted_scalars, value_scalars}
+use Rattle.std.proofs.lemmas.Bool.{and_parts}
 
 -- the characters of a token's canonical spelling
 pub record Written (k : TokenKind) : Type 0 where
@@ -93,14 +94,10 @@ sign_ascii sign.Not = refl
 sign_ascii sign.AndAnd = refl
 sign_ascii sign.OrOr = refl
 
-both_true : (a b : Bool) → (a && b) ≡ true → (a ≡ true) × (b ≡ true)
-both_true true b e = (refl, e)
-both_true false b e = absurd (cc)
-
 ascii_same : (s : Text) → ascii_text s ≡ true → encode_utf8_all s ≡ s
 ascii_same [] e = refl
 ascii_same (c ∷ cs) e =
-    let p = both_true (nat_lt c 128) (ascii_text cs) e in
+    let p = and_parts (nat_lt c 128) (ascii_text cs) e in
     ap (λ x. x ++ encode_utf8_all cs) (encode_ascii c (low c p.0)) ∙ ap (λ x. c ∷ x) (ascii_same cs p.1)
   where
     low : (c : ℕ) → nat_lt c 128 ≡ true → c < 128

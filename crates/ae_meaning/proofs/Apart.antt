@@ -9,26 +9,14 @@ use Rattle.ae_tree.specs.Names.{io}
 use Rattle.ae_rules.specs.BuiltUses.{use_of}
 use Rattle.ae_rules.specs.Edges.{are_compatible, is_strong, IsConflict, IsWeak}
 use Rattle.ae_meaning.specs.Frame.{Apart}
-use Rattle.ae_meaning.proofs.Effects.{one_of}
-
--- Write and GroupWhole go with no use
-strong_conflicts : (m n : Mode) → is_strong m ≡ true → are_compatible m n ≡ false
-strong_conflicts Read n h = absurd (cc)
-strong_conflicts Write Read h = refl
-strong_conflicts Write Write h = refl
-strong_conflicts Write GroupShared h = refl
-strong_conflicts Write GroupWhole h = refl
-strong_conflicts GroupShared n h = absurd (cc)
-strong_conflicts GroupWhole Read h = refl
-strong_conflicts GroupWhole Write h = refl
-strong_conflicts GroupWhole GroupShared h = refl
-strong_conflicts GroupWhole GroupWhole h = refl
+use Rattle.std.proofs.lemmas.Bool.{false_from_ne_true}
+use Rattle.ae_meaning.proofs.from_rules.EdgeLemmas.{strong_before}
 
 -- what goes with a use of another is weak
 weak_beside : (o p : Option Mode) → (IsConflict o p → ⊥) → IsSome p → IsWeak o
 weak_beside None p h u = tt
 weak_beside (Some m) None h u = absurd (cc)
-weak_beside (Some m) (Some n) h u = one_of (is_strong m) (λ t. h (strong_conflicts m n t))
+weak_beside (Some m) (Some n) h u = false_from_ne_true (is_strong m) (λ t. h (strong_before m n t))
 
 -- a local that one of them uses the other does not write
 pub unwritten : (a b : Action) → Apart a b → (y : ℕ) → IsSome (use_of b (Local y)) → IsWeak (use_of a (Local y))
@@ -65,7 +53,7 @@ conflict_of : (m n : Mode) → are_compatible m n ≡ false → (o p : Option Mo
 conflict_of m n c o p h k = rw (h, k) c
 
 names_differ : (x y : ℕ) → (x ≡ y → ⊥) → nat_eq x y ≡ false
-names_differ x y h = one_of (nat_eq x y) (λ t. h (let e : x ≡ y = grind (arith, nat_tests) in e))
+names_differ x y h = false_from_ne_true (nat_eq x y) (λ t. h (let e : x ≡ y = grind (arith, nat_tests) in e))
 
 -- two statements that are apart do not write the same local
 pub two_names : (a b : Action) → Apart a b → (x y : ℕ) → use_of a (Local x) ≡ Some Write → use_of b (Local y) ≡ Some Write → nat_eq x y ≡ false

@@ -17,35 +17,19 @@ use Rattle.ae_meaning.specs.Meaning.{TodayState, Run, Went, Ends, Stops, today_g
 use Rattle.ae_meaning.specs.Running.{sought}
 use Rattle.ae_meaning.specs.Frame.{is_read}
 use Rattle.ae_meaning.proofs.Rules.{right-given}
-
-pub or_left : (a b : Bool) → a ≡ true → (a || b) ≡ true
-or_left true b h = refl
-or_left false b h = absurd (cc)
-
-pub or_right : (a b : Bool) → b ≡ true → (a || b) ≡ true
-or_right true b h = refl
-or_right false b h = h
-
-pub one_of : (b : Bool) → (b ≡ true → ⊥) → b ≡ false
-one_of true h = absurd (h refl)
-one_of false h = refl
-
-pub nat_eq_self : (x : ℕ) → nat_eq x x ≡ true
-nat_eq_self x = grind (arith, nat_tests)
+use Rattle.ae_meaning.proofs.from_text.Basics.{number_is_itself}
+use Rattle.std.proofs.lemmas.Bool.{or_right, or_left}
 
 -- two environments are the same where a test holds
 abbrev pub SameOn : (ℕ → Bool) → Env → Env → Type 0
 SameOn u e f = (y : ℕ) → u y ≡ true → e y ≡ f y
-
-stepped_same : (steps : List NameAt) (o p : TodayOutcome) → o ≡ p → stepped steps o ≡ stepped steps p
-stepped_same steps o p q = ap (stepped steps) q
 
 -- an expression's value is told by what it reads
 pub value_same : (a : Expression) (e f : Env) → SameOn (reads_local a) e f → today_value a e ≡ today_value a f
 value_same (Number n at) e f h = refl
 value_same (Truth b at) e f h = refl
 value_same (Nothing at) e f h = refl
-value_same (Read p) e f h = ap (λ o. stepped p.steps (today_found o)) (h p.root.name (nat_eq_self p.root.name))
+value_same (Read p) e f h = ap (λ o. stepped p.steps (today_found o)) (h p.root.name (number_is_itself p.root.name))
 value_same (Item p a) e f h = refl
 value_same (Length p at) e f h = refl
 value_same (Grouped a at) e f h = value_same a e f h
@@ -180,7 +164,7 @@ doing_allowed a (Traps code) does h = tt
 doing_allowed a Lacks does h = tt
 
 written : (x : ℕ) (e : RightSide) → (if nat_eq x x then Some Write else read_if (reads_right e x)) ≡ Some Write
-written x e = ap (λ b. if b then Some Write else read_if (reads_right e x)) (nat_eq_self x)
+written x e = ap (λ b. if b then Some Write else read_if (reads_right e x)) (number_is_itself x)
 
 pub allowed : (a : Action) (env : Env) → Allowed a (effect a env)
 allowed (Declares ty x e) env = doing_allowed (Declares ty x e) (sought e env) (Binds x.name) (λ v. written x.name e)

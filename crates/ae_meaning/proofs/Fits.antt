@@ -195,7 +195,7 @@ held_alone : (v : Verdict) → IsHeld (then_judge v (λ _. Holds nobody)) → Is
 held_alone (Holds scope) h = tt
 held_alone (Broken rule at) h = absurd h
 
-main_is : (m : Definition) → m.class ≡ None → m.name.name ≡ main → main_body (m ∷ []) ≡ m.body
+pub main_is : (m : Definition) → m.class ≡ None → m.name.name ≡ main → main_body (m ∷ []) ≡ m.body
 main_is m c n = rw (c, n) refl
 
 -- an accepted program has an ending

@@ -12,9 +12,9 @@ use Rattle.ae_meaning.specs.Values.{Env, today_with}
 use Rattle.ae_meaning.specs.Meaning.{TodayState, Run, Went, Ends, Stops, bound, today_one}
 use Rattle.ae_meaning.specs.declared.report.Ending.TheVariants.{Trap}
 use Rattle.ae_meaning.specs.Frame.{View, Agree, AgreeAfter, DependsOnReads, ReadsItsUses, KeepsUnwritten, ChangesItsWrites, behind_bytes, AddsToTheLog, Apart, Commute, ApartCommute}
-use Rattle.ae_meaning.proofs.Names.{same}
 use Rattle.ae_meaning.proofs.Effects.{SameOn, Effect, Binds, Adds, Fails, Halts, added, perform, effect, performs, effect_read, effect_same, Allowed, allowed}
 use Rattle.ae_meaning.proofs.Apart.{unwritten, apart-turned, two_names, both_print, not_weak, weak_name}
+use Rattle.ae_meaning.proofs.from_text.Basics.{functions_agree}
 
 -- one effect on two states that agree
 with_agrees : (u : ℕ → Bool) (x : ℕ) (v : ℤ) (e f : Env) → SameOn u e f → SameOn u (today_with x v e) (today_with x v f)
@@ -74,7 +74,7 @@ effects_commute : (at1 at2 : Spot) (a b : Action) → Apart a b → (k l : Effec
 effects_commute at1 at2 a b p (Binds x v) (Binds y w) k l s f g m n = (
   bound y w (bound x v s),
   m (bound x v s) refl,
-  n (bound y w s) refl ∙ ap (λ (e : Env). Went (record { env = e; log = s.log })) (same (today_with x v (today_with y w s.env)) (today_with y w (today_with x v s.env)) (with_swaps x y v w s.env (two_names a b p x y k l))),
+  n (bound y w s) refl ∙ ap (λ (e : Env). Went (record { env = e; log = s.log })) (functions_agree (today_with x v (today_with y w s.env)) (today_with y w (today_with x v s.env)) (with_swaps x y v w s.env (two_names a b p x y k l))),
 )
 effects_commute at1 at2 a b p (Binds x v) (Adds more) k l s f g m n = (added more (bound x v s), m (bound x v s) refl, n (added more s) refl)
 effects_commute at1 at2 a b p (Binds x v) (Fails code) k l s f g m n = m (bound x v s) refl

@@ -4,9 +4,7 @@ use Rattle.std.proofs.lemmas.List.{get_or_past}
 use Rattle.std.proofs.lemmas.Grind.{common_steps}
 use Rattle.std.proofs.lemmas.Bool.Decides.{nat_tests}
 use Rattle.ae_meaning.specs.Values.{Env, today_with}
-
-pub same : {A B : Type 0} (f g : A → B) → ((x : A) → f x ≡ g x) → f ≡ g
-same f g h = λ i. λ x. h x i
+use Rattle.ae_meaning.proofs.from_text.Basics.{functions_agree}
 
 abbrev pub at : List (Option ℤ) → Env
 at vs y = get_or vs y None
@@ -22,11 +20,11 @@ pub grown : (old new : List (Option ℤ)) (n : ℕ) → length new ≡ n → len
     → ((k : ℕ) (d : Option ℤ) → k < n → k < length old → get_or new k d ≡ get_or old k d)
     → ((k : ℕ) (d : Option ℤ) → length old ≤ k → k < n → get_or new k d ≡ None)
     → at new ≡ at old
-grown old new n l m h1 h2 = same (at new) (at old) (λ y. grown_at old new n l h1 h2 y m)
+grown old new n l m h1 h2 = functions_agree (at new) (at old) (λ y. grown_at old new n l h1 h2 y m)
 
 put_at : (vs : List (Option ℤ)) (x : ℕ) (v : ℤ) → x < length vs → (y : ℕ) → get_or (set vs x (Some v)) y None ≡ today_with x v (at vs) y
 put_at vs x v h y = grind (arith, nat_tests, common_steps)
 
 -- a place that is written
 pub put : (vs : List (Option ℤ)) (x : ℕ) (w v : ℤ) → x < length vs → w ≡ v → at (set vs x (Some w)) ≡ today_with x v (at vs)
-put vs x w v h e = ap (λ u. at (set vs x (Some u))) e ∙ same (at (set vs x (Some v))) (today_with x v (at vs)) (put_at vs x v h)
+put vs x w v h e = ap (λ u. at (set vs x (Some u))) e ∙ functions_agree (at (set vs x (Some v))) (today_with x v (at vs)) (put_at vs x v h)

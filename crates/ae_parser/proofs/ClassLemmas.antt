@@ -18,10 +18,10 @@ use Rattle.ae_tree.specs.Grammar.{Tokens, one_by_one, name, groups, type_, field
 use Rattle.ae_tree.specs.Limits.{KeepsMethod}
 use Rattle.ae_reading.specs.declared.fail.Fail.{Fail}
 use Rattle.ae_reading.specs.Reads.{head, Always, Is, Isnt, Free, IsWithinAll, Took, Failed, TokenMark}
-use Rattle.ae_reading.proofs.ReadsLemmas.{Lang, Bound, Follow, Links, Both, Pair, Has, Along, took_as, failed_as, has_mark, has_both, has_name}
-use Rattle.ae_reading.proofs.Begins.{begins_both, begins_not, opens_one, opens_isnt, is_isnt}
-use Rattle.ae_reading.proofs.Runs.{Run, run_start, run_more, run_end, run_failed}
-use Rattle.ae_reading.proofs.TypeLemmas.{has_groups}
+use Rattle.ae_parser.proofs.from_reading.ReadsLemmas.{Lang, Bound, Follow, Links, Both, Pair, Has, Along, took_as, failed_as, has_mark, has_both, has_name}
+use Rattle.ae_parser.proofs.from_reading.Begins.{begins_both, begins_not, opens_one, opens_isnt, is_isnt}
+use Rattle.ae_parser.proofs.from_reading.Runs.{Run, run_start, run_more, run_end, run_failed}
+use Rattle.ae_parser.proofs.from_reading.TypeLemmas.{has_groups}
 use Rattle.ae_parser.specs.Productions.{BeginsType, NoType, AllMethodsKeep, KeepsOne, class_behind}
 use Rattle.ae_parser.proofs.ParamLemmas.{begins_type, no_type}
 use Rattle.ae_parser.proofs.MethodLemmas.{method_begins}
@@ -138,9 +138,6 @@ pub record Numbered (first count : ℕ) (numbers : List ℕ) (next left : ℕ) :
   pub all : numbers_from first count ≡ numbers ++ numbers_from next left
   pub total : next + left ≡ first + count
 
-pub numbered_start : (first count : ℕ) (numbers : List ℕ) → numbers ≡ [] → Numbered first count numbers first count
-numbered_start first count numbers e = record { all = ap (λ (l : List ℕ). l ++ numbers_from first count) (sym e); total = refl }
-
 next_number : (n : ℕ) → 0 < n → (m : ℕ) × (n ≡ m + 1)
 next_number zero less = absurd (omega (arith, less))
 next_number (suc n) less = (n, omega arith)
@@ -157,13 +154,6 @@ numbered_more first count numbers more next left left' some is e n = record {
     append_one : (a : List ℕ) (x : ℕ) (b : List ℕ) → (a ++ x ∷ []) ++ b ≡ a ++ x ∷ b
     append_one [] x b = refl
     append_one (y ∷ a) x b = ap (λ (l : List ℕ). y ∷ l) (append_one a x b)
-
-pub numbered_end : (first count : ℕ) (numbers : List ℕ) (next left : ℕ) → left ≡ 0 → Numbered first count numbers next left → numbers ≡ numbers_from first count
-numbered_end first count numbers next left none n = sym (n.all ∙ ap (λ (k : ℕ). numbers ++ numbers_from next k) none ∙ nothing numbers)
-  where
-    nothing : (a : List ℕ) → a ++ [] ≡ a
-    nothing [] = refl
-    nothing (x ∷ a) = ap (λ (l : List ℕ). x ∷ l) (nothing a)
 
 -- ---- a class
 

@@ -16,10 +16,10 @@ use Rattle.ae_tree.specs.Grammar.{Tokens, method, Declaration, OfClass, OfMethod
 use Rattle.ae_tree.specs.Limits.{KeepsMethod}
 use Rattle.ae_reading.specs.declared.fail.Fail.{Fail}
 use Rattle.ae_reading.specs.Reads.{head, Always, Is, Free, Took, Failed, TokenMark, chain, state_after}
-use Rattle.ae_reading.proofs.ReadsLemmas.{Lang, Follow, Links, Both, Pair, Along, NoneAt, took_as, failed_as, has_mark, first}
-use Rattle.ae_reading.proofs.Chains.{Chain, after-append, chain_start, chain_more, chain_end, chain_failed}
-use Rattle.ae_reading.proofs.Begins.{opens_so, opens_one, opens_mark, opens_is, opens_other}
-use Rattle.ae_reading.proofs.Programs.{Counts2, counted, one_of, to_all, from_all}
+use Rattle.ae_parser.proofs.from_reading.ReadsLemmas.{Lang, Follow, Links, Both, Pair, Along, NoneAt, took_as, failed_as, has_mark, first}
+use Rattle.ae_parser.proofs.from_reading.Chains.{Chain, after-append, chain_start, chain_more, chain_end, chain_failed}
+use Rattle.ae_parser.proofs.from_reading.Begins.{opens_so, opens_one, opens_mark, opens_is, opens_other}
+use Rattle.ae_parser.proofs.from_reading.Programs.{Counts2, counted, one_of, to_all, from_all}
 use Rattle.ae_parser.specs.declared.classes.WithMethods.{WithMethods}
 use Rattle.ae_parser.specs.declared.declarations.Parts.{Parts}
 use Rattle.ae_parser.specs.Reading.{whole_program, KeepsAll, KeepsAllWhole, HasRead, ReadsAll}

@@ -1,3 +1,7 @@
+-- The lemmas of the crates below that this one goes by, and its own.
+pub use Rattle.ae_reading.proofs as from_reading
+pub use Rattle.ae_statements.proofs as from_statements
+pub use Rattle.ae_tree.proofs as from_tree
 pub mod NumberLemmas
 pub mod NamesLemmas
 pub mod ProgramLemmas

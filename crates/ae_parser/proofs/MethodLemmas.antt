@@ -17,11 +17,11 @@ use Rattle.ae_tree.specs.Grammar.{Tokens, Then, ◌⨾◌, one_token, separated,
 use Rattle.ae_tree.specs.Limits.{KeepsBlock, HasFewParams, KeepsMethod}
 use Rattle.ae_reading.specs.declared.fail.Fail.{Fail}
 use Rattle.ae_reading.specs.Reads.{head, Always, Is, Free, Took, Failed, TokenMark, Isnt}
-use Rattle.ae_reading.proofs.ReadsLemmas.{Lang, Bound, Follow, Links, Both, Pair, Has, Along, took_as, failed_as, has_mark, has_both, has_name, at_once, nowhere, When, took_nothing}
-use Rattle.ae_reading.proofs.Begins.{not_both, opens_so, Opens, opens_one, opens_mark, opens_is, opens_other, of_other}
-use Rattle.ae_reading.proofs.Programs.{method_is}
-use Rattle.ae_statements.proofs.BlockLemmas.{none_few}
-use Rattle.ae_reading.proofs.TypeLemmas.{NoLess, has_groups}
+use Rattle.ae_parser.proofs.from_reading.ReadsLemmas.{Lang, Bound, Follow, Links, Both, Pair, Has, Along, took_as, failed_as, has_mark, has_both, has_name, at_once, nowhere, When, took_nothing}
+use Rattle.ae_parser.proofs.from_reading.Begins.{not_both, opens_so, Opens, opens_one, opens_mark, opens_is, opens_other, of_other}
+use Rattle.ae_parser.proofs.from_reading.Programs.{method_is}
+use Rattle.ae_parser.proofs.from_statements.BlockLemmas.{none_few}
+use Rattle.ae_parser.proofs.from_reading.TypeLemmas.{NoLess, has_groups}
 use Rattle.ae_parser.specs.declared.params.Given.{Given}
 use Rattle.ae_parser.specs.Productions.{BeginsType, HasMe, given_to_method, FewGiven, need_by, some_needs}
 use Rattle.ae_parser.proofs.ParamLemmas.{begins_type, no_type, has_given}

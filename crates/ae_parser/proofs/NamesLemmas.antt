@@ -14,22 +14,12 @@ use Rattle.ae_tree.specs.declared.lexeme.Lexeme.{Lexeme}
 use Rattle.ae_tree.specs.Names.{spelled_before, spellings, first_names, names_of, name_number, lexical, lexeme, numbered}
 use Rattle.ae_tree.specs.Grammar.{Tokens}
 use Rattle.ae_tree.specs.Refused.{IsKnown, AreSpellable}
+use Rattle.ae_parser.proofs.from_tree.BelowLemmas.{all_more}
 
 abbrev pub Words : Type 0
 Words = List (List ℕ)
 
 -- ---- what is inserted comes last
-
-cond_more : (b : Bool) (ks : Words) (s : List ℕ) → (more : Words) × (cond b ks (ks ++ s ∷ []) ≡ ks ++ more)
-cond_more true ks s = ([], sym (append-nil ks))
-cond_more false ks s = (s ∷ [], refl)
-
-insert_more : (xs ks : Words) → (more : Words) × (insert_all bytes_eq ks xs ≡ ks ++ more)
-insert_more [] ks = ([], sym (append-nil ks))
-insert_more (s ∷ xs) ks =
-    let a = cond_more (list_any (bytes_eq s) ks) ks s in
-    let b = insert_more xs (insert_key bytes_eq ks s) in
-    (a.0 ++ b.0, b.1 ∙ ap (λ l. l ++ b.0) a.1 ∙ append_assoc ks a.0 b.0)
 
 -- ---- names that are there
 
@@ -86,7 +76,7 @@ AreIn names (t ∷ ts) = IsIn names t.kind × AreIn names ts
 
 has_still : (ks xs : Words) (s : List ℕ) → Has ks s → Has (insert_all bytes_eq ks xs) s
 has_still ks xs s h =
-    let m = insert_more xs ks in
+    let m = all_more xs ks in
     let P : Words → Type 0 = λ l. Has l s in
     subst P (sym m.1) (has_more ks m.0 s h)
 
@@ -136,7 +126,7 @@ names-append a b = ap (insert_all bytes_eq first_names) (spellings-append a b) �
 -- what comes behind changes no number
 pub numbered_before : (a b : List Token) → numbered (names_of (a ++ b)) a ≡ numbered (names_of a) a
 numbered_before a b =
-    let m = insert_more (spellings b) (names_of a) in
+    let m = all_more (spellings b) (names_of a) in
     ap (λ names. numbered names a) (names-append a b ∙ m.1) ∙ numbered_more (names_of a) m.0 a (tokens_in a first_names)
 
 abbrev pub lexemes_of : List Token → Tokens
@@ -167,7 +157,7 @@ abbrev pub tokens_of : Tokens → List Token
 tokens_of ls = map token_of ls
 
 io_first : (ts : List Token) → name_number (names_of ts) (codes "io") ≡ 0
-io_first ts = let m = insert_more (spellings ts) first_names in ap (λ names. name_number names (codes "io")) m.1
+io_first ts = let m = all_more (spellings ts) first_names in ap (λ names. name_number names (codes "io")) m.1
 
 kind_again : (names : Words) (l : Lexical) → name_number names (codes "io") ≡ 0 → IsKnown l → lexical names (kind_of l) ≡ l
 kind_again names (tok.Name n) io h = ap tok.Name (io ∙ sym h)

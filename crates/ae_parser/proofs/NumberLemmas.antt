@@ -32,21 +32,6 @@ inserted eq same old new s e =
     ap slices_bytes e ∙ bytes_cond (list_any (eq s) old) old (old ++ s ∷ [])
     ∙ ap₂ (λ b l. cond b (slices_bytes old) l) (any_same eq same s old) (map-append (λ (slice : Bor (List ℕ)). slice.now) old (s ∷ []))
 
--- one token more
-pub spelled_first : (names : List (List ℕ)) (kind : TokenKind) (rest : List (List ℕ)) → insert_all bytes_eq (insert_all bytes_eq names (spelled_before kind [])) rest ≡ insert_all bytes_eq names (spelled_before kind rest)
-spelled_first names (k.Name s) rest = refl
-spelled_first names (k.Int n) rest = refl
-spelled_first names (k.Text s) rest = refl
-spelled_first names (k.Word w) rest = refl
-spelled_first names (k.Sign g) rest = refl
-spelled_first names k.End rest = refl
-
-pub spelled_next : (old new : Slices) (t : Token) (rest all : List Token) → rest ≡ t ∷ all → slices_bytes new ≡ insert_all bytes_eq (slices_bytes old) (spelled_before t.kind []) →
-    insert_all bytes_eq (slices_bytes new) (spellings all) ≡ insert_all bytes_eq (slices_bytes old) (spellings rest)
-spelled_next old new t rest all e n =
-    ap (λ names. insert_all bytes_eq names (spellings all)) n ∙ spelled_first (slices_bytes old) t.kind (spellings all)
-    ∙ ap (λ l. insert_all bytes_eq (slices_bytes old) (spellings l)) (sym e)
-
 pub position_same : (eq : Bor (List ℕ) → Bool) (s : List ℕ) → ((b : Bor (List ℕ)) → eq b ≡ bytes_eq s b.now) → (ks : Slices) → position_or_len eq ks ≡ name_number (slices_bytes ks) s
 position_same eq s same [] = refl
 position_same eq s same (x ∷ ks) = ap₂ (λ b n. cond (not b) (1 + n) 0) (same x) (position_same eq s same ks)

@@ -24,11 +24,11 @@ use Rattle.ae_reading.specs.declared.fail.Fail.TheVariants.{Refused, Memory}
 use Rattle.ae_reading.specs.declared.fail.Why.{Why}
 use Rattle.ae_reading.specs.declared.fail.Why.TheVariants.{Unexpected, Over}
 use Rattle.ae_reading.specs.Reads.{head, Always, Is, Isnt, Free, IsWithinAll, IsNearlyWithin, Counts, Beyond, Larger, Took, Stopped, Failed, Token, TokenMark}
-use Rattle.ae_reading.proofs.ReadsLemmas.{AreKnown-append, Lang, Bound, Follow, Links, Both, Pair, Has, Along, NoneAt, NoEnd-append, took_as, failed_as, has_token, has_both, has_name, io_name, nowhere, at_once, When, took_nothing}
-use Rattle.ae_reading.proofs.Parts.{Commas, Parted, commas_go_on, no_comma, took_further, commas_link}
-use Rattle.ae_reading.proofs.Begins.{not_both, of_other, opens_so, begins_both, begins_not, Opens, opens_one, opens_at, opens_mark, opens_first, opens_other, opens_isnt, is_isnt}
-use Rattle.ae_reading.proofs.Runs.{each_chain, chain_each, has_none, Run, each-append, each-one, run_start, run_more, run_end, run_failed}
-use Rattle.ae_reading.proofs.TypeLemmas.{NoLess, perm_word, begins_permission, has_type, has_permission}
+use Rattle.ae_parser.proofs.from_reading.ReadsLemmas.{AreKnown-append, Lang, Bound, Follow, Links, Both, Pair, Has, Along, NoneAt, NoEnd-append, took_as, failed_as, has_token, has_both, has_name, io_name, nowhere, at_once, When, took_nothing}
+use Rattle.ae_parser.proofs.from_reading.Parts.{Commas, Parted, commas_go_on, no_comma, took_further, commas_link}
+use Rattle.ae_parser.proofs.from_reading.Begins.{not_both, of_other, opens_so, begins_both, begins_not, Opens, opens_one, opens_at, opens_mark, opens_first, opens_other, opens_isnt, is_isnt}
+use Rattle.ae_parser.proofs.from_reading.Runs.{each_chain, chain_each, has_none, Run, each-append, each-one, run_start, run_more, run_end, run_failed}
+use Rattle.ae_parser.proofs.from_reading.TypeLemmas.{NoLess, perm_word, begins_permission, has_type, has_permission}
 use Rattle.ae_parser.specs.declared.params.Given.{Given}
 use Rattle.ae_parser.specs.Productions.{BeginsType, NoType, away_mark, AtMostParams, ParamNext, HasMe, given_to_method, FewGiven}
 

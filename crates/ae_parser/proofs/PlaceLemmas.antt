@@ -18,7 +18,7 @@ use Rattle.ae_tree.specs.Refused.{Goes, GoesUpTo, Any, IsHead, CanPassAt, IsUnex
 use Rattle.ae_reading.specs.declared.fail.Why.{Why}
 use Rattle.ae_reading.specs.declared.fail.Why.TheVariants.{Unexpected, Over}
 use Rattle.ae_reading.specs.Reads.{head, Always, EndIsNone, Counts, Larger, Stopped}
-use Rattle.ae_reading.proofs.Programs.{code_of}
+use Rattle.ae_parser.proofs.from_reading.Programs.{code_of}
 use Rattle.ae_parser.specs.Reading.{whole_program, KeepsAll, KeepsAllWhole, Stands, Refuses, rule_of}
 use Rattle.ae_parser.proofs.NamesLemmas.{lexemes_of, tokens_of, take-lexemes, lexemes-append}
 use Rattle.ae_parser.proofs.SideLemmas.{back_within}

@@ -23,7 +23,7 @@ use Rattle.ae_reading.specs.declared.fail.Why.{Why}
 use Rattle.ae_reading.specs.declared.fail.Why.TheVariants.{Unexpected, Over}
 use Rattle.ae_reading.specs.declared.fail.Fail.TheVariants.{Refused, Memory}
 use Rattle.ae_reading.specs.Reads.{head, Always, Is, EndIsNone, Counts, Failed}
-use Rattle.ae_reading.proofs.Programs.{code_of, code_is}
+use Rattle.ae_parser.proofs.from_reading.Programs.{code_of, code_is}
 use Rattle.ae_parser.specs.declared.declarations.Parts.{Parts}
 use Rattle.ae_parser.specs.Reading.{whole_program, KeepsAll, KeepsAllWhole, HasRead}
 use Rattle.ae_parser.proofs.NamesLemmas.{lexemes_of}
@@ -102,25 +102,6 @@ program_derives tokens names ts p e s h w =
     let g = read_at tokens ts p s h in
     let P : Code → Type 0 = Derives tokens in
     subst P (sym (code_read tokens names (lexemes_of tokens) p g e)) (read_derives tokens p g w)
-
-pub program_within : (tokens : List Token) (names : List (List ℕ)) (ts : Tokens) (p : Parts) → names ≡ names_of tokens → HasRead ts p → Within (code (program_of names p))
-program_within tokens names ts p e h =
-    let P : Code → Type 0 = Within in
-    subst P (sym (code_read tokens names ts p h e)) h.took.within
-
-end_of : (us : Tokens) → one_token tok.End us → Is tok.End (head us)
-end_of us d = let P : Tokens → Type 0 = λ l. Is tok.End (head l) in subst P (sym d.1) refl
-
-read_only : (tokens : List Token) (p : Parts) (h : HasRead (lexemes_of tokens) p) → (q : Code) → Derives tokens q → code_of (names_of tokens) h.list ≡ q
-read_only tokens p h q d =
-    let l = lexemes_derive q tokens d in
-    let o = h.took.only d.list l.front l.back h.rest l.first (sym l.parts ∙ h.took.whole) refl (end_of l.back l.second) in
-    ap (code_of (names_of tokens)) (sym o.0) ∙ sym (code_is q tokens d)
-
-pub program_only : (tokens : List Token) (names : List (List ℕ)) (ts : Tokens) (p : Parts) → names ≡ names_of tokens → ts ≡ lexemes_of tokens → HasRead ts p → (q : Code) → Derives tokens q → code (program_of names p) ≡ q
-program_only tokens names ts p e s h q d =
-    let g = read_at tokens ts p s h in
-    code_read tokens names (lexemes_of tokens) p g e ∙ read_only tokens p g q d
 
 -- ---- refusals
 

@@ -18,14 +18,14 @@ use Rattle.ae_tree.specs.declared.tree.GroupNeed.{GroupNeed}
 use Rattle.ae_tree.specs.Plain.{Lines, Definition}
 use Rattle.ae_tree.specs.Grammar.{Tokens, a_word, one_by_one, further, name, groups, permission, type_, result, away, param, me, parameters, need_word, need, needs, method_body, method}
 use Rattle.ae_reading.specs.Reads.{head, Always, Is, Isnt, IsName, Token, TokenMark}
-use Rattle.ae_reading.proofs.ReadsLemmas.{Lang, Follow, Both, Links}
-use Rattle.ae_reading.proofs.UniqueLemmas.{Unique, apart_by, none_at, unique_at, unique_mark, unique_name, unique_then, unique_both, unique_as, unique_always, unique_optional, unique_furthers, unique_some}
-use Rattle.ae_reading.proofs.Begins.{Begins, begins_token, begins_mark, begins_name, begins_both, of_other, of_name, links_by, is_isnt, not_both}
-use Rattle.ae_reading.proofs.Parts.{optional, Whole, begins_further}
-use Rattle.ae_reading.proofs.Runs.{each_turns}
-use Rattle.ae_reading.proofs.Programs.{method_is}
-use Rattle.ae_reading.proofs.UniqueTypes.{IsPermission, IsKind, IsType, permission_at, kind_of_token, type_at, begins_permission, begins_kind, begins_type, unique_permission, unique_groups, unique_type}
-use Rattle.ae_statements.proofs.UniqueStatements.{unique_body}
+use Rattle.ae_parser.proofs.from_reading.ReadsLemmas.{Lang, Follow, Both, Links}
+use Rattle.ae_parser.proofs.from_reading.UniqueLemmas.{Unique, apart_by, none_at, unique_at, unique_mark, unique_name, unique_then, unique_both, unique_as, unique_always, unique_optional, unique_furthers, unique_some}
+use Rattle.ae_parser.proofs.from_reading.Begins.{Begins, begins_token, begins_mark, begins_name, begins_both, of_other, of_name, links_by, is_isnt, not_both}
+use Rattle.ae_parser.proofs.from_reading.Parts.{optional, Whole, begins_further}
+use Rattle.ae_parser.proofs.from_reading.Runs.{each_turns}
+use Rattle.ae_parser.proofs.from_reading.Programs.{method_is}
+use Rattle.ae_parser.proofs.from_reading.UniqueTypes.{IsPermission, IsKind, IsType, permission_at, kind_of_token, type_at, begins_permission, begins_kind, begins_type, unique_permission, unique_groups, unique_type}
+use Rattle.ae_parser.proofs.from_statements.UniqueStatements.{unique_body}
 
 abbrev pub away_sign : Lexical
 away_sign = tok.Sign sign.Away

@@ -15,12 +15,12 @@ use Rattle.ae_tree.specs.Plain.{Definition, Code}
 use Rattle.ae_tree.specs.Names.{names_of, numbered}
 use Rattle.ae_tree.specs.Grammar.{Tokens, one_by_one, name, groups, type_, method, field, numbers_from, Declaration, OfClass, OfMethod, declaration, declarations, Derives}
 use Rattle.ae_reading.specs.Reads.{head, Always, Is, Isnt, IsName, TokenMark, chain}
-use Rattle.ae_reading.proofs.ReadsLemmas.{Lang, Follow, Both, Links}
-use Rattle.ae_reading.proofs.UniqueLemmas.{Unique, apart_by, none_at, unique_mark, unique_name, unique_then, unique_both, unique_each, unique_as, unique_choice, by_first, unique_chain}
-use Rattle.ae_reading.proofs.Begins.{Begins, begins_mark, begins_name, begins_both, of_kind, of_other, of_name, links_by, not_both}
-use Rattle.ae_reading.proofs.Runs.{each_turns}
-use Rattle.ae_reading.proofs.Programs.{counted, one_of, to_all, code_of, code_is}
-use Rattle.ae_reading.proofs.UniqueTypes.{IsType, type_at, begins_type, unique_groups, unique_type}
+use Rattle.ae_parser.proofs.from_reading.ReadsLemmas.{Lang, Follow, Both, Links}
+use Rattle.ae_parser.proofs.from_reading.UniqueLemmas.{Unique, apart_by, none_at, unique_mark, unique_name, unique_then, unique_both, unique_each, unique_as, unique_choice, by_first, unique_chain}
+use Rattle.ae_parser.proofs.from_reading.Begins.{Begins, begins_mark, begins_name, begins_both, of_kind, of_other, of_name, links_by, not_both}
+use Rattle.ae_parser.proofs.from_reading.Runs.{each_turns}
+use Rattle.ae_parser.proofs.from_reading.Programs.{counted, one_of, to_all, code_of, code_is}
+use Rattle.ae_parser.proofs.from_reading.UniqueTypes.{IsType, type_at, begins_type, unique_groups, unique_type}
 use Rattle.ae_parser.proofs.UniqueMethods.{unique_method, begins_method}
 
 abbrev pub semicolon : Lexical

@@ -1,3 +1,5 @@
+-- The lemmas of the crates below that this one goes by, and its own.
+pub use Rattle.ae_tree.proofs as from_tree
 pub mod ReadsLemmas
 pub mod Begins
 pub mod Chains

@@ -8,18 +8,15 @@ use Rattle.ae_tree.specs.Names.{names_of}
 use Rattle.ae_tree.specs.Grammar.{Tokens, IsMethodOf, Declaration, declaration, classes_in, methods_in, declarations, decls_of, classes_of, methods_of, Derives}
 use Rattle.ae_reading.specs.Reads.{chain}
 use Rattle.ae_reading.proofs.ReadsLemmas.{Lang}
+use Rattle.ae_reading.proofs.from_tree.ProgramLemmas.{class_is}
 
 -- ---- methods
-
-of_class : (k : Option ℕ) (m : Definition) → IsMethodOf k m → m.class ≡ k
-of_class None m i = i.0
-of_class (Some c) m i = i.0
 
 -- the class and the number of a method that was read are those that its place tells
 pub method_is : (k : Option ℕ) (m : Definition) → IsMethodOf k m → m.no ≡ 0 →
     m ≡ record { class = k; result = m.result; name = m.name; groups = m.groups; me = m.me; params = m.params; needs = m.needs; no = 0; body = m.body }
 method_is k m of none =
-    ap (λ (c : Option ℕ). record { class = c; result = m.result; name = m.name; groups = m.groups; me = m.me; params = m.params; needs = m.needs; no = m.no; body = m.body }) (of_class k m of)
+    ap (λ (c : Option ℕ). record { class = c; result = m.result; name = m.name; groups = m.groups; me = m.me; params = m.params; needs = m.needs; no = m.no; body = m.body }) (class_is k m of)
     ∙ ap (λ (n : ℕ). record { class = k; result = m.result; name = m.name; groups = m.groups; me = m.me; params = m.params; needs = m.needs; no = n; body = m.body }) none
 
 -- ---- declarations

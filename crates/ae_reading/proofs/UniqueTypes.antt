@@ -68,12 +68,6 @@ PermissionParts OfImmutable = Spot
 PermissionParts OfLent = Spot
 PermissionParts OfShared = Sharing
 
-abbrev pub permission_word : Permission → Keyword
-permission_word OfUnique = word.Unique
-permission_word OfImmutable = word.Immutable
-permission_word OfLent = word.Lent
-permission_word OfShared = word.Shared
-
 abbrev pub group_named : Lang (Unit {0} × (NameAt × Unit {0}))
 group_named = Both (TokenMark (tok.Sign sign.Less)) (Both name (TokenMark (tok.Sign sign.Greater)))
 

@@ -4,6 +4,7 @@ use Rattle.std.specs.Prelude.{slice_get}
 use Rattle.ae_rounds.specs.Rounds.{IsEdge, MayRun}
 use Rattle.ae_rounds.specs.Flow.{Work, Plan, TaskEnd, Never, Finished, Stopped, Aside, Result, round_of, IsInput, IsEnd, IsOutput, IsGiven, HasAdded, HasDrawn, stamps_in, entries_in, GoesOn, Flow}
 use Rattle.ae_text.specs.Numbers.{times}
+use Rattle.ae_rounds.proofs.from_text.Basics.{none_is_no_some}
 
 -- An output is the number of times that the task went to its cell, and it draws the stamps 5, 6 and 7.
 abbrev work : Work ℕ ℕ ℕ ℕ ℕ
@@ -35,12 +36,9 @@ result = record { tasks = Finished 1 ∷ []; cells = (3 ∷ 6 ∷ []) ∷ []; cl
 some_end : (e d : TaskEnd ℕ ℕ ℕ) → Some d ≡ Some e → e ≡ d
 some_end e d i = cc
 
-none_is_not : {A : Type 0} {x : A} → None ≡ Some x → ⊥
-none_is_not i = cc
-
 one_end : (t : ℕ) (e : TaskEnd ℕ ℕ ℕ) → IsEnd result t e → (t ≡ 0) × (e ≡ Finished 1)
 one_end zero e i = (refl, some_end e (Finished 1) i)
-one_end (suc t) e i = absurd (none_is_not i)
+one_end (suc t) e i = absurd (none_is_no_some i)
 
 went : (e : TaskEnd ℕ ℕ ℕ) (o : ℕ) → e ≡ Finished o → e ≡ Finished 1 → o ≡ 1
 went e o p q = cc
@@ -107,7 +105,7 @@ has_added t k es h =
 
 first_place : (i e : ℕ) → slice_get (6 ∷ []) i ≡ Some e → i ≡ 0
 first_place zero e h = refl
-first_place (suc i) e h = absurd (none_is_not h)
+first_place (suc i) e h = absurd (none_is_no_some h)
 
 goes_on : (k : ℕ) → GoesOn work plan result k (3 ∷ []) (3 ∷ 6 ∷ [])
 goes_on k =
@@ -129,7 +127,7 @@ old_is xs old h = cc
 
 cells : (k : ℕ) (old new : List ℕ) → slice_get plan.cells k ≡ Some old → slice_get result.cells k ≡ Some new → GoesOn work plan result k old new
 cells zero old new g h = subst (λ n. GoesOn work plan result 0 old n) (old_is (3 ∷ 6 ∷ []) new h) (subst (λ o. GoesOn work plan result 0 o (3 ∷ 6 ∷ [])) (old_is (3 ∷ []) old g) (goes_on 0))
-cells (suc k) old new g h = absurd (none_is_not g)
+cells (suc k) old new g h = absurd (none_is_no_some g)
 
 may_come : Flow work plan result
 may_come =

@@ -4,6 +4,7 @@ use Rattle.std.specs.Prelude.{slice_get}
 use Rattle.ae_rounds.specs.Rounds.{IsEdge, IsWay}
 use Rattle.ae_rounds.specs.Flow.{Work, Plan, TaskEnd, Finished, Stopped, Result, round_of, IsEnd, IsOutput, HasBegun, HasDrawn, stamps_in, Flow}
 use Rattle.ae_rounds.specs.FlowLaws.{ChainsWentThrough, ChainsKeepTime}
+use Rattle.ae_rounds.proofs.from_text.Basics.{option_holds_one}
 
 way_went : {I C O B E : Type 0} (w : Work I C O B E) (p : Plan I E) (r : Result I O B E) (n f t : ℕ) (e : TaskEnd I O B)
     → Flow w p r → IsWay (round_of p) n f t → IsEnd r t e → HasBegun e → (o : O) × IsEnd r f (Finished o)
@@ -20,15 +21,12 @@ pub output_end : {I O B E : Type 0} (r : Result I O B E) (t : ℕ) (o : O) → I
 output_end r t o (inl i) = (Finished o, i, tt)
 output_end r t o (inr i) = (Stopped o, i, tt)
 
-end_same : {A : Type 0} (u : Option A) (x y : A) → u ≡ Some x → u ≡ Some y → x ≡ y
-end_same u x y e f = cc
-
 -- the stamps of an output that went through have the end of it
 ended_in : {I C O B E : Type 0} (w : Work I C O B E) (p : Plan I E) (r : Result I O B E) (t : ℕ) (o : O)
     → Flow w p r → IsEnd r t (Finished o) → Contains (w.output_stamps o) (w.ended o)
 ended_in w p r t o h i =
     let d : HasDrawn w p r t (w.ended o) = h.ended_drawn t o (inl i) in
-    subst (λ e. Contains (stamps_in w e) (w.ended o)) (end_same (slice_get r.tasks t) d.2 (Finished o) d.4 i) d.6
+    subst (λ e. Contains (stamps_in w e) (w.ended o)) (option_holds_one (slice_get r.tasks t) d.2 (Finished o) d.4 i) d.6
 
 edge_in_time : {I C O B E : Type 0} (w : Work I C O B E) (p : Plan I E) (r : Result I O B E) (f t : ℕ) (o q : O)
     → Flow w p r → IsEdge (round_of p) f t → IsEnd r f (Finished o) → IsOutput r t q → w.ended o < w.began q
@@ -49,8 +47,8 @@ not_both : {I O B : Type 0} (x y : O) (e d : TaskEnd I O B) → e ≡ Finished x
 not_both x y e d p q g = cc
 
 same_output : {I O B E : Type 0} (r : Result I O B E) (f : ℕ) (o : O) → IsOutput r f o → (m : (x : O) × IsEnd r f (Finished x)) → m.0 ≡ o
-same_output r f o (inl y) m = same_finished m.0 o (Finished m.0) (Finished o) refl refl (end_same (slice_get r.tasks f) (Finished m.0) (Finished o) m.1 y)
-same_output r f o (inr y) m = absurd (not_both m.0 o (Finished m.0) (Stopped o) refl refl (end_same (slice_get r.tasks f) (Finished m.0) (Stopped o) m.1 y))
+same_output r f o (inl y) m = same_finished m.0 o (Finished m.0) (Finished o) refl refl (option_holds_one (slice_get r.tasks f) (Finished m.0) (Finished o) m.1 y)
+same_output r f o (inr y) m = absurd (not_both m.0 o (Finished m.0) (Stopped o) refl refl (option_holds_one (slice_get r.tasks f) (Finished m.0) (Stopped o) m.1 y))
 
 pub chains_keep_time : {I C O B E : Type 0} (w : Work I C O B E) → ChainsKeepTime w
 chains_keep_time {I} {C} {O} {B} {E} w p r f t o q h k i j =

@@ -1,31 +1,18 @@
 -- Proofs of the laws of rounds.
 use Rattle.std.proofs.Common.{◌≡◌, ◌≢◌, ◌<◌, ◌≤◌, ◌⊎◌, inl, inr, refl, sym, ap, ◌∙◌, subst, arith, ℕ, zero, suc, nat_eq, if◌then◌else◌, Bool, true, false, List, [], ◌∷◌, Option, None, Some}
-use Rattle.std.proofs.lemmas.Bool.{cases_eq}
+use Rattle.std.proofs.lemmas.Bool.{cases_eq, cond-true, cond-false, false≢true, ne_eqb}
 use Rattle.std.proofs.lemmas.Bool.Decides.{nat_tests}
 use Rattle.ae_rounds.specs.Rounds.{Round, IsShape, IsWay, MayRun, Stage, Waiting, Running, Finished, Aside, Configuration, ArePassed, RoundEvent, Begin, Finish, Take, Leave, SetAside, HasHandsFree, Needs, put, released, ended_as, changed, Happens, Course, Lawful, IsSound, IsCalm}
 use Rattle.ae_rounds.specs.Laws.{ChainsRise, EventsKeep, LawfulIsFree, ReachedIsFree, SoundIsCalm, BegunStays, begins, BeginsOnce}
+use Rattle.ae_rounds.proofs.from_text.Basics.{number_is_itself, none_is_no_some}
 
 -- ---- functions changed at one number
 
-same : (n : ℕ) → nat_eq n n ≡ true
-same n = grind (arith, nat_tests)
-
-other : (n k : ℕ) → n ≢ k → nat_eq n k ≡ false
-other n k d = grind (arith, nat_tests)
-
-chosen : {A : Type 0} (b : Bool) (x y : A) → b ≡ true → (if b then x else y) ≡ x
-chosen true x y e = refl
-chosen false x y e = cc
-
-passed : {A : Type 0} (b : Bool) (x y : A) → b ≡ false → (if b then x else y) ≡ y
-passed true x y e = cc
-passed false x y e = refl
-
 pub put_here : {A : Type 0} (k : ℕ) (x : A) (f : ℕ → A) → put k x f k ≡ x
-put_here k x f = chosen (nat_eq k k) x (f k) (same k)
+put_here k x f = cond-true (nat_eq k k) x (f k) (number_is_itself k)
 
 pub put_past : {A : Type 0} (k n : ℕ) (x : A) (f : ℕ → A) → n ≢ k → put k x f n ≡ f n
-put_past k n x f d = passed (nat_eq n k) x (f n) (other n k d)
+put_past k n x f d = cond-false (nat_eq n k) x (f n) (ne_eqb n k d)
 
 -- what stands at n after a change at k: the new value, or what stood there
 pub data At {A : Type 0} (k : ℕ) (x : A) (f : ℕ → A) (n : ℕ) (w : A) : Type 0 where
@@ -56,9 +43,6 @@ waiting_is_no_finish e = cc
 running_is_no_finish : Running ≡ Finished → ⊥
 running_is_no_finish e = cc
 
-none_is_not : {A : Type 0} {x : A} → None ≡ Some x → ⊥
-none_is_not e = cc
-
 some_same : {A : Type 0} {x y : A} → Some x ≡ Some y → x ≡ y
 some_same e = cc
 
@@ -83,7 +67,7 @@ begin_keeps r c s t l n =
     run_of u (Here q e) = (s, put_here s (Some t) c.runs ∙ ap Some (sym q))
     run_of u (Past d e) =
         let x : (y : ℕ) × (c.runs y ≡ Some u) = l.running_is_run u e in
-        (x.0, put_past s x.0 (Some t) c.runs (λ (q : x.0 ≡ s). none_is_not (sym n.0 ∙ ap c.runs (sym q) ∙ x.1)) ∙ x.1)
+        (x.0, put_past s x.0 (Some t) c.runs (λ (q : x.0 ≡ s). none_is_no_some (sym n.0 ∙ ap c.runs (sym q) ∙ x.1)) ∙ x.1)
 
     not_run : (x : ℕ) → c.runs x ≡ Some t → ⊥
     not_run x e = waiting_runs_not (sym n.2 ∙ l.run_is_running x t e)
@@ -100,7 +84,7 @@ begin_keeps r c s t l n =
         put_past t u Running c.stage (λ (q : u ≡ t). not_run x (e ∙ ap Some q)) ∙ l.run_is_running x u e
 
     holds_none : (x : ℕ) → At s (Some t) c.runs x None → c.holds x ≡ None
-    holds_none x (Here p e) = absurd (none_is_not (sym e))
+    holds_none x (Here p e) = absurd (none_is_no_some (sym e))
     holds_none x (Past p e) = l.idle_holds_none x e
 
     may : (u : ℕ) → put t Running c.stage u ≢ Waiting → (u ≡ t) ⊎ (u ≢ t) → MayRun r u
@@ -139,11 +123,11 @@ release_keeps r c s t x n l i h =
         (y.0, put_past s y.0 None c.runs (λ (q : y.0 ≡ s). d (some_same (sym y.1 ∙ ap c.runs q ∙ i))) ∙ y.1)
 
     old_run : (u y : ℕ) → At s None c.runs y (Some u) → c.runs y ≡ Some u
-    old_run u y (Here q e) = absurd (none_is_not e)
+    old_run u y (Here q e) = absurd (none_is_no_some e)
     old_run u y (Past d e) = e
 
     is_running : (y u : ℕ) → At s None c.runs y (Some u) → put t x c.stage u ≡ Running
-    is_running y u (Here q e) = absurd (none_is_not e)
+    is_running y u (Here q e) = absurd (none_is_no_some e)
     is_running y u (Past d e) =
         put_past t u x c.stage (λ (q : u ≡ t). d (l.run_by_one t y s (e ∙ ap Some q) i)) ∙ l.run_is_running y u e
 
@@ -165,9 +149,6 @@ end_runs_not false e = cc
 aside_runs_not : Aside ≢ Running
 aside_runs_not e = cc
 
-false_is_not : false ≡ true → ⊥
-false_is_not e = cc
-
 take_keeps : (r : Round) (c : Configuration) (s k : ℕ) → Lawful r c → Needs r c (Take s k) → Lawful r (changed c (Take s k))
 take_keeps r c s k l n =
     record {
@@ -177,19 +158,19 @@ take_keeps r c s k l n =
       held_is_kept = λ j e. kept j (at_put k true c.held j true e);
       kept_by_one = λ j x y e f. by_one j x y (at_put s (Some k) c.holds x (Some j) e) (at_put s (Some k) c.holds y (Some j) f);
       kept_is_held = λ x j e. is_held x j (at_put s (Some k) c.holds x (Some j) e);
-      idle_holds_none = λ x e. put_past s x (Some k) c.holds (λ (q : x ≡ s). none_is_not (sym e ∙ ap c.runs q ∙ n.0.0.1)) ∙ l.idle_holds_none x e;
+      idle_holds_none = λ x e. put_past s x (Some k) c.holds (λ (q : x ≡ s). none_is_no_some (sym e ∙ ap c.runs q ∙ n.0.0.1)) ∙ l.idle_holds_none x e;
       begun_may = l.begun_may;
       begun_passed = l.begun_passed;
     }
   where
     not_kept : (x : ℕ) → c.holds x ≡ Some k → ⊥
-    not_kept x e = false_is_not (sym n.2 ∙ l.kept_is_held x k e)
+    not_kept x e = false≢true (sym n.2 ∙ l.kept_is_held x k e)
 
     kept : (j : ℕ) → At k true c.held j true → (x : ℕ) × (put s (Some k) c.holds x ≡ Some j)
     kept j (Here q e) = (s, put_here s (Some k) c.holds ∙ ap Some (sym q))
     kept j (Past d e) =
         let x : (y : ℕ) × (c.holds y ≡ Some j) = l.held_is_kept j e in
-        (x.0, put_past s x.0 (Some k) c.holds (λ (q : x.0 ≡ s). none_is_not (sym n.0.1 ∙ ap c.holds (sym q) ∙ x.1)) ∙ x.1)
+        (x.0, put_past s x.0 (Some k) c.holds (λ (q : x.0 ≡ s). none_is_no_some (sym n.0.1 ∙ ap c.holds (sym q) ∙ x.1)) ∙ x.1)
 
     by_one : (j x y : ℕ) → At s (Some k) c.holds x (Some j) → At s (Some k) c.holds y (Some j) → x ≡ y
     by_one j x y (Here p e) (Here q f) = p ∙ sym q
@@ -216,17 +197,17 @@ leave_keeps r c s k l n =
     }
   where
     old : (x j : ℕ) → At s None c.holds x (Some j) → c.holds x ≡ Some j
-    old x j (Here q e) = absurd (none_is_not e)
+    old x j (Here q e) = absurd (none_is_no_some e)
     old x j (Past d e) = e
 
     kept : (j : ℕ) → At k false c.held j true → (x : ℕ) × (put s None c.holds x ≡ Some j)
-    kept j (Here q e) = absurd (false_is_not e)
+    kept j (Here q e) = absurd (false≢true e)
     kept j (Past d e) =
         let x : (y : ℕ) × (c.holds y ≡ Some j) = l.held_is_kept j e in
         (x.0, put_past s x.0 None c.holds (λ (q : x.0 ≡ s). d (some_same (sym x.1 ∙ ap c.holds q ∙ n))) ∙ x.1)
 
     is_held : (x j : ℕ) → At s None c.holds x (Some j) → put k false c.held j ≡ true
-    is_held x j (Here p e) = absurd (none_is_not e)
+    is_held x j (Here p e) = absurd (none_is_no_some e)
     is_held x j (Past p e) = put_past k j false c.held (λ (q : j ≡ k). p (l.kept_by_one k x s (e ∙ ap Some q) n)) ∙ l.kept_is_held x j e
 
     idle : (x : ℕ) → c.runs x ≡ None → (x ≡ s) ⊎ (x ≢ s) → put s None c.holds x ≡ None
@@ -352,7 +333,7 @@ none_more false n e z = z
 begins_no_more : (r : Round) (c d : Configuration) (es : List RoundEvent) (t : ℕ) → Course r c es d → c.stage t ≢ Waiting → begins t es ≡ 0
 begins_no_more r c d [] t h b = refl
 begins_no_more r c d (Begin s u ∷ es) t (m, h, k) b =
-    none_more (nat_eq u t) (begins t es) (other u t (λ (q : u ≡ t). b (ap c.stage (sym q) ∙ h.0.2))) (begins_no_more r m d es t k (step_on r c m (Begin s u) t h b))
+    none_more (nat_eq u t) (begins t es) (ne_eqb u t (λ (q : u ≡ t). b (ap c.stage (sym q) ∙ h.0.2))) (begins_no_more r m d es t k (step_on r c m (Begin s u) t h b))
 begins_no_more r c d (Finish s stopped ∷ es) t (m, h, k) b = begins_no_more r m d es t k (step_on r c m (Finish s stopped) t h b)
 begins_no_more r c d (Take s j ∷ es) t (m, h, k) b = begins_no_more r m d es t k (step_on r c m (Take s j) t h b)
 begins_no_more r c d (Leave s j ∷ es) t (m, h, k) b = begins_no_more r m d es t k (step_on r c m (Leave s j) t h b)

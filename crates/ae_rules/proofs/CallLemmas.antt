@@ -1,7 +1,7 @@
 -- What a call takes from its roots comes back.
 use Rattle.std.proofs.Common.{◌≡◌, refl, ap, ◌∙◌, subst, ℕ, nat_eq, Bool, true, false, ◌&&◌, not, if◌then◌else◌, List, [], ◌∷◌, ◌++◌, Option, None, Some}
 use Rattle.std.specs.Prelude.{option_map}
-use Rattle.std.proofs.lemmas.Bool.{eq-eqb, eqb-true}
+use Rattle.std.proofs.lemmas.Bool.{eq-eqb, eqb-true, not-true, cond-true, cond-false}
 use Rattle.ae_tree.specs.declared.form.Perm.TheVariants as need
 use Rattle.ae_rules.specs.declared.held.Held.{Held}
 use Rattle.ae_rules.specs.declared.held.Held.TheVariants as held
@@ -11,6 +11,7 @@ use Rattle.ae_rules.specs.Context.{Local, Context, held_in, with_held}
 use Rattle.ae_rules.specs.Calls.{LentPart, given_back, after_call}
 use Rattle.ae_rules.specs.Laws.{none_away, CallsGiveBack, none_of, GivenAwayIsGone}
 use Rattle.ae_rules.proofs.LawLemmas.{taken_is_given_back}
+use Rattle.ae_rules.proofs.from_text.Basics.{number_is_itself, second_of_both, first_of_both}
 
 abbrev holding : Held → Local → Local
 holding h l = record l { held = h }
@@ -19,22 +20,11 @@ holding h l = record l { held = h }
 abbrev held_of_local : Option Local → Held
 held_of_local o = given o held.None (λ (l : Local). l.held)
 
-same : (n : ℕ) → nat_eq n n ≡ true
-same n = eq-eqb n n refl
-
-chosen : {A : Type 0} (b : Bool) (x y : A) → b ≡ true → (if b then x else y) ≡ x
-chosen true x y e = refl
-chosen false x y e = cc
-
-passed : {A : Type 0} (b : Bool) (x y : A) → b ≡ false → (if b then x else y) ≡ y
-passed true x y e = cc
-passed false x y e = refl
-
 held_at : (r : ℕ) (h : Held) (c : Context) → (with_held r h c).local r ≡ option_map (holding h) (c.local r)
-held_at r h c = chosen (nat_eq r r) _ _ (same r)
+held_at r h c = cond-true (nat_eq r r) _ _ (number_is_itself r)
 
 held_elsewhere : (r y : ℕ) (h : Held) (c : Context) → nat_eq r y ≡ false → (with_held r h c).local y ≡ c.local y
-held_elsewhere r y h c e = passed (nat_eq r y) _ _ e
+held_elsewhere r y h c e = cond-false (nat_eq r y) _ _ e
 
 -- ---- a part that is taken and comes back
 
@@ -58,14 +48,6 @@ joined_elsewhere : (o : Option Held) (r y : ℕ) (d : Context) → nat_eq r y �
 joined_elsewhere None r y d e = refl
 joined_elsewhere (Some w) r y d e = held_elsewhere r y w d e
 
-and_left : (a b : Bool) → (a && b) ≡ true → a ≡ true
-and_left true b e = refl
-and_left false b e = cc
-
-and_right : (a b : Bool) → (a && b) ≡ true → b ≡ true
-and_right true b e = e
-and_right false b e = absurd (cc)
-
 -- where it is a part of this local, it is not away
 stays : (b away : Bool) → not (b && away) ≡ true → b ≡ true → away ≡ false
 stays true true e h = cc
@@ -80,7 +62,7 @@ given_back_elsewhere x share d y e = by_away x.away
     by_away false = joined_elsewhere (joins (held_in d x.root) share.0) x.root y d e
 
 given_back_here : (x : LentPart) (share : Share) (d : Context) → x.away ≡ false → given_back x share d ≡ joined share x.root d
-given_back_here x share d e = passed x.away d (joined share x.root d) e
+given_back_here x share d e = cond-false x.away d (joined share x.root d) e
 
 -- ---- calls
 
@@ -116,7 +98,7 @@ one_back x xs c y a ih (Some share) e = back_at x xs share c y (nat_eq x.root y)
 restores : (xs : List LentPart) (y : ℕ) → none_away xs y ≡ true → Restores xs y
 restores [] y a c = refl
 restores (x ∷ xs) y a c =
-    one_back x xs c y (and_left _ _ a) (restores xs y (and_right _ _ a)) (splits (held_in c x.root) x.need) refl
+    one_back x xs c y (first_of_both _ _ a) (restores xs y (second_of_both _ _ a)) (splits (held_in c x.root) x.need) refl
 
 pub calls_give_back : CallsGiveBack
 calls_give_back xs c y a = restores xs y a c
@@ -161,19 +143,15 @@ away_first x ys c n a k =
     let d : Context = after_call ys c' in
     let s : splits (held_in c r) x.need ≡ Some share = ap (λ h. splits h x.need) k ∙ ap (splits held.Unique) n in
     ap (λ o. held_in (given o (after_call ys c) (λ share. taken_back x ys share c)) r) s
-    ∙ ap (λ (z : Context). held_in z r) (chosen x.away d (joined share r d) a)
+    ∙ ap (λ (z : Context). held_in z r) (cond-true x.away d (joined share r d) a)
     ∙ nothing_stays ys r c' (ap held_of_local (held_at r held.None c) ∙ held_then_none (c.local r))
-
-not_true : (b : Bool) → not b ≡ true → b ≡ false
-not_true true e = cc
-not_true false e = refl
 
 -- parts of other locals come before it
 gone_after : (xs ys : List LentPart) (x : LentPart) → none_of xs x.root ≡ true → x.need ≡ need.Unique → x.away ≡ true
     → (c : Context) → held_in c x.root ≡ held.Unique → held_in (after_call (xs ++ x ∷ ys) c) x.root ≡ held.None
 gone_after [] ys x e n a c k = away_first x ys c n a k
 gone_after (w ∷ xs) ys x e n a c k =
-    gone_elsewhere w (xs ++ x ∷ ys) x.root (not_true _ (and_left _ _ e)) (gone_after xs ys x (and_right _ _ e) n a) c k (splits (held_in c w.root) w.need)
+    gone_elsewhere w (xs ++ x ∷ ys) x.root (not-true _ (first_of_both _ _ e)) (gone_after xs ys x (second_of_both _ _ e) n a) c k (splits (held_in c w.root) w.need)
 
 pub given_away_is_gone : GivenAwayIsGone
 given_away_is_gone xs ys x c e n a k = gone_after xs ys x e n a c k

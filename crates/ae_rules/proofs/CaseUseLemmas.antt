@@ -28,6 +28,7 @@ use Rattle.ae_rules.specs.Uses.{nothing, write_use, whole_group, ◌∪◌, stro
 use Rattle.ae_rules.specs.Blocks.{Scene, scene, scenes_among, scene_numbered, scene_uses}
 use Rattle.ae_rules.specs.Cases.{DeclaresOne, TodaysUsesAreACase}
 use Rattle.ae_rules.proofs.CaseLemmas.{number, seen, Alike, After, action_agrees, main_method, with_main, same_main, is_with_main, starts_alike}
+use Rattle.ae_rules.proofs.from_text.Basics.{number_is_itself}
 
 -- ---- expressions
 
@@ -192,13 +193,10 @@ method_used p a d i r =
     (subst (IsUsedAlike i r (with_main p.names b.method.name.at b.is_main.at b.method.body)) (sym (same_main b.method b.is_main))
     (main_used p.names b.method.name.at b.is_main.at b.method.body b.body held i r))
 
-is_itself : (n : ℕ) → nat_eq n n ≡ true
-is_itself n = grind (arith, nat_tests)
-
 body_scene : (p : Code) (m : Definition) (s : Scene) → scene p m m.no ≡ Some s → record { method = m; lines = m.body; start = start p m } ≡ s
 body_scene p m s e =
     let o : Option Scene = scene_numbered m.no (scenes_among p m true m.body (start p m)) in
-    let own : scene p m m.no ≡ Some (record { method = m; lines = m.body; start = start p m }) = ap (λ b. if b then Some (record { method = m; lines = m.body; start = start p m }) else o) (is_itself m.no) in
+    let own : scene p m m.no ≡ Some (record { method = m; lines = m.body; start = start p m }) = ap (λ b. if b then Some (record { method = m; lines = m.body; start = start p m }) else o) (number_is_itself m.no) in
     some_same (sym own ∙ e)
   where
     some_same : {A : Type 0} {x y : A} → Some x ≡ Some y → x ≡ y

@@ -10,7 +10,7 @@ use Rattle.ae_rules.specs.EdgeLaws.{EdgesGoForward, ChainsGoForward, ConflictsAr
 pub edges_go_forward : EdgesGoForward
 edges_go_forward uses i j e = e.before
 
-forward : (uses : BlockUses) (i j : ℕ) → Before uses i j → i < j
+pub forward : (uses : BlockUses) (i j : ℕ) → Before uses i j → i < j
 forward uses _ _ (Direct i j e) = e.before
 forward uses _ _ (Through i j k e c) = let l : i < j = e.before in let m : j < k = forward uses j k c in omega (arith, l, m)
 
@@ -33,7 +33,7 @@ weak_or_strong (Some Write) = inr refl
 weak_or_strong (Some GroupShared) = inl refl
 weak_or_strong (Some GroupWhole) = inr refl
 
-strong_after : (m n : Mode) → is_strong n ≡ true → are_compatible m n ≡ false
+pub strong_after : (m n : Mode) → is_strong n ≡ true → are_compatible m n ≡ false
 strong_after Read Read s = absurd (cc)
 strong_after Read GroupShared s = absurd (cc)
 strong_after Read Write s = refl
@@ -45,7 +45,7 @@ strong_after GroupShared Write s = refl
 strong_after GroupShared GroupWhole s = refl
 strong_after GroupWhole n s = refl
 
-strong_before : (m n : Mode) → is_strong m ≡ true → are_compatible m n ≡ false
+pub strong_before : (m n : Mode) → is_strong m ≡ true → are_compatible m n ≡ false
 strong_before Read n s = absurd (cc)
 strong_before Write n s = refl
 strong_before GroupShared n s = absurd (cc)

@@ -31,6 +31,7 @@ use Rattle.ae_rules.proofs.VerdictLemmas.{Yields, gives, next, asks, always}
 use Rattle.ae_rules.proofs.SeenLemmas.{found_is}
 use Rattle.ae_rules.proofs.CallLemmas.{calls_give_back, given_away_is_gone}
 use Rattle.ae_rules.proofs.KeepLemmas.{keeps_after_call}
+use Rattle.ae_rules.proofs.from_text.Basics.{first_of_neither, second_of_neither}
 
 -- contexts with the same locals and the same groups are one
 pub same_context : (c d : Context) → ((y : ℕ) → c.local y ≡ d.local y) → c.group ≡ d.group → c ≡ d
@@ -60,14 +61,6 @@ no_root c t away o name r e k = record {
   used = λ y h. (h, ap (λ (x : Option LentPart). none_at x y) e);
   gone = λ n h. absurd (no_name away name n k h);
 }
-
-or_left : (a b : Bool) → (a || b) ≡ false → a ≡ false
-or_left true b e = e
-or_left false b e = refl
-
-or_right : (a b : Bool) → (a || b) ≡ false → b ≡ false
-or_right true b e = absurd (cc)
-or_right false b e = e
 
 no_part_if : (b : Bool) (x : LentPart) (y : ℕ) → nat_eq x.root y ≡ false → none_at (if b then Some x else None) y ≡ true
 no_part_if true x y e = ap not e
@@ -121,7 +114,7 @@ path_gone p c perm.Unique k true path r w t at e m h n i =
     let u : held_in c path.root.name ≡ held.Unique = (name_held p c path g.0).value w e ∙ g.1 in
     let s : path.root.name ≡ n = some_name path.root.name n i in
     subst (λ (x : ℕ). (r.used x ≡ false) × (lent_part_of c (f.Object perm.Unique k) true (Some (From path)) ≡ Some (gone_part x)) × (held_in c x ≡ held.Unique)) s
-    (or_right (r.alone path.root.name) (r.used path.root.name) m, part_is_gone (held_in c path.root.name) path.root.name u, u)
+    (second_of_neither (r.alone path.root.name) (r.used path.root.name) m, part_is_gone (held_in c path.root.name) path.root.name u, u)
 path_gone p c perm.Immutable k away path r w t at e m h n i = absurd (no_name away no_number n refl i)
 path_gone p c perm.Lent k away path r w t at e m h n i = absurd (no_name away no_number n refl i)
 path_gone p c (perm.Shared g) k away path r w t at e m h n i = absurd (no_name away no_number n refl i)
@@ -140,7 +133,7 @@ path_given p c q k away path at r =
     let g = (root_given (is_unique (f.Object q k)) path at r).value s h in
     gives (record {
       used = λ y u. let v : (nat_eq path.root.name y || r.used y) ≡ false = ap (λ (z : Roots). z.used y) g.1 ∙ u in
-          (or_right (nat_eq path.root.name y) (r.used y) v, no_part_if (is_part q && same_held held.Unique (held_in c path.root.name)) _ y (or_left (nat_eq path.root.name y) (r.used y) v));
+          (second_of_neither (nat_eq path.root.name y) (r.used y) v, no_part_if (is_part q && same_held held.Unique (held_in c path.root.name)) _ y (first_of_neither (nat_eq path.root.name y) (r.used y) v));
       gone = path_gone p c q k away path r w t at e g.0 i;
     })
 
@@ -224,7 +217,7 @@ none_away_at o y = given o true (λ (x : LentPart). not (nat_eq x.root y && x.aw
 
 not_named : (o : Option ℕ) (xs : List ℕ) (y : ℕ) → has_name (cons_option o xs) y ≡ false → (given o false (λ n. nat_eq n y) ≡ false) × (has_name xs y ≡ false)
 not_named None xs y e = (refl, e)
-not_named (Some n) xs y e = (or_left (nat_eq n y) (has_name xs y) e, or_right (nat_eq n y) (has_name xs y) e)
+not_named (Some n) xs y e = (first_of_neither (nat_eq n y) (has_name xs y) e, second_of_neither (nat_eq n y) (has_name xs y) e)
 
 stays_if : (b away u : Bool) (root y : ℕ) (q : Perm) → (away ≡ true → u ≡ true → nat_eq root y ≡ false)
     → none_away_at (if b then Some (record { root = root; need = q; away = away && u }) else None) y ≡ true

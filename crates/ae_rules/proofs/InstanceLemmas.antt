@@ -28,11 +28,9 @@ use Rattle.ae_rules.specs.Judges.{start, need_for, permission_needed, knows}
 use Rattle.ae_rules.specs.Uses.{nothing, same_resource, use_alone, read_use, write_use, ◌∪◌, of_each, of_judged, of_found, is_seen, outside, all_but, walk_uses, given_uses, argument_uses, need_uses, callee_uses, statement_uses, lines_use, contexts, block_uses}
 use Rattle.ae_rules.specs.EdgeLaws.{group_allows, is_allowed}
 use Rattle.ae_rules.specs.Instances.{renamed, source_outside, param_outside, param_names, params_given, group_names, callee_outside, body_outside, lock_outside}
-use Rattle.ae_rules.proofs.SeenLemmas.{Inside, one_if, same_is, of_two}
+use Rattle.ae_rules.proofs.SeenLemmas.{Inside, one_if, same_is, of_two, but_if, outside_use}
 use Rattle.ae_rules.proofs.LessLemmas.{IsLess, Less, less_itself, less_then, less_nothing, less_left, less_right, less_both, less_one, less_renamed, less_found, less_each, less_zip, fits, Fit, fit_nothing}
-
-some_is : {A : Type 0} (x y : A) → Some x ≡ Some y → x ≡ y
-some_is x y e = cc
+use Rattle.std.proofs.lemmas.Option.{same_Some}
 
 -- ---- blocks
 
@@ -96,7 +94,7 @@ need_found new (x ∷ ns) g n m e h = by_name (λ q. need_found new ns g n m q h
     here q w = subst (λ (y : ℕ). Less (use_alone m (resource.Group (new y))) (need_uses (wanted_need new x))) w (need_less x.need (new x.group.name) m (ap (λ (y : GroupNeed). meets_need y.need m) q ∙ h))
 
     by_name : (need_for ns g ≡ Some n → Less (use_alone m (resource.Group (new g))) rest) → (b : Bool) → nat_eq x.group.name g ≡ b → (if b then Some x else need_for ns g) ≡ Some n → Less (use_alone m (resource.Group (new g))) (need_uses (wanted_need new x) ∪ rest)
-    by_name later true q w = less_left _ (need_uses (wanted_need new x)) rest (here (some_is x n w) (eqb-true x.group.name g q))
+    by_name later true q w = less_left _ (need_uses (wanted_need new x)) rest (here (same_Some x n w) (eqb-true x.group.name g q))
     by_name later false q w = less_right _ (need_uses (wanted_need new x)) rest (later w)
 
 start_need : (b : Bool) (o : Option GroupNeed) (m : Mode) → given (if b then Some (given o group.None (λ (n : GroupNeed). permission_needed n.need)) else None) false (λ q. group_allows q m) ≡ true
@@ -152,23 +150,11 @@ pub fit_found : {A : Type 0} (o : Option A) (u : A → Uses) → ((x : A) → o 
 fit_found None u h = fit_nothing
 fit_found (Some x) u h = h x refl
 
-pub fit_judged : {A : Type 0} (v : Verdict A) (u : A → Uses) → ((x : A) → v ≡ Holds x → Fit (u x)) → Fit (of_judged v u)
-fit_judged (Holds x) u h = h x refl
-fit_judged (Broken rule at) u h = fit_nothing
-
-use_shown : (b : Bool) (o : Option Mode) (n : Mode) → (if b then o else None) ≡ Some n → o ≡ Some n
-use_shown true o n e = e
-use_shown false o n e = absurd (cc)
-
-use_left : (b : Bool) (o : Option Mode) (n : Mode) → (if b then None else o) ≡ Some n → o ≡ Some n
-use_left true o n e = absurd (cc)
-use_left false o n e = e
-
 pub fit_outside : (c : Context) (u : Uses) → Fit u → Fit (outside c u)
-fit_outside c u f r n e = f r n (use_shown (is_seen c r) (u r) n e)
+fit_outside c u f r n e = f r n (outside_use (is_seen c r) (u r) n e)
 
 fit_all_but : (s : Resource) (u : Uses) → Fit u → Fit (all_but s u)
-fit_all_but s u f r n e = f r n (use_left (same_resource s r) (u r) n e)
+fit_all_but s u f r n e = f r n (but_if (same_resource s r) (u r) n e)
 
 pub fit_lock : (g : ℕ) (u : Uses) → Fit u → Fit (lock_outside g u)
 fit_lock g u f = fit_both _ (all_but (resource.Group g) u) (fit_found (u (resource.Group g)) _ (λ m _. fit_one mode.GroupShared (resource.Group g) refl)) (fit_all_but (resource.Group g) u f)

@@ -14,6 +14,8 @@ use Rattle.ae_rules.specs.Uses.{nothing, same_resource, use_alone, stronger, ◌
 use Rattle.ae_rules.specs.EdgeLaws.{is_of_local, group_allows, is_allowed}
 use Rattle.ae_rules.specs.Instances.{renamed}
 use Rattle.ae_rules.proofs.SeenLemmas.{Within}
+use Rattle.ae_rules.proofs.from_text.Basics.{second_of_both}
+use Rattle.ae_rules.proofs.EdgeLemmas.{strong_before, strong_after}
 
 -- ---- at most as strong
 
@@ -117,10 +119,6 @@ pub less_found : {A : Type 0} (o : Option A) (u : A → Uses) (v : Uses) → ((x
 less_found None u v h = less_nothing v
 less_found (Some x) u v h = h x refl
 
-pub less_judged : {A : Type 0} (w : Verdict A) (u : A → Uses) (v : Uses) → ((x : A) → w ≡ Holds x → Less (u x) v) → Less (of_judged w u) v
-less_judged (Holds x) u v h = h x refl
-less_judged (Broken rule at) u v h = less_nothing v
-
 pub less_each : {A : Type 0} (u : A → Uses) (v : Uses) → ((x : A) → Less (u x) v) → (xs : List A) → Less (of_each u xs) v
 less_each u v h [] = less_nothing v
 less_each u v h (x ∷ xs) = less_both (u x) (of_each u xs) v (h x) (less_each u v h xs)
@@ -142,10 +140,6 @@ fits (resource.Group g) m = not (is_of_local m)
 abbrev pub Fit : Uses → Type 0
 Fit u = (r : Resource) (n : Mode) → u r ≡ Some n → fits r n ≡ true
 
-right_true : (a b : Bool) → (a && b) ≡ true → b ≡ true
-right_true true b e = e
-right_true false b e = absurd (cc)
-
 group_fits : (q : GroupPerm) (n : Mode) → group_allows q n ≡ true → not (is_of_local n) ≡ true
 group_fits group.Exclusive mode.Read e = absurd (cc)
 group_fits group.Exclusive mode.Write e = absurd (cc)
@@ -163,7 +157,7 @@ given_fits None n e = absurd (cc)
 given_fits (Some q) n e = group_fits q n e
 
 allowed_fits : (c : Context) (r : Resource) (n : Mode) → is_allowed c r n ≡ true → fits r n ≡ true
-allowed_fits c (resource.Local x) n e = right_true _ (is_of_local n) e
+allowed_fits c (resource.Local x) n e = second_of_both _ (is_of_local n) e
 allowed_fits c (resource.Group g) n e = given_fits (c.group g) n e
 
 pub fit_within : (c : Context) (u : Uses) → Within c u → Fit u
@@ -186,29 +180,11 @@ weak_apart (resource.Group x) mode.Read mode.GroupShared f g s t e = cc
 weak_apart (resource.Local x) mode.GroupShared mode.Read f g s t e = cc
 weak_apart (resource.Group x) mode.GroupShared mode.Read f g s t e = cc
 
-strong_first : (m n : Mode) → is_strong m ≡ true → are_compatible m n ≡ false
-strong_first mode.Read n s = absurd (cc)
-strong_first mode.Write n s = refl
-strong_first mode.GroupShared n s = absurd (cc)
-strong_first mode.GroupWhole n s = refl
-
-strong_second : (m n : Mode) → is_strong n ≡ true → are_compatible m n ≡ false
-strong_second m mode.Read s = absurd (cc)
-strong_second mode.Read mode.Write s = refl
-strong_second mode.Write mode.Write s = refl
-strong_second mode.GroupShared mode.Write s = refl
-strong_second mode.GroupWhole mode.Write s = refl
-strong_second m mode.GroupShared s = absurd (cc)
-strong_second mode.Read mode.GroupWhole s = refl
-strong_second mode.Write mode.GroupWhole s = refl
-strong_second mode.GroupShared mode.GroupWhole s = refl
-strong_second mode.GroupWhole mode.GroupWhole s = refl
-
 -- what conflicts still does, where both are used at least as strongly
 modes_conflict : (r : Resource) (m n k l : Mode) (a b : Bool) → is_strong m ≡ a → is_strong n ≡ b → fits r m ≡ true → fits r n ≡ true → are_compatible m n ≡ false
     → (is_strong m ≡ true → is_strong k ≡ true) → (is_strong n ≡ true → is_strong l ≡ true) → are_compatible k l ≡ false
-modes_conflict r m n k l true b s t f g e h i = strong_first k l (h s)
-modes_conflict r m n k l false true s t f g e h i = strong_second k l (i t)
+modes_conflict r m n k l true b s t f g e h i = strong_before k l (h s)
+modes_conflict r m n k l false true s t f g e h i = strong_after k l (i t)
 modes_conflict r m n k l false false s t f g e h i = absurd (weak_apart r m n f g s t e)
 
 more_conflict : (r : Resource) (o q v w : Option Mode) → ((m : Mode) → o ≡ Some m → fits r m ≡ true) → ((m : Mode) → q ≡ Some m → fits r m ≡ true)

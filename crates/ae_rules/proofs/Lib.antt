@@ -1,16 +1,18 @@
+-- The lemmas of the crates below that this one goes by, and its own.
+pub use Rattle.ae_text.proofs as from_text
 pub mod VerdictLemmas
 mod GroupLemmas
 mod LawLemmas
 mod CallLemmas
 mod MoveLemmas
 mod KeepLemmas
-mod EdgeLemmas
-mod SeenLemmas
+pub mod EdgeLemmas
+pub mod SeenLemmas
 mod VisibleLemmas
 mod PredLemmas
 mod LessLemmas
 mod InstanceLemmas
-mod PathLemmas
+pub mod PathLemmas
 mod BlockLemmas
 mod GoneLemmas
 mod EffectLemmas

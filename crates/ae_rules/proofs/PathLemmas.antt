@@ -165,9 +165,6 @@ held_right u v w h = record { less = less_right u v w h.less; fit = h.fit }
 nowhere_out : (p : Code) (m : Definition) (a : Action) (c : Context) → Held nothing (statement_uses p m a c)
 nowhere_out p m a c = held_nothing (statement_uses p m a c)
 
-abbrev StepOf : Code → Bool → Definition → Action → Context → Type 0
-StepOf p locked m a c = Step p locked m a c
-
 let_step : (p : Code) → Accepts p → (locked : Bool) (m : Definition) (t : _) (x : NameAt) (e : RightSide) (c : Context) → Step p locked m (Declares t x e) c
 let_step p a locked m t x (Returned i) c = record {
   bound = called_uses p (judge_callee p c i.on i.method);
@@ -316,7 +313,7 @@ inside_is : (p : Code) (locked : Bool) (s : Scene) (i : ℕ) (a : Action) (c : C
 inside_is p locked s i a c e k =
     ap (λ o. given o Nowhere (λ x. given (context_at p s.method s.lines s.start i) Nowhere (in_statement p locked s.method x))) e ∙ ap (λ v. given v Nowhere (in_statement p locked s.method a)) k
 
-fit_statement : (p : Code) (m : Definition) (at : Spot) (a : Action) (c d : Context) → judge_statement p m at a c ≡ Holds d → Held (statement_uses p m a c) (statement_uses p m a c)
+pub fit_statement : (p : Code) (m : Definition) (at : Spot) (a : Action) (c d : Context) → judge_statement p m at a c ≡ Holds d → Held (statement_uses p m a c) (statement_uses p m a c)
 fit_statement p m at a c d h = record { less = less_itself (statement_uses p m a c); fit = fit_within d (statement_uses p m a c) (λ r n e. uses_are_allowed p m at a c d r n h e) }
 
 -- one number of a path through a block

@@ -3,7 +3,7 @@ use Rattle.std.proofs.Common.{◌≡◌, ◌<◌, ◌⊎◌, inl, inr, refl, sym
 use Rattle.std.specs.List.{Contains}
 use Rattle.std.specs.Prelude.{slice_index_or}
 use Rattle.std.proofs.lemmas.List.{append-nil}
-use Rattle.std.proofs.lemmas.Bool.{cases_order}
+use Rattle.std.proofs.lemmas.Bool.{cases_order, not-true, or_right, or_cases, or_left, and_from, not_from_false}
 use Rattle.std.proofs.lemmas.Bool.Decides.{nat_tests}
 use Rattle.std.proofs.lemmas.List.Elements.{Contains-append_left, Contains-append_right, Contains-append_cases}
 use Rattle.ae_rules.specs.declared.uses.Resource.{Resource}
@@ -13,56 +13,30 @@ use Rattle.ae_rules.specs.Edges.{are_compatible, is_strong, IsConflict, IsWeak, 
 use Rattle.ae_rules.specs.Context.{all_below}
 use Rattle.ae_rules.specs.EdgeLists.{conflicts, is_weak, edge_on, any_below, is_edge, those_below}
 use Rattle.ae_rules.specs.EdgeLaws.{name_of_resource, NamesBelow, PredsAreEdges}
+use Rattle.ae_rules.proofs.from_text.Basics.{second_of_both, first_of_both, below_or_last}
 
 -- ---- tests
 
-both_left : (a b : Bool) → (a && b) ≡ true → a ≡ true
-both_left true b e = refl
-both_left false b e = absurd (cc)
-
-both_right : (a b : Bool) → (a && b) ≡ true → b ≡ true
-both_right true b e = e
-both_right false b e = absurd (cc)
-
-both : (a b : Bool) → a ≡ true → b ≡ true → (a && b) ≡ true
-both true b e h = h
-both false b e h = absurd (cc)
-
-left_of : (a b : Bool) → a ≡ true → (a || b) ≡ true
-left_of true b e = refl
-left_of false b e = absurd (cc)
-
-right_of : (a b : Bool) → b ≡ true → (a || b) ≡ true
-right_of true b e = refl
-right_of false b e = e
-
-one_of : (a b : Bool) → (a || b) ≡ true → (a ≡ true) ⊎ (b ≡ true)
-one_of true b e = inl refl
-one_of false b e = inr e
-
-last_or_below : (i n : ℕ) → i < suc n → (i < n) ⊎ (i ≡ n)
-last_or_below i n l = elim (cases_order i n) [ inl e ↦ inr (omega arith) | inr o ↦ elim o [ inl m ↦ inl (omega arith) | inr m ↦ absurd (omega (arith, l)) ] ]
-
 all_at : (n : ℕ) (test : ℕ → Bool) (i : ℕ) → all_below n test ≡ true → i < n → test i ≡ true
 all_at zero test i e l = absurd (omega (arith, l))
-all_at (suc n) test i e l = elim (last_or_below i n l) [
-  | inl m ↦ all_at n test i (both_right (test n) (all_below n test) e) m
-  | inr q ↦ ap test q ∙ both_left (test n) (all_below n test) e
+all_at (suc n) test i e l = elim (below_or_last i n l) [
+  | inl m ↦ all_at n test i (second_of_both (test n) (all_below n test) e) m
+  | inr q ↦ ap test q ∙ first_of_both (test n) (all_below n test) e
 ]
 
 all_of : (n : ℕ) (test : ℕ → Bool) → ((i : ℕ) → i < n → test i ≡ true) → all_below n test ≡ true
 all_of zero test h = refl
-all_of (suc n) test h = both (test n) (all_below n test) (h n (omega arith)) (all_of n test (λ i l. h i (omega (arith, l))))
+all_of (suc n) test h = and_from (test n) (all_below n test) (h n (omega arith)) (all_of n test (λ i l. h i (omega (arith, l))))
 
 any_at : (n : ℕ) (test : ℕ → Bool) → any_below n test ≡ true → (i : ℕ) × (test i ≡ true)
 any_at zero test e = absurd (cc)
-any_at (suc n) test e = elim (one_of (any_below n test) (test n) e) [ inl h ↦ any_at n test h | inr h ↦ (n, h) ]
+any_at (suc n) test e = elim (or_cases (any_below n test) (test n) e) [ inl h ↦ any_at n test h | inr h ↦ (n, h) ]
 
 any_of : (n : ℕ) (test : ℕ → Bool) (i : ℕ) → i < n → test i ≡ true → any_below n test ≡ true
 any_of zero test i l e = absurd (omega (arith, l))
-any_of (suc n) test i l e = elim (last_or_below i n l) [
-  | inl m ↦ left_of (any_below n test) (test n) (any_of n test i m e)
-  | inr q ↦ right_of (any_below n test) (test n) (sym (ap test q) ∙ e)
+any_of (suc n) test i l e = elim (below_or_last i n l) [
+  | inl m ↦ or_left (any_below n test) (test n) (any_of n test i m e)
+  | inr q ↦ or_right (any_below n test) (test n) (sym (ap test q) ∙ e)
 ]
 
 -- ---- lists of numbers
@@ -97,7 +71,7 @@ found (suc n) test i h = elim (Contains-append_cases (those_below n test) (last_
 
 put : (n : ℕ) (test : ℕ → Bool) (i : ℕ) → i < n → test i ≡ true → Contains (those_below n test) i
 put zero test i l e = absurd (omega (arith, l))
-put (suc n) test i l e = elim (last_or_below i n l) [
+put (suc n) test i l e = elim (below_or_last i n l) [
   | inl m ↦ Contains-append_left (those_below n test) (last_if (test n) n) i (put n test i m e)
   | inr q ↦ Contains-append_right (those_below n test) (last_if (test n) n) i (subst (λ (x : ℕ). Contains (last_if (test n) n) x) (sym q) (last_put (test n) n (sym (ap test q) ∙ e)))
 ]
@@ -117,31 +91,23 @@ rising (suc n) test = rising_last (test n) (those_below n test) n (rising n test
 
 -- ---- edges
 
-is_false : (b : Bool) → not b ≡ true → b ≡ false
-is_false true e = absurd (cc)
-is_false false e = refl
-
-is_not : (b : Bool) → b ≡ false → not b ≡ true
-is_not true e = absurd (cc)
-is_not false e = refl
-
 conflict_from : (o q : Option Mode) → conflicts o q ≡ true → IsConflict o q
 conflict_from None q e = absurd (cc)
 conflict_from (Some m) None e = absurd (cc)
-conflict_from (Some m) (Some n) e = is_false (are_compatible m n) e
+conflict_from (Some m) (Some n) e = not-true (are_compatible m n) e
 
 conflict_to : (o q : Option Mode) → IsConflict o q → conflicts o q ≡ true
 conflict_to None q h = absurd h
 conflict_to (Some m) None h = absurd h
-conflict_to (Some m) (Some n) h = is_not (are_compatible m n) h
+conflict_to (Some m) (Some n) h = not_from_false (are_compatible m n) h
 
 weak_from : (o : Option Mode) → is_weak o ≡ true → IsWeak o
 weak_from None e = tt
-weak_from (Some m) e = is_false (is_strong m) e
+weak_from (Some m) e = not-true (is_strong m) e
 
 weak_to : (o : Option Mode) → IsWeak o → is_weak o ≡ true
 weak_to None h = refl
-weak_to (Some m) h = is_not (is_strong m) h
+weak_to (Some m) h = not_from_false (is_strong m) h
 
 used_first : (o q : Option Mode) → IsConflict o q → (m : Mode) × (o ≡ Some m)
 used_first None q h = absurd h
@@ -167,8 +133,8 @@ clear_at uses i r k = not (nat_lt i k) || is_weak (uses k r)
 
 edge_from : (uses : BlockUses) (i j : ℕ) (r : Resource) → i < j → edge_on uses i j r ≡ true → Edge uses i j
 edge_from uses i j r l e =
-    let c : conflicts (uses i r) (uses j r) ≡ true = both_left (conflicts (uses i r) (uses j r)) (all_below j (clear_at uses i r)) e in
-    let w : all_below j (clear_at uses i r) ≡ true = both_right (conflicts (uses i r) (uses j r)) (all_below j (clear_at uses i r)) e in
+    let c : conflicts (uses i r) (uses j r) ≡ true = first_of_both (conflicts (uses i r) (uses j r)) (all_below j (clear_at uses i r)) e in
+    let w : all_below j (clear_at uses i r) ≡ true = second_of_both (conflicts (uses i r) (uses j r)) (all_below j (clear_at uses i r)) e in
     record {
       before = l;
       on = r;
@@ -178,7 +144,7 @@ edge_from uses i j r l e =
 
 edge_to : (uses : BlockUses) (i j : ℕ) (e : Edge uses i j) → edge_on uses i j e.on ≡ true
 edge_to uses i j e =
-    both (conflicts (uses i e.on) (uses j e.on)) (all_below j (clear_at uses i e.on)) (conflict_to (uses i e.on) (uses j e.on) e.conflict)
+    and_from (conflicts (uses i e.on) (uses j e.on)) (all_below j (clear_at uses i e.on)) (conflict_to (uses i e.on) (uses j e.on) e.conflict)
     (all_of j (clear_at uses i e.on) (λ k until. not_between i k (is_weak (uses k e.on)) (λ after. weak_to (uses k e.on) (e.clear k after until))))
 
 abbrev on_name : BlockUses → ℕ → ℕ → ℕ → Bool
@@ -187,14 +153,14 @@ on_name uses i j x = edge_on uses i j (resource.Local x) || edge_on uses i j (re
 pub listed : (n : ℕ) (uses : BlockUses) (i j : ℕ) → i < j → is_edge n uses i j ≡ true → Edge uses i j
 listed n uses i j l e =
     let x : (x : ℕ) × (on_name uses i j x ≡ true) = any_at n (on_name uses i j) e in
-    elim (one_of (edge_on uses i j (resource.Local x.0)) (edge_on uses i j (resource.Group x.0)) x.1) [
+    elim (or_cases (edge_on uses i j (resource.Local x.0)) (edge_on uses i j (resource.Group x.0)) x.1) [
       | inl h ↦ edge_from uses i j (resource.Local x.0) l h
       | inr h ↦ edge_from uses i j (resource.Group x.0) l h
     ]
 
 on_its_name : (uses : BlockUses) (i j : ℕ) (r : Resource) → edge_on uses i j r ≡ true → on_name uses i j (name_of_resource r) ≡ true
-on_its_name uses i j (resource.Local x) e = left_of (edge_on uses i j (resource.Local x)) (edge_on uses i j (resource.Group x)) e
-on_its_name uses i j (resource.Group x) e = right_of (edge_on uses i j (resource.Local x)) (edge_on uses i j (resource.Group x)) e
+on_its_name uses i j (resource.Local x) e = or_left (edge_on uses i j (resource.Local x)) (edge_on uses i j (resource.Group x)) e
+on_its_name uses i j (resource.Group x) e = or_right (edge_on uses i j (resource.Local x)) (edge_on uses i j (resource.Group x)) e
 
 unlisted : (n : ℕ) (uses : BlockUses) → NamesBelow n uses → (i j : ℕ) → Edge uses i j → is_edge n uses i j ≡ true
 unlisted n uses h i j e =

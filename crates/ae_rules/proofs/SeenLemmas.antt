@@ -1,7 +1,7 @@
 -- What a judged statement uses is visible.
 use Rattle.std.proofs.Common.{◌≡◌, ◌⊎◌, inl, inr, refl, sym, ap, subst, ℕ, Bool, true, false, ◌||◌, ◌&&◌, if◌then◌else◌, List, [], ◌∷◌, Option, None, Some}
 use Rattle.std.specs.Prelude.{is_some, ⊤}
-use Rattle.std.proofs.lemmas.Bool.{eqb-true}
+use Rattle.std.proofs.lemmas.Bool.{eqb-true, or_cases, and_from}
 use Rattle.ae_text.specs.declared.refusal.Spot.{Spot}
 use Rattle.ae_text.specs.declared.refusal.Rule.{Rule}
 use Rattle.ae_text.specs.declared.refusal.Rule.TheVariants as rule
@@ -29,6 +29,7 @@ use Rattle.ae_rules.specs.Expressions.{expression_spot, Operands, Numbers, Truth
 use Rattle.ae_rules.specs.Uses.{nothing, same_resource, use_alone, read_use, write_use, whole_group, together, stronger, ◌∪◌, of_each, of_judged, of_found, is_seen, outside, all_but, reach_use, steps_use, walk_uses, path_uses, end_uses, root_written, write_uses, value_uses}
 use Rattle.ae_rules.specs.EdgeLaws.{is_of_local, group_allows, is_allowed}
 use Rattle.ae_rules.proofs.VerdictLemmas.{Yields, gives, next, asks, always}
+use Rattle.ae_rules.proofs.from_text.Basics.{option_holds_one, something_is_there}
 
 -- ---- verdicts
 
@@ -66,12 +67,8 @@ in_one c m r seen s n e =
     let q = one_if m n (same_resource r s) e in
     subst (λ (k : Mode). is_allowed c s k ≡ true) q.1 (subst (λ (x : Resource). is_allowed c x m ≡ true) (same_is r s q.0) seen)
 
-two_true : (a b : Bool) → a ≡ true → b ≡ true → (a && b) ≡ true
-two_true true b e h = h
-two_true false b e h = absurd (cc)
-
 pub in_local : (c : Context) (m : Mode) (x : ℕ) → is_of_local m ≡ true → is_seen c (resource.Local x) ≡ true → Within c (use_alone m (resource.Local x))
-in_local c m x h seen = in_one c m (resource.Local x) (two_true (is_some (c.local x)) (is_of_local m) seen h)
+in_local c m x h seen = in_one c m (resource.Local x) (and_from (is_some (c.local x)) (is_of_local m) seen h)
 
 pub in_read : (c : Context) (x : ℕ) → is_seen c (resource.Local x) ≡ true → Within c (read_use x)
 in_read c x seen = in_local c mode.Read x refl seen
@@ -107,19 +104,16 @@ outside_if false o n e = absurd (cc)
 abbrev pub Inside : Context → Uses → Type 0
 Inside c u = (r : Resource) (n : Mode) → u r ≡ Some n → is_seen c r ≡ true → is_allowed c r n ≡ true
 
-outside_use : (b : Bool) (o : Option Mode) (n : Mode) → (if b then o else None) ≡ Some n → o ≡ Some n
+pub outside_use : (b : Bool) (o : Option Mode) (n : Mode) → (if b then o else None) ≡ Some n → o ≡ Some n
 outside_use true o n e = e
 outside_use false o n e = absurd (cc)
 
 pub in_outside : (c : Context) (u : Uses) → Inside c u → Within c (outside c u)
 in_outside c u h r n e = h r n (outside_use (is_seen c r) (u r) n e) (outside_if (is_seen c r) (u r) n e)
 
-but_if : (b : Bool) (o : Option Mode) (n : Mode) → (if b then None else o) ≡ Some n → o ≡ Some n
+pub but_if : (b : Bool) (o : Option Mode) (n : Mode) → (if b then None else o) ≡ Some n → o ≡ Some n
 but_if true o n e = absurd (cc)
 but_if false o n e = e
-
-pub in_all_but : (c : Context) (s : Resource) (u : Uses) → Within c u → Within c (all_but s u)
-in_all_but c s u h r n e = h r n (but_if (same_resource s r) (u r) n e)
 
 -- each of a list that is judged in turn
 pub in_turns : {A S : Type 0} (c : Context) (premise : A → S → Verdict S) (u : A → Uses) → ((x : A) (s : S) → Yields (λ _. Within c (u x)) (premise x s))
@@ -137,10 +131,6 @@ in_each c premise u h (x ∷ xs) =
     weaker (λ _ k. in_both c (u x) (of_each u xs) ((h x).value t e) k) (in_each c premise u h xs)
 
 -- ---- groups
-
-pub there : {A : Type 0} (o : Option A) (x : A) → o ≡ Some x → is_some o ≡ true
-there None x e = absurd (cc)
-there (Some y) x e = refl
 
 exclusive_allows : (o : Option GroupPerm) → given o false (same_group_perm group.Exclusive) ≡ true → given o false (λ q. group_allows q mode.GroupWhole) ≡ true
 exclusive_allows None e = absurd (cc)
@@ -172,12 +162,8 @@ in_exclusive c g e = in_one c mode.GroupWhole (resource.Group g) (exclusive_allo
 pub in_shared : (c : Context) (g : ℕ) → group_is group.Shared c.group g ≡ true → Within c (together g)
 in_shared c g e = in_one c mode.GroupShared (resource.Group g) (shared_allows (c.group g) e)
 
-either : (a b : Bool) → (a || b) ≡ true → (a ≡ true) ⊎ (b ≡ true)
-either true b e = inl refl
-either false b e = inr e
-
 pub in_open : (c : Context) (g : ℕ) → opens c.group g ≡ true → Within c (whole_group g)
-in_open c g e = in_one c mode.GroupWhole (resource.Group g) (elim (either (group_is group.Exclusive c.group g) (group_is group.Protected c.group g) e) [ inl h ↦ exclusive_allows (c.group g) h | inr h ↦ protected_allows (c.group g) h ])
+in_open c g e = in_one c mode.GroupWhole (resource.Group g) (elim (or_cases (group_is group.Exclusive c.group g) (group_is group.Protected c.group g) e) [ inl h ↦ exclusive_allows (c.group g) h | inr h ↦ protected_allows (c.group g) h ])
 
 -- ---- paths
 
@@ -203,14 +189,10 @@ in_steps p c at (x ∷ xs) from =
     weaker (λ _ k. in_both c (reach_use from.held) (of_judged (step p c at x from) (steps_use p c at xs)) ((step_reaches p c at x from).value t e)
     (in_judged c (step p c at x from) (steps_use p c at xs) t e k)) (in_steps p c at xs t)
 
-pub one_there : {A : Type 0} (o : Option A) (x y : A) → o ≡ Some x → o ≡ Some y → x ≡ y
-one_there None x y e h = absurd (cc)
-one_there (Some z) x y e h = cc
-
 pub root_seen : (p : Code) (c : Context) (path : Path) → Yields (λ _. is_seen c (resource.Local path.root.name) ≡ true) (walk p c path)
 root_seen p c path =
     next (found (c.local path.root.name) rule.UnknownName path.root.at) λ l e.
-    always (there (c.local path.root.name) l (found_is (c.local path.root.name) rule.UnknownName path.root.at l e))
+    always (something_is_there (c.local path.root.name) l (found_is (c.local path.root.name) rule.UnknownName path.root.at l e))
 
 pub in_walk : (p : Code) (c : Context) (path : Path) → Yields (λ _. Within c (walk_uses p c path)) (walk p c path)
 in_walk p c path =
@@ -223,7 +205,7 @@ in_walk p c path =
         → Within c (steps_use p c path.root.at path.steps (record { form = l.form; held = l.held }))
         → Within c (steps_use p c path.root.at path.steps (record { form = y.form; held = y.held }))
     same_steps l y e h k =
-        let same : l ≡ y = one_there (c.local path.root.name) l y e h in
+        let same : l ≡ y = option_holds_one (c.local path.root.name) l y e h in
         subst (λ (z : Local). Within c (steps_use p c path.root.at path.steps (record { form = z.form; held = z.held }))) same k
 
 pub in_path : (p : Code) (c : Context) (path : Path) → Yields (λ _. Within c (path_uses p c path)) (walk p c path)

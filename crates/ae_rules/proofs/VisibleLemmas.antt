@@ -2,7 +2,7 @@
 use Rattle.ae_rules.specs.Edges.{Uses}
 use Rattle.std.proofs.Common.{◌≡◌, inl, inr, refl, sym, ap, ◌∙◌, subst, ℕ, nat_eq, Bool, true, false, ◌&&◌, not, if◌then◌else◌, List, map, Option, None, Some}
 use Rattle.std.specs.Prelude.{is_some, length, zip, ⊤}
-use Rattle.std.proofs.lemmas.Bool.{eq-eqb}
+use Rattle.std.proofs.lemmas.Bool.{eq-eqb, false≢true}
 use Rattle.ae_text.specs.declared.refusal.Spot.{Spot}
 use Rattle.ae_text.specs.declared.refusal.Rule.TheVariants as rule
 use Rattle.ae_tree.specs.declared.tree.NameAt.{NameAt}
@@ -44,11 +44,12 @@ use Rattle.ae_rules.specs.EdgeLaws.{is_of_local, group_allows, is_allowed, UsesA
 use Rattle.ae_rules.proofs.GroupLemmas.{AreExclusive, declared_is, list_exclusive}
 use Rattle.ae_rules.proofs.VerdictLemmas.{Yields, gives, next, asks, always}
 use Rattle.ae_rules.proofs.KeepLemmas.{statements_keep}
-use Rattle.ae_rules.proofs.SeenLemmas.{weaker, found_is, required, Within, in_nothing, in_read, in_changed, in_exclusive, in_shared, in_open, Inside, of_two, in_both, in_judged, in_found, in_outside, in_turns, in_each, there, one_there, root_seen, in_walk, in_path, in_write, in_owner, in_value, in_is_value}
+use Rattle.ae_rules.proofs.SeenLemmas.{weaker, found_is, required, Within, in_nothing, in_read, in_changed, in_exclusive, in_shared, in_open, Inside, of_two, in_both, in_judged, in_found, in_outside, in_turns, in_each, root_seen, in_walk, in_path, in_write, in_owner, in_value, in_is_value, but_if}
+use Rattle.ae_rules.proofs.from_text.Basics.{number_is_itself, option_holds_one, something_is_there}
 
 -- what is found is the thing of which it holds
 here : {A : Type 0} (c : Context) (o : Option A) (u : A → Uses) (x : A) → o ≡ Some x → Within c (u x) → Within c (of_found o u)
-here c o u x e h = in_found c o u (λ y k. subst (λ z. Within c (u z)) (one_there o x y e k) h)
+here c o u x e h = in_found c o u (λ y k. subst (λ z. Within c (u z)) (option_holds_one o x y e k) h)
 
 -- ---- sources
 
@@ -167,27 +168,24 @@ in_right p c target (Returned i) = next (judge_call p c i) λ called h. always (
 
 -- ---- statements
 
-no_truth : false ≡ true → ⊥
-no_truth e = cc
-
 seen_later : (c d : Context) → Keeps c d → (r : Resource) → is_seen c r ≡ true → is_seen d r ≡ true
 seen_later c d k (resource.Local x) s = local_later (c.local x) refl s
   where
     local_later : (o : Option Local) → c.local x ≡ o → is_some o ≡ true → is_some (d.local x) ≡ true
     local_later None e h = absurd (cc)
-    local_later (Some l) e h = there (d.local x) _ (k.local x l e).1
+    local_later (Some l) e h = something_is_there (d.local x) _ (k.local x l e).1
 seen_later c d k (resource.Group g) s = group_later (c.group g) refl s
   where
     group_later : (o : Option _) → c.group g ≡ o → is_some o ≡ true → is_some (d.group g) ≡ true
     group_later None e h = absurd (cc)
-    group_later (Some q) e h = there (d.group g) q (k.group g q e)
+    group_later (Some q) e h = something_is_there (d.group g) q (k.group g q e)
 
 allowed_later : (c d : Context) → Keeps c d → (r : Resource) (n : Mode) → is_allowed c r n ≡ true → is_allowed d r n ≡ true
 allowed_later c d k (resource.Local x) n e = two (is_some (c.local x)) (is_some (d.local x)) (is_of_local n) (seen_later c d k (resource.Local x)) e
   where
     two : (a b m : Bool) → (a ≡ true → b ≡ true) → (a && m) ≡ true → (b && m) ≡ true
     two true true m h e = e
-    two true false m h e = absurd (no_truth (h refl))
+    two true false m h e = absurd (false≢true (h refl))
     two false b m h e = absurd (cc)
 allowed_later c d k (resource.Group g) n e = same (c.group g) refl e
   where
@@ -210,9 +208,6 @@ in_first : {A : Type 0} (b : Bool) (x : A) (o : Option A) → b ≡ true → is_
 in_first true x o e = refl
 in_first false x o e = absurd (cc)
 
-same_name : (x : ℕ) → nat_eq x x ≡ true
-same_name x = eq-eqb x x refl
-
 in_let : (p : Code) (c : Context) (t : Ty) (x : NameAt) (e : RightSide) → Yields (λ _. Within c (right_uses p c (form t) e)) (judge_let p c t x e)
 in_let p c t x e =
     next (forms_type p (known c.group) false t) λ _ _.
@@ -225,7 +220,7 @@ new_seen p c t x e =
     next (forms_type p (known c.group) false t) λ _ _.
     asks (not (is_visible c x.name)) _ _ λ _.
     next (judge_right p c (form t) e) λ d h.
-    gives (in_first (nat_eq x.name x.name) _ _ (same_name x.name))
+    gives (in_first (nat_eq x.name x.name) _ _ (number_is_itself x.name))
 
 in_assign : (p : Code) (c : Context) (x : NameAt) (e : RightSide) → Yields (λ _. Within c (assign_uses p c x e)) (judge_assign p c x e)
 in_assign p c x e =
@@ -233,7 +228,7 @@ in_assign p c x e =
     asks (not l.stays) _ _ λ _.
     next (judge_right p c l.form e) λ d z.
     let is : c.local x.name ≡ Some l = found_is (c.local x.name) rule.UnknownName x.at l h in
-    always (in_both c (write_use x.name) _ (in_changed c x.name (there (c.local x.name) l is)) (here c (c.local x.name) _ l is ((in_right p c l.form e).value d z)))
+    always (in_both c (write_use x.name) _ (in_changed c x.name (something_is_there (c.local x.name) l is)) (here c (c.local x.name) _ l is ((in_right p c l.form e).value d z)))
 
 in_store : (p : Code) (c : Context) (path : Path) (e : Expression) (at : Spot) → Yields (λ _. Within c (store_uses p c path e)) (judge_store p c path e at)
 in_store p c path e at =
@@ -256,7 +251,7 @@ in_store_at p c path i e =
 in_alone : (c : Context) (x : NameAt) → Yields (λ _. Within c (write_use x.name)) (holds_alone c x)
 in_alone c x =
     next (found (c.local x.name) rule.UnknownName x.at) λ (l : Local) h.
-    always (in_changed c x.name (there (c.local x.name) l (found_is (c.local x.name) rule.UnknownName x.at l h)))
+    always (in_changed c x.name (something_is_there (c.local x.name) l (found_is (c.local x.name) rule.UnknownName x.at l h)))
 
 in_share : (c : Context) (x g : NameAt) → Yields (λ _. Within c (write_use x.name ∪ whole_group g.name)) (judge_share c x g)
 in_share c x g =
@@ -309,15 +304,15 @@ allowed_before c d k (resource.Group g) n s e = same (c.group g) refl s
 opened_if : (b : Bool) (o : Option GroupPerm) (n : Mode) → (b ≡ true → given o false (same_group_perm group.Exclusive) ≡ true)
     → given (if b then Some group.Shared else o) false (λ q. group_allows q n) ≡ true → given o false (λ q. group_allows q n) ≡ true
 opened_if false o n h e = e
-opened_if true None n h e = absurd (no_truth (h refl))
+opened_if true None n h e = absurd (false≢true (h refl))
 opened_if true (Some group.Exclusive) mode.GroupShared h e = refl
 opened_if true (Some group.Exclusive) mode.GroupWhole h e = refl
 opened_if true (Some group.Exclusive) mode.Read h e = absurd (cc)
 opened_if true (Some group.Exclusive) mode.Write h e = absurd (cc)
-opened_if true (Some group.Shared) n h e = absurd (no_truth (h refl))
-opened_if true (Some group.Protected) n h e = absurd (no_truth (h refl))
-opened_if true (Some group.HeldBack) n h e = absurd (no_truth (h refl))
-opened_if true (Some group.None) n h e = absurd (no_truth (h refl))
+opened_if true (Some group.Shared) n h e = absurd (false≢true (h refl))
+opened_if true (Some group.Protected) n h e = absurd (false≢true (h refl))
+opened_if true (Some group.HeldBack) n h e = absurd (false≢true (h refl))
+opened_if true (Some group.None) n h e = absurd (false≢true (h refl))
 
 split_list : (c : Context) (gs : List NameAt) → Yields (λ _. Within c (of_each (λ (g : NameAt). whole_group g.name) gs) × AreExclusive c.group (has_name (bare_names gs))) (may_split_all c.group gs)
 split_list c gs =
@@ -369,17 +364,13 @@ but_other : (b : Bool) (o : Option Mode) (n : Mode) → (if b then None else o) 
 but_other true o n e = absurd (cc)
 but_other false o n e = refl
 
-but_same : (b : Bool) (o : Option Mode) (n : Mode) → (if b then None else o) ≡ Some n → o ≡ Some n
-but_same true o n e = absurd (cc)
-but_same false o n e = e
-
 seen_if : (b : Bool) (o : Option Mode) (n : Mode) → (if b then o else None) ≡ Some n → (b ≡ true) × (o ≡ Some n)
 seen_if true o n e = (refl, e)
 seen_if false o n e = absurd (cc)
 
 in_locked : (c : Context) (g : ℕ) (u : Uses) → Inside (while_locked g c) u → Within c (all_but (resource.Group g) (outside c u))
 in_locked c g u h r n e =
-    let inner : outside c u r ≡ Some n = but_same (same_resource (resource.Group g) r) (outside c u r) n e in
+    let inner : outside c u r ≡ Some n = but_if (same_resource (resource.Group g) r) (outside c u r) n e in
     let q = seen_if (is_seen c r) (u r) n inner in
     let k = lock_opens c g r (but_other (same_resource (resource.Group g) r) (outside c u r) n e) n q.0 in
     k.1 (h r n q.1 k.0)
@@ -424,7 +415,7 @@ mutual
       asks (not (is_some (c.local g.name))) _ _ λ _.
       next (declare g c.group) λ gs h.
       gives (in_exclusive (record c { group = gs }) g.name (subst (λ (hs : GroupsKnown). group_is group.Exclusive hs g.name ≡ true) ((declared_is g c.group).value gs h).1
-      (new_exclusive (nat_eq g.name g.name) (c.group g.name) (same_name g.name))))
+      (new_exclusive (nat_eq g.name g.name) (c.group g.name) (number_is_itself g.name))))
   visible p m at (Assigns x e) c = kept p m at (Assigns x e) c (in_assign p c x e)
   visible p m at (Stores path e) c = kept p m at (Stores path e) c (in_store p c path e (expression_spot e))
   visible p m at (StoresAt path i e) c = kept p m at (StoresAt path i e) c (in_store_at p c path i e)

@@ -7,6 +7,7 @@ use Rattle.ae_tree.specs.Plain.{Lines}
 use Rattle.ae_rules.specs.BuiltUses.{use_at}
 use Rattle.ae_rules.specs.Edges.{is_strong, are_compatible, IsConflict, IsWeak}
 use Rattle.ae_run.specs.Flow.{is_strong_use, IsClosed}
+use Rattle.ae_run.proofs.from_rules.EdgeLemmas.{strong_before, strong_after}
 
 -- the least number below n that passes a test, or none
 pub data Sought (q : ℕ → Bool) (n : ℕ) : Type 0 where
@@ -27,52 +28,28 @@ seek q (suc n) = sought_more q n (seek q n) (q n) refl
 
 -- ---- uses
 
-strong_first : (m n : Mode) → is_strong m ≡ true → are_compatible m n ≡ false
-strong_first Read n h = absurd (cc)
-strong_first Write Read h = refl
-strong_first Write Write h = refl
-strong_first Write GroupShared h = refl
-strong_first Write GroupWhole h = refl
-strong_first GroupShared n h = absurd (cc)
-strong_first GroupWhole Read h = refl
-strong_first GroupWhole Write h = refl
-strong_first GroupWhole GroupShared h = refl
-strong_first GroupWhole GroupWhole h = refl
-
-strong_second : (m n : Mode) → is_strong n ≡ true → are_compatible m n ≡ false
-strong_second m Read h = absurd (cc)
-strong_second Read Write h = refl
-strong_second Write Write h = refl
-strong_second GroupShared Write h = refl
-strong_second GroupWhole Write h = refl
-strong_second m GroupShared h = absurd (cc)
-strong_second Read GroupWhole h = refl
-strong_second Write GroupWhole h = refl
-strong_second GroupShared GroupWhole h = refl
-strong_second GroupWhole GroupWhole h = refl
-
 -- a strong use between two that conflict conflicts with both
 between_second : (o p q : Option Mode) → is_strong_use q ≡ true → IsConflict o p → IsConflict o q
 between_second None p q h c = absurd c
 between_second (Some m) None q h c = absurd c
 between_second (Some m) (Some n) None h c = absurd (cc)
-between_second (Some m) (Some n) (Some k) h c = strong_second m k h
+between_second (Some m) (Some n) (Some k) h c = strong_after m k h
 
 between_first : (o p q : Option Mode) → is_strong_use q ≡ true → IsConflict o p → IsConflict q p
 between_first None p q h c = absurd c
 between_first (Some m) None q h c = absurd c
 between_first (Some m) (Some n) None h c = absurd (cc)
-between_first (Some m) (Some n) (Some k) h c = strong_first k n h
+between_first (Some m) (Some n) (Some k) h c = strong_before k n h
 
 pub write_then_use : (o p : Option Mode) → is_strong_use o ≡ true → IsSome p → IsConflict o p
 write_then_use None p h u = absurd (cc)
 write_then_use (Some m) None h u = absurd (cc)
-write_then_use (Some m) (Some n) h u = strong_first m n h
+write_then_use (Some m) (Some n) h u = strong_before m n h
 
 pub use_then_write : (o p : Option Mode) → IsSome o → is_strong_use p ≡ true → IsConflict o p
 use_then_write None p u h = absurd (cc)
 use_then_write (Some m) None u h = absurd (cc)
-use_then_write (Some m) (Some n) u h = strong_second m n h
+use_then_write (Some m) (Some n) u h = strong_after m n h
 
 pub write_is_use : (o : Option Mode) → is_strong_use o ≡ true → IsSome o
 write_is_use None h = absurd (cc)

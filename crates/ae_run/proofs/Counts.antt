@@ -1,13 +1,13 @@
 -- Counting in lists of numbers.
 use Rattle.std.proofs.Common.{◌≡◌, ◌≢◌, ◌<◌, ◌≤◌, ◌+◌, inl, inr, ℕ, suc, nat_eq, if◌then◌else◌, Bool, true, false, List, [], ◌∷◌, length, get_or, count_by, Contains, refl, ap, sym, ◌∙◌, arith, subst}
 use Rattle.std.proofs.lemmas.List.Sums.{sum_by-cons, get_or-le-sum_by}
-use Rattle.std.proofs.lemmas.Bool.{cases_eq}
+use Rattle.std.proofs.lemmas.Bool.{cases_eq, ne_eqb}
 use Rattle.ae_tree.specs.Plain.{Lines}
 use Rattle.ae_rules.specs.BuiltUses.{ArePreds}
 use Rattle.ae_rules.specs.Edges.{IsRising}
 use Rattle.ae_graph.specs.Graph.{Graph, preds_in, AreSuccs}
-use Rattle.ae_run.proofs.Lists.{same_number, other_number}
 use Rattle.ae_text.specs.Numbers.{times}
+use Rattle.ae_run.proofs.from_text.Basics.{number_is_itself}
 
 abbrev unit : Bool → ℕ
 unit b = if b then 1 else 0
@@ -53,12 +53,12 @@ count_change p q j (x ∷ xs) a b h =
     let ct : times j (x ∷ xs) ≡ unit (nat_eq x j) + times j xs = count-cons (λ y. nat_eq y j) x xs in
     let here : unit (p x) ≡ unit (q x) + unit (nat_eq x j) = elim (cases_eq x j) [
       | inl e ↦
-          let t : nat_eq x j ≡ true = subst (λ (y : ℕ). nat_eq x y ≡ true) e (same_number x) in
+          let t : nat_eq x j ≡ true = subst (λ (y : ℕ). nat_eq x y ≡ true) e (number_is_itself x) in
           let u : p x ≡ true = ap p e ∙ a in
           let v : q x ≡ false = ap q e ∙ b in
           ap unit u ∙ sym (ap (λ (b : Bool). unit b + unit (nat_eq x j)) v ∙ ap (λ (b : Bool). 0 + unit b) t)
       | inr n ↦
-          let t : nat_eq x j ≡ false = other_number x j n in
+          let t : nat_eq x j ≡ false = ne_eqb x j n in
           let u : unit (q x) ≡ unit (p x) = ap unit (h x n) in
           let v : unit (nat_eq x j) ≡ 0 = ap unit t in
           omega arith
@@ -71,11 +71,11 @@ not_below : (x y : ℕ) (ys : List ℕ) → IsRising (y ∷ ys) → x < y → ti
 not_below x y [] r l =
     let c : times x (y ∷ []) ≡ unit (nat_eq y x) + times x [] = count-cons (λ n. nat_eq n x) y [] in
     let z : times x [] ≡ 0 = refl in
-    let u : unit (nat_eq y x) ≡ 0 = ap unit (other_number y x (λ (e : y ≡ x). omega arith)) in
+    let u : unit (nat_eq y x) ≡ 0 = ap unit (ne_eqb y x (λ (e : y ≡ x). omega arith)) in
     omega arith
 not_below x y (z ∷ zs) r l =
     let c : times x (y ∷ z ∷ zs) ≡ unit (nat_eq y x) + times x (z ∷ zs) = count-cons (λ n. nat_eq n x) y (z ∷ zs) in
-    let u : unit (nat_eq y x) ≡ 0 = ap unit (other_number y x (λ (e : y ≡ x). omega arith)) in
+    let u : unit (nat_eq y x) ≡ 0 = ap unit (ne_eqb y x (λ (e : y ≡ x). omega arith)) in
     let m : y < z = r.0 in
     let n : times x (z ∷ zs) ≡ 0 = not_below x z zs r.1 (omega arith) in
     omega arith
@@ -100,7 +100,7 @@ once x (y ∷ z ∷ zs) r =
           let m : unit (nat_eq y x) ≤ 1 = unit_most (nat_eq y x) in
           omega arith
       | inr o ↦
-          let u : unit (nat_eq y x) ≡ 0 = ap unit (other_number y x o) in
+          let u : unit (nat_eq y x) ≡ 0 = ap unit (ne_eqb y x o) in
           let m : times x (z ∷ zs) ≤ 1 = once x (z ∷ zs) r.1 in
           omega arith
     ]
@@ -108,7 +108,7 @@ once x (y ∷ z ∷ zs) r =
 stands : (x : ℕ) (xs : List ℕ) → Contains xs x → 1 ≤ times x xs
 stands x xs (k, l, h) =
     let m : unit (nat_eq (get_or xs k x) x) ≤ times x xs = get_or-le-sum_by (λ y. if nat_eq y x then 1 else 0) xs k x l in
-    let u : unit (nat_eq (get_or xs k x) x) ≡ 1 = ap (λ y. unit (nat_eq y x)) h ∙ ap unit (same_number x) in
+    let u : unit (nat_eq (get_or xs k x) x) ≡ 1 = ap (λ y. unit (nat_eq y x)) h ∙ ap unit (number_is_itself x) in
     omega arith
 
 stands_in : (x : ℕ) (xs : List ℕ) → 1 ≤ times x xs → Contains xs x
@@ -118,7 +118,7 @@ stands_in x (y ∷ ys) h =
     elim (cases_eq y x) [
       | inl e ↦ (0, omega arith, e)
       | inr o ↦
-          let u : unit (nat_eq y x) ≡ 0 = ap unit (other_number y x o) in
+          let u : unit (nat_eq y x) ≡ 0 = ap unit (ne_eqb y x o) in
           let r = stands_in x ys (omega arith) in
           let n : r.0 + 1 ≡ suc r.0 = omega arith in
           (r.0 + 1, omega (arith, r.1), ap (λ k. get_or (y ∷ ys) k x) n ∙ r.2)
@@ -141,5 +141,5 @@ no_edges g i j succs e s = count_none (λ n. nat_eq n j) succs (λ k c. elim (ca
       let n : 1 ≤ times i (preds_in g j) = stands i (preds_in g j) h in
       let z : times i (preds_in g j) ≡ 0 = ap (times i) e in
       absurd (omega arith)
-  | inr o ↦ other_number k j o
+  | inr o ↦ ne_eqb k j o
 ])

@@ -16,10 +16,8 @@ use Rattle.ae_run.specs.declared.course.First.{First}
 use Rattle.ae_run.specs.Flow.{alone, turn, IsClosed, HasValues, IsReady}
 use Rattle.ae_run.specs.Course.{is_went, is_taken, fate_at, went, was_taken, IsBehind, IsAtOrBehind, IsFate, IsFirst, IsRight, Settles}
 use Rattle.ae_run.proofs.Deeds.{unprinted}
-use Rattle.ae_run.proofs.Flow.{IsWith, Stands, Laws, not_both as clash, closed_with, went_values, went_prints, ended_turn, stopped_turn, values_begin}
-
-same : {A B : Type 0} (f g : A → B) → ((x : A) → f x ≡ g x) → f ≡ g
-same f g h = λ i. λ x. h x i
+use Rattle.ae_run.proofs.Flow.{IsWith, Stands, Laws, closed_with, went_values, went_prints, ended_turn, stopped_turn, values_begin}
+use Rattle.ae_run.proofs.from_text.Basics.{no_test_is_both, functions_agree}
 
 -- ---- one fate is set
 
@@ -29,7 +27,7 @@ fate_here fs j f l = get_or-set_same fs j f fate.Waiting l
 pub fate_other : (fs : List Fate) (j : ℕ) (f : Fate) (k : ℕ) → k ≢ j → fate_at (set fs j f) k ≡ fate_at fs k
 fate_other fs j f k n = get_or-set_other fs j k f fate.Waiting n
 
-untaken_left : (f : Fate) → is_taken f ≡ false → is_went f ≡ false
+pub untaken_left : (f : Fate) → is_taken f ≡ false → is_went f ≡ false
 untaken_left fate.Waiting h = refl
 untaken_left (fate.Went piece) h = absurd (cc)
 untaken_left fate.Stopped h = refl
@@ -42,7 +40,7 @@ stopped_at fs j l u k (inr n) = ap is_went (fate_other fs j fate.Stopped k n)
 
 -- one that does not go through changes nothing for the others
 pub went-stopped : (fs : List Fate) (j : ℕ) → j < length fs → was_taken fs j ≡ false → went (set fs j fate.Stopped) ≡ went fs
-went-stopped fs j l u = same (went (set fs j fate.Stopped)) (went fs) (λ k. stopped_at fs j l u k (cases_eq k j))
+went-stopped fs j l u = functions_agree (went (set fs j fate.Stopped)) (went fs) (λ k. stopped_at fs j l u k (cases_eq k j))
 
 pub went-went : (fs : List Fate) (j : ℕ) (piece : List ℕ) → j < length fs → IsWith (went fs) (went (set fs j (fate.Went piece))) j
 went-went fs j piece l = record {
@@ -162,12 +160,8 @@ fresh changes b fs s n w e l =
     record {
       size = n;
       log = l;
-      closed = λ i j edge h. absurd (clash (went fs j) h (none j));
+      closed = λ i j edge h. absurd (no_test_is_both (went fs j) h (none j));
       values = subst (λ (v : Env). HasValues b (went fs) v) (sym e) (values_begin changes b (went fs) none);
       fates = λ j. subst (IsFate b None j) (sym (w j)) tt;
       first = tt;
     }
-
-pub count-lines : (xs : List Stmt) → statement_count (lines_from xs) ≡ length xs
-count-lines [] = refl
-count-lines (x ∷ xs) = let e : length (x ∷ xs) ≡ length xs + 1 = omega arith in ap (λ n. n + 1) (count-lines xs) ∙ sym e

@@ -1,6 +1,6 @@
 -- A run that is over has the ending and the output of the run in source order.
 use Rattle.std.proofs.Common.{◌≡◌, ◌<◌, ◌+◌, ◌⊎◌, inl, inr, ℕ, zero, suc, Bool, true, false, not, List, [], ◌∷◌, ◌++◌, length, take, append_assoc, Option, None, Some, IsSome, refl, ap, sym, ◌∙◌, arith, subst}
-use Rattle.std.proofs.lemmas.Bool.{cases_order}
+use Rattle.std.proofs.lemmas.Bool.{cases_order, not-true, not-false}
 use Rattle.ae_tree.specs.Plain.{Lines, End, Next}
 use Rattle.ae_tree.specs.Limits.{statement_count}
 use Rattle.ae_rules.specs.BuiltUses.{IsBuiltEdge}
@@ -17,6 +17,7 @@ use Rattle.ae_run.specs.Course.{is_went, is_taken, fate_at, went, was_taken, pie
 use Rattle.ae_run.proofs.Deeds.{unprinted}
 use Rattle.ae_run.proofs.Closed.{Sought, Least, Nowhere, seek}
 use Rattle.ae_run.proofs.Pieces.{append_nil}
+use Rattle.ae_run.proofs.from_text.Basics.{no_test_is_both}
 
 -- a statement went through with this fate
 abbrev PrintsFate : Run → Fate → Type 0
@@ -81,21 +82,9 @@ went_fate b known k fate.Waiting t h = absurd (cc)
 went_fate b known k (fate.Went piece) t h = h
 went_fate b known k fate.Stopped t h = absurd (cc)
 
-from_not : (t : Bool) → not t ≡ false → t ≡ true
-from_not true h = refl
-from_not false h = absurd (cc)
-
-to_not : (t : Bool) → not t ≡ true → t ≡ false
-to_not true h = absurd (cc)
-to_not false h = refl
-
-clash : (t : Bool) → t ≡ true → t ≡ false → ⊥
-clash true p q = cc
-clash false p q = cc
-
 before_end : AddsToTheLog → (b : Lines) (fs : List Fate) (known : Option First) (s : TodayState) → IsRight b fs known s → (j : ℕ) → ((k : ℕ) → k < j → not (went fs k) ≡ false)
     → today_many b begin ≡ today_many (rest_from j b) (state (found_from empty b j) (pieces (take j fs)))
-before_end adds b fs known s r j all = many_prefix adds b empty [] fs j (λ k l. went_fate b known k (fate_at fs k) (from_not (went fs k) (all k l)) (r.fates k))
+before_end adds b fs known s r j all = many_prefix adds b empty [] fs j (λ k l. went_fate b known k (fate_at fs k) (not-false (went fs k) (all k l)) (r.fates k))
 
 -- a run's answer is its ending and its output in source order
 abbrev pub Answered : Lines → List Fate → Option First → Type 0
@@ -110,7 +99,7 @@ all_went adds b fs None s r f all =
     let m : today_many b begin ≡ Went (state (found_from empty b (length fs)) (pieces (take (length fs) fs))) =
     before_end adds b fs None s r (length fs) all ∙ ap (λ (x : Lines). today_many x (state (found_from empty b (length fs)) (pieces (take (length fs) fs)))) e in
     (ap (λ x. (meaning_of_run x).ending) (sym m), ap (λ x. (meaning_of_run x).out) (sym m))
-all_went adds b fs (Some first) s r f all = absurd (clash (went fs first.at) (from_not (went fs first.at) (all first.at f.0)) (stopped_not_went fs first.at f.1))
+all_went adds b fs (Some first) s r f all = absurd (no_test_is_both (went fs first.at) (not-false (went fs first.at) (all first.at f.0)) (stopped_not_went fs first.at f.1))
 
 stopped_least : AddsToTheLog → (b : Lines) (fs : List Fate) (known : Option First) (s : TodayState) → IsRight b fs known s → IsFirst b fs known → (d : ℕ) → d < length fs
     → ((k : ℕ) → k < d → not (went fs k) ≡ false) → IsSome (meaning_of_run (today_many b begin)).ending
@@ -120,7 +109,7 @@ stopped_least adds b fs (Some first) s r f d l all some (inl h) =
     let e : first.at ≡ d = elim (cases_order first.at d) [
       | inl q ↦ q
       | inr o ↦ elim o [
-        | inl m ↦ absurd (clash (went fs first.at) (from_not (went fs first.at) (all first.at m)) (stopped_not_went fs first.at f.1))
+        | inl m ↦ absurd (no_test_is_both (went fs first.at) (not-false (went fs first.at) (all first.at m)) (stopped_not_went fs first.at f.1))
         | inr m ↦ absurd (omega arith)
       ]
     ] in
@@ -146,8 +135,8 @@ finish_at : AddsToTheLog → (b : Lines) (g : Graph) → IsGraph (Some b) g → 
 finish_at adds b g graph fs known s r over some (Nowhere all) = all_went adds b fs known s r r.first all
 finish_at adds b g graph fs known s r over some (Least d l h all) =
     let m : d < length g = subst (λ n. d < n) (r.size ∙ sym graph.0) l in
-    let t : was_taken fs d ≡ true = over d m (λ i c. let e : IsBuiltEdge b i d = ((graph.1 d m).exact i).0 c in from_not (went fs i) (all i e.before)) in
-    at_least adds b fs known s r d l all some (fate_at fs d) t (to_not (went fs d) h) (r.fates d)
+    let t : was_taken fs d ≡ true = over d m (λ i c. let e : IsBuiltEdge b i d = ((graph.1 d m).exact i).0 c in not-false (went fs i) (all i e.before)) in
+    at_least adds b fs known s r d l all some (fate_at fs d) t (not-true (went fs d) h) (r.fates d)
 
 -- what a run that is over has is what the run in source order has
 pub finish : AddsToTheLog → (b : Lines) (g : Graph) → IsGraph (Some b) g → (fs : List Fate) (known : Option First) (s : TodayState) → IsRight b fs known s → IsOver g fs → IsSome (meaning_of_run (today_many b begin)).ending → Answered b fs known

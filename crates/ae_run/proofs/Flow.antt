@@ -1,6 +1,6 @@
 -- A statement all of whose predecessors went through finds what it finds in source order.
 use Rattle.std.proofs.Common.{◌≡◌, ◌≢◌, ◌<◌, ◌≤◌, ◌+◌, ◌-◌, ◌⊎◌, inl, inr, ℕ, suc, Bool, true, false, ◌||◌, nat_eq, List, [], IsSome, refl, ap, sym, ◌∙◌, arith, subst}
-use Rattle.std.proofs.lemmas.Bool.{cases_eq, cases_order}
+use Rattle.std.proofs.lemmas.Bool.{cases_eq, cases_order, false_from_ne_true}
 use Rattle.std.proofs.lemmas.Bool.Decides.{nat_tests}
 use Rattle.ae_rules.specs.declared.uses.Resource.TheVariants.{Local}
 use Rattle.ae_tree.specs.Plain.{Lines}
@@ -12,14 +12,7 @@ use Rattle.ae_meaning.specs.Frame.{View, AgreeAfter, ReadsItsUses, ChangesItsWri
 use Rattle.ae_run.specs.Flow.{alone, locals_after, found_by, turn, writes_local, IsClosed, HasValues, IsReady, Prints}
 use Rattle.ae_run.proofs.Deeds.{seen, alone-agrees, Kept, alone-kept, found-next, found-unwritten}
 use Rattle.ae_run.proofs.Closed.{conflicts_closed, write_then_use, use_then_write, write_is_use}
-
-pub not_both : (t : Bool) → t ≡ true → t ≡ false → ⊥
-not_both true p q = cc
-not_both false p q = cc
-
-one_of : (t : Bool) → (t ≡ true → ⊥) → t ≡ false
-one_of true h = absurd (h refl)
-one_of false h = refl
+use Rattle.ae_run.proofs.from_text.Basics.{no_test_is_both}
 
 le_or_more : (m j : ℕ) → (m ≤ j) ⊎ (j < m)
 le_or_more m j = elim (cases_order m j) [ inl e ↦ inl (omega arith) | inr o ↦ elim o [ inl l ↦ inl (omega arith) | inr l ↦ inr l ] ]
@@ -30,7 +23,7 @@ pub record IsWith (went later : ℕ → Bool) (j : ℕ) : Type 0 where
   pub others : (k : ℕ) → k ≢ j → later k ≡ went k
 
 not_here : (went : ℕ → Bool) (i j : ℕ) → went j ≡ false → went i ≡ true → i ≢ j
-not_here went i j l h = λ q. not_both (went j) (ap went (sym q) ∙ h) l
+not_here went i j l h = λ q. no_test_is_both (went j) (ap went (sym q) ∙ h) l
 
 closed_step : (b : Lines) (went later : ℕ → Bool) (j : ℕ) → IsClosed b went → IsReady b went j → IsWith went later j
     → (i k : ℕ) → IsBuiltEdge b i k → later k ≡ true → (k ≡ j) ⊎ (k ≢ j) → later i ≡ true
@@ -63,17 +56,17 @@ agrees b went j env c r v = λ y u.
     let n : k ≢ j = λ (q : k ≡ j). omega arith in
     sym (also_others went j k n)
     ∙ conflicts_closed b (also went j) closed (Local y) k j l (write_then_use (use_at b k (Local y)) (use_at b j (Local y)) w u) (also_here went j))
-    (λ k l w. one_of (went k) (λ t.
+    (λ k l w. false_from_ne_true (went k) (λ t.
     let n : k ≢ j = not_here went k j r.left t in
     let m : j < k = omega arith in
-    not_both (went j) (conflicts_closed b went c (Local y) j k m (use_then_write (use_at b j (Local y)) (use_at b k (Local y)) u w) t) r.left))
+    no_test_is_both (went j) (conflicts_closed b went c (Local y) j k m (use_then_write (use_at b j (Local y)) (use_at b k (Local y)) u w) t) r.left))
 
 -- a local that statement j does not write
 unwritten_at : (b : Lines) (went later : ℕ → Bool) (j : ℕ) (env : Env) → IsWith went later j → HasValues b went env
     → (y m : ℕ) → writes_local b j y ≡ false → ((k : ℕ) → k < m → writes_local b k y ≡ true → later k ≡ true) → ((k : ℕ) → m ≤ k → writes_local b k y ≡ true → later k ≡ false)
     → env y ≡ found_by b m y
 unwritten_at b went later j env w v y m n p q =
-    let apart : (k : ℕ) → writes_local b k y ≡ true → k ≢ j = λ k t e. not_both (writes_local b k y) t (ap (λ x. writes_local b x y) e ∙ n) in
+    let apart : (k : ℕ) → writes_local b k y ≡ true → k ≢ j = λ k t e. no_test_is_both (writes_local b k y) t (ap (λ x. writes_local b x y) e ∙ n) in
     v y m (λ k l t. sym (w.others k (apart k t)) ∙ p k l t) (λ k l t. sym (w.others k (apart k t)) ∙ q k l t)
 
 -- a local that statement j writes: none between j and m writes it
@@ -83,10 +76,10 @@ written_at : ChangesItsWrites → (b : Lines) (went later : ℕ → Bool) (j : �
 written_at changes b went later j c r w y m t p l =
     let e : suc j + (m - suc j) ≡ m = omega arith in
     let none : (k : ℕ) → suc j ≤ k → k < suc j + (m - suc j) → writes_local b k y ≡ false = λ k above under.
-    one_of (writes_local b k y) (λ s.
+    false_from_ne_true (writes_local b k y) (λ s.
     let n : k ≢ j = λ (q : k ≡ j). omega arith in
     let past : went k ≡ true = sym (w.others k n) ∙ p k (omega arith) s in
-    not_both (went j) (conflicts_closed b went c (Local y) j k (omega arith) (use_then_write (use_at b j (Local y)) (use_at b k (Local y)) (write_is_use (use_at b j (Local y)) t) s) past) r.left) in
+    no_test_is_both (went j) (conflicts_closed b went c (Local y) j k (omega arith) (use_then_write (use_at b j (Local y)) (use_at b k (Local y)) (write_is_use (use_at b j (Local y)) t) s) past) r.left) in
     ap (λ n. found_by b n y) (sym e) ∙ found-unwritten changes b y (suc j) (m - suc j) none ∙ ap (λ (f : Env). f y) (found-next empty b j)
 
 -- what statements that went through leave, and a ready statement beside them
@@ -114,7 +107,7 @@ value_at : Laws → (b : Lines) (went later : ℕ → Bool) (j : ℕ) (env : Env
     → (s : TodayState) → AgreeAfter (seen b j) (Went s) (turn b j) → Kept (writes_local b j) env (Went s)
     → (y m : ℕ) → ((k : ℕ) → k < m → writes_local b k y ≡ true → later k ≡ true) → ((k : ℕ) → m ≤ k → writes_local b k y ≡ true → later k ≡ false)
     → (t : Bool) → writes_local b j y ≡ t → (m ≤ j) ⊎ (j < m) → s.env y ≡ found_by b m y
-value_at laws b went later j env h w s a k y m p q true t (inl l) = absurd (not_both (later j) w.here (q j l t))
+value_at laws b went later j env h w s a k y m p q true t (inl l) = absurd (no_test_is_both (later j) w.here (q j l t))
 value_at laws b went later j env h w s a k y m p q true t (inr l) =
     went_local (seen b j) s (turn b j) (found_by b j) y a (write_is_use (use_at b j (Local y)) t)
     ∙ sym (written_at laws.changes b went later j h.closed h.ready w y m t p l)
@@ -163,4 +156,4 @@ stopped_turn laws b went j env h log e =
 pub values_begin : ChangesItsWrites → (b : Lines) (went : ℕ → Bool) → ((k : ℕ) → went k ≡ false) → HasValues b went empty
 values_begin changes b went n = λ y m p q.
     let e : 0 + m ≡ m = omega arith in
-    sym (ap (λ x. found_by b x y) (sym e) ∙ found-unwritten changes b y 0 m (λ k l u. one_of (writes_local b k y) (λ t. not_both (went k) (p k (omega arith) t) (n k))))
+    sym (ap (λ x. found_by b x y) (sym e) ∙ found-unwritten changes b y 0 m (λ k l u. false_from_ne_true (writes_local b k y) (λ t. no_test_is_both (went k) (p k (omega arith) t) (n k))))

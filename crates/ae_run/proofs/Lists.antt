@@ -3,10 +3,11 @@ use Rattle.std.proofs.Common.{◌≡◌, ◌≢◌, ◌<◌, ◌≤◌, ◌+◌,
 use Rattle.std.proofs.lemmas.List.{get_or_past, get_or_default}
 use Rattle.std.proofs.lemmas.List.Sums.{sum_by_more, sum_by_more_le}
 use Rattle.std.proofs.lemmas.List.Sorted.{sum_by_pushed, sum_by_popped}
-use Rattle.std.proofs.lemmas.Bool.{cases_eq}
+use Rattle.std.proofs.lemmas.Bool.{cases_eq, ne_eqb}
 use Rattle.std.proofs.lemmas.Bool.Decides.{nat_tests}
 use Rattle.ae_run.specs.Queue.{zero_as_one, waits_of}
 use Rattle.ae_text.specs.Numbers.{times}
+use Rattle.ae_run.proofs.from_text.Basics.{number_is_itself}
 
 -- an item that is the default may be pushed
 pub default_pushed : {A : Type 0} (xs : List A) (k : ℕ) (d : A) → get_or (xs ++ d ∷ []) k d ≡ get_or xs k d
@@ -27,12 +28,6 @@ pushed_other (x ∷ xs) y d (suc i) n = pushed_other xs y d i (λ (e : i ≡ len
 
 -- ---- the queue at its beginning
 
-pub same_number : (i : ℕ) → nat_eq i i ≡ true
-same_number i = grind (arith, nat_tests)
-
-pub other_number : (i j : ℕ) → i ≢ j → nat_eq i j ≡ false
-other_number i j n = grind (arith, nat_tests)
-
 pub begun_at : (ws : List ℕ) (p t u i j : ℕ) → j ≡ length ws → t ≡ zero_as_one (waits_of ws i)
     → u ≡ (if nat_eq j i then zero_as_one p else 0) + t → u ≡ zero_as_one (waits_of (ws ++ p ∷ []) i)
 begun_at ws p t u i j e h k =
@@ -41,14 +36,14 @@ begun_at ws p t u i j e h k =
           let w : waits_of (ws ++ p ∷ []) i ≡ p = ap (waits_of (ws ++ p ∷ [])) (q ∙ e) ∙ pushed_here ws p 1 in
           let past : length ws ≤ i = omega arith in
           let o : waits_of ws i ≡ 1 = get_or_past ws i 1 past in
-          let s : nat_eq j i ≡ true = subst (λ (x : ℕ). nat_eq x i ≡ true) q (same_number i) in
+          let s : nat_eq j i ≡ true = subst (λ (x : ℕ). nat_eq x i ≡ true) q (number_is_itself i) in
           let t0 : t ≡ 0 = h ∙ ap zero_as_one o in
           let v : u ≡ zero_as_one p + t = k ∙ ap (λ (b : Bool). (if b then zero_as_one p else 0) + t) s in
           let z : u ≡ zero_as_one p = omega arith in
           z ∙ ap zero_as_one (sym w)
       | inr n ↦
           let w : waits_of (ws ++ p ∷ []) i ≡ waits_of ws i = pushed_other ws p 1 i (λ (q : i ≡ length ws). n (q ∙ sym e)) in
-          let s : nat_eq j i ≡ false = other_number j i (λ q. n (sym q)) in
+          let s : nat_eq j i ≡ false = ne_eqb j i (λ q. n (sym q)) in
           let v : u ≡ 0 + t = k ∙ ap (λ (b : Bool). (if b then zero_as_one p else 0) + t) s in
           let z : u ≡ t = omega arith in
           z ∙ h ∙ ap zero_as_one (sym w)
@@ -72,7 +67,7 @@ pub waits_some : (first ws xs : List ℕ) (k x : ℕ) → ((i : ℕ) → times i
     → ((i : ℕ) → waits_of ws i + times i (take k xs) ≡ waits_of first i) → k < length xs → x ≡ get_or xs k 0
     → (x < length ws) × (1 ≤ get_or ws x 0)
 waits_some first ws xs k x room size waits l e =
-    let s : nat_eq (get_or xs k 0) x ≡ true = subst (λ (y : ℕ). nat_eq y x ≡ true) e (same_number x) in
+    let s : nat_eq (get_or xs k 0) x ≡ true = subst (λ (y : ℕ). nat_eq y x ≡ true) e (number_is_itself x) in
     let m : times x (take k xs) + (if nat_eq (get_or xs k 0) x then 1 else 0) ≤ times x xs = sum_by_more_le (λ y. if nat_eq y x then 1 else 0) xs k 0 l in
     let n : times x (take k xs) + 1 ≤ times x xs = subst (λ (b : Bool). times x (take k xs) + (if b then 1 else 0) ≤ times x xs) s m in
     let r : times x xs ≤ get_or first x 0 = room x in
@@ -85,13 +80,13 @@ released_waits first ws xs k x left i waits l e b d =
     let m = times_more xs i k l in
     elim (cases_eq i x) [
       | inl q ↦
-          let s : nat_eq (get_or xs k 0) i ≡ true = subst (λ (y : ℕ). nat_eq y i ≡ true) (q ∙ e) (same_number i) in
+          let s : nat_eq (get_or xs k 0) i ≡ true = subst (λ (y : ℕ). nat_eq y i ≡ true) (q ∙ e) (number_is_itself i) in
           let n : times i (take (k + 1) xs) ≡ times i (take k xs) + 1 = m ∙ ap (λ (b : Bool). times i (take k xs) + (if b then 1 else 0)) s in
           let g : waits_of (set ws x left) i ≡ left = ap (waits_of (set ws x left)) q ∙ get_or-set_same ws x left 1 b in
           let h : waits_of ws i ≡ left + 1 = ap (waits_of ws) q ∙ sym d in
           omega arith
       | inr o ↦
-          let s : nat_eq (get_or xs k 0) i ≡ false = other_number (get_or xs k 0) i (λ p. o (sym p ∙ sym e)) in
+          let s : nat_eq (get_or xs k 0) i ≡ false = ne_eqb (get_or xs k 0) i (λ p. o (sym p ∙ sym e)) in
           let n : times i (take (k + 1) xs) ≡ times i (take k xs) + 0 = m ∙ ap (λ (b : Bool). times i (take k xs) + (if b then 1 else 0)) s in
           let g : waits_of (set ws x left) i ≡ waits_of ws i = get_or-set_other ws x i left 1 o in
           omega arith
@@ -106,13 +101,13 @@ pub released_ready : (ws : List ℕ) (x left i t u before zero_before : ℕ) →
 released_ready ws x left i t u before zero_before b d h a =
     elim (cases_eq i x) [
       | inl q ↦
-          let s : nat_eq x i ≡ true = subst (λ (y : ℕ). nat_eq y i ≡ true) q (same_number i) in
+          let s : nat_eq x i ≡ true = subst (λ (y : ℕ). nat_eq y i ≡ true) q (number_is_itself i) in
           let v : u ≡ zero_as_one left + t = a ∙ ap (λ (b : Bool). (if b then zero_as_one left else 0) + t) s in
           let g : zero_as_one (waits_of (set ws x left) i) ≡ zero_as_one left = ap zero_as_one (ap (waits_of (set ws x left)) q ∙ get_or-set_same ws x left 1 b) in
           let z : zero_as_one (waits_of ws i) ≡ 0 = ap zero_as_one (ap (waits_of ws) q) ∙ zero_of_suc (waits_of ws x) left d in
           omega arith
       | inr o ↦
-          let s : nat_eq x i ≡ false = other_number x i (λ p. o (sym p)) in
+          let s : nat_eq x i ≡ false = ne_eqb x i (λ p. o (sym p)) in
           let v : u ≡ 0 + t = a ∙ ap (λ (b : Bool). (if b then zero_as_one left else 0) + t) s in
           let g : zero_as_one (waits_of (set ws x left) i) ≡ zero_as_one (waits_of ws i) = ap zero_as_one (get_or-set_other ws x i left 1 o) in
           omega arith

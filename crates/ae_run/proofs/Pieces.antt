@@ -7,10 +7,6 @@ pub append_nil : (xs : List ℕ) → xs ++ [] ≡ xs
 append_nil [] = refl
 append_nil (x ∷ xs) = ap (λ ys. x ∷ ys) (append_nil xs)
 
-pub pieces-append : (fs : List Fate) (f : Fate) → pieces (fs ++ f ∷ []) ≡ pieces fs ++ piece_of f
-pieces-append [] f = append_nil (piece_of f)
-pieces-append (g ∷ fs) f = ap (λ ys. piece_of g ++ ys) (pieces-append fs f) ∙ sym (append_assoc (piece_of g) (pieces fs) (piece_of f))
-
 more_suc : (fs : List Fate) (i : ℕ) (f : Fate) → i < length fs → f ≡ get_or fs i f → pieces (take (suc i) fs) ≡ pieces (take i fs) ++ piece_of f
 more_suc [] i f l e = absurd (omega arith)
 more_suc (g ∷ fs) zero f l e = append_nil (piece_of g) ∙ ap piece_of (sym e)

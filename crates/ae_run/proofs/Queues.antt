@@ -2,7 +2,7 @@
 use Rattle.std.proofs.Common.{◌≡◌, ◌≢◌, ◌<◌, ◌≤◌, ◌+◌, ◌⊎◌, inl, inr, ℕ, nat_eq, if◌then◌else◌, Bool, true, false, not, List, [], ◌∷◌, length, get_or, set, count_by, IsPermutation, Some, refl, ap, sym, ◌∙◌, arith, subst}
 use Rattle.std.proofs.lemmas.List.{get_or_past, get_or_default}
 use Rattle.std.proofs.lemmas.List.Sums.{sum_by-set}
-use Rattle.std.proofs.lemmas.Bool.{cases_eq, cases_order}
+use Rattle.std.proofs.lemmas.Bool.{cases_eq, cases_order, ne_eqb, not-false}
 use Rattle.std.proofs.lemmas.Bool.Decides.{nat_tests}
 use Rattle.ae_tree.specs.Plain.{Lines}
 use Rattle.ae_graph.specs.Graph.{Graph, preds_in, IsGraph, AreSuccs}
@@ -11,10 +11,11 @@ use Rattle.ae_run.specs.declared.course.Fate.TheVariants as fate
 use Rattle.ae_run.specs.Flow.{IsReady}
 use Rattle.ae_run.specs.Queue.{zero_as_one, waits_of, AreWaits, AreReady}
 use Rattle.ae_run.specs.Course.{is_went, is_taken, fate_at, went, was_taken, Settles, IsOver}
-use Rattle.ae_run.proofs.Lists.{same_number, other_number, times_popped}
+use Rattle.ae_run.proofs.Lists.{times_popped}
 use Rattle.ae_run.proofs.Counts.{none_counted, count_none, count_all, count_change, times_edges, no_edges}
-use Rattle.ae_run.proofs.Courses.{fate_here, fate_other}
+use Rattle.ae_run.proofs.Courses.{fate_here, fate_other, untaken_left}
 use Rattle.ae_text.specs.Numbers.{times}
+use Rattle.ae_run.proofs.from_text.Basics.{number_is_itself}
 
 abbrev unit : Bool → ℕ
 unit b = if b then 1 else 0
@@ -36,15 +37,6 @@ unit_true : (b : Bool) → unit b ≡ 1 → b ≡ true
 unit_true true h = refl
 unit_true false h = absurd (cc)
 
-untaken_left : (f : Fate) → is_taken f ≡ false → is_went f ≡ false
-untaken_left fate.Waiting h = refl
-untaken_left (fate.Went piece) h = absurd (cc)
-untaken_left fate.Stopped h = refl
-
-not_false : (b : Bool) → not b ≡ false → b ≡ true
-not_false true h = refl
-not_false false h = absurd (cc)
-
 -- ---- a statement is taken
 
 pub record Taken (fs : List Fate) (waits : List ℕ) (j : ℕ) : Type 0 where
@@ -55,7 +47,7 @@ pub record Taken (fs : List Fate) (waits : List ℕ) (j : ℕ) : Type 0 where
 pub taken_now : (fs : List Fate) (waits ready rest : List ℕ) (j : ℕ) → AreReady (was_taken fs) waits ready → IsPermutation ready (j ∷ rest) → Taken fs waits j
 taken_now fs waits ready rest j r p =
     let t : times j rest + unit (nat_eq j j) ≡ times j ready = times_popped j j ready rest p in
-    let u : unit (nat_eq j j) ≡ 1 = ap unit (same_number j) in
+    let u : unit (nat_eq j j) ≡ 1 = ap unit (number_is_itself j) in
     let e : times j ready + unit (was_taken fs j) ≡ zero_as_one (waits_of waits j) = r j in
     let m : zero_as_one (waits_of waits j) ≤ 1 = zero_most (waits_of waits j) in
     let a : unit (was_taken fs j) ≡ 0 = omega arith in
@@ -75,7 +67,7 @@ ready_now b g graph fs waits j w t =
     let c : count_by (λ i. not (went fs i)) (preds_in g j) ≡ 0 = sym (w.counts j l) ∙ t.none in
     record {
       left = untaken_left (fate_at fs j) t.untaken;
-      waits = λ i e. not_false (went fs i) (none_counted (λ i. not (went fs i)) (preds_in g j) i c (((graph.1 j l).exact i).1 e));
+      waits = λ i e. not-false (went fs i) (none_counted (λ i. not (went fs i)) (preds_in g j) i c (((graph.1 j l).exact i).1 e));
     }
 
 -- ---- its turn came
@@ -88,11 +80,11 @@ taken_here fs gs j through l u s i =
       | inl e ↦
           let a : was_taken (set fs j s.fate) i ≡ true = ap (was_taken (set fs j s.fate)) e ∙ ap is_taken (fate_here fs j s.fate l) ∙ s.taken in
           let b : was_taken fs i ≡ false = ap (was_taken fs) e ∙ u in
-          let c : nat_eq j i ≡ true = subst (λ (x : ℕ). nat_eq j x ≡ true) (sym e) (same_number j) in
+          let c : nat_eq j i ≡ true = subst (λ (x : ℕ). nat_eq j x ≡ true) (sym e) (number_is_itself j) in
           ap unit a ∙ sym (ap (λ (x : Bool). unit x + unit (nat_eq j i)) b ∙ ap (λ (x : Bool). 0 + unit x) c)
       | inr n ↦
           let a : unit (was_taken (set fs j s.fate) i) ≡ unit (was_taken fs i) = ap (λ x. unit (is_taken x)) (fate_other fs j s.fate i n) in
-          let c : unit (nat_eq j i) ≡ 0 = ap unit (other_number j i (λ q. n (sym q))) in
+          let c : unit (nat_eq j i) ≡ 0 = ap unit (ne_eqb j i (λ q. n (sym q))) in
           omega arith
     ])
 

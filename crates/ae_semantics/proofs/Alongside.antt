@@ -35,7 +35,7 @@ may_run ok inner q h j (Next at a rest) = (inner q j h, may_run ok inner q h (su
 
 -- ---- calls
 
-fine_same : {A : Type 0} (x y : A) → Fine x ≡ Fine y → x ≡ y
+pub fine_same : {A : Type 0} (x y : A) → Fine x ≡ Fine y → x ≡ y
 fine_same x y e = cc
 
 -- the body of a call stands where the call does

@@ -124,7 +124,7 @@ found_kept x = record {
 }
 
 -- at every path a mark may be made
-all_free : (q : Instance) (j : ℕ) (x : Lines) → MayRun (λ q. Unit {0}) q j x
+pub all_free : (q : Instance) (j : ℕ) (x : Lines) → MayRun (λ q. Unit {0}) q j x
 all_free q j End = tt
 all_free q j (Next at a rest) = (tt, all_free q (suc j) rest)
 

@@ -14,15 +14,13 @@ use Rattle.ae_semantics.proofs.Follow.{Same, Answers, same_run}
 use Rattle.ae_semantics.specs.Gathering.{stops_at, gathering, gathered, answers, GoesByItsAnswers}
 use Rattle.ae_semantics.specs.Atom.{by_query}
 use Rattle.ae_semantics.proofs.Gathered.{Sim, sim_run}
+use Rattle.ae_semantics.proofs.from_text.Basics.{option_holds_one}
 
 pub contexts_are_judged : ContextsAreJudged
 contexts_are_judged p m at a c d j = ap (λ (v : Verdict Context). or_before v c) j
 
-some_once : {A : Type 0} (o : Option A) (x y : A) → o ≡ Some x → o ≡ Some y → x ≡ y
-some_once o x y d e = cc
-
 pub one_ending : OneEnding
-one_ending p ints fuel seen e f d c = some_once (mean p ints fuel seen).ending e f d c
+one_ending p ints fuel seen e f d c = option_holds_one (mean p ints fuel seen).ending e f d c
 
 -- a longer list answers alike
 longer : (more : List Seen) → Answers (λ (w : List Seen). w ++ more) in_order in_order

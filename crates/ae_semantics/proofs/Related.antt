@@ -24,6 +24,7 @@ use Rattle.ae_semantics.specs.Calls.{CallFrame, enter, leave, without_moved}
 use Rattle.ae_semantics.specs.Blocks.{image_of, cell_of, to_cell, goes_away, all_go_away, store_back, log_back, unless_stopped, used, cell_back, image_comes_back, all_come_back, cell_at, values_in, out_fits, with_out, block_back, ask_of, else_uses, put_to, asks}
 use Rattle.ae_semantics.specs.Meaning.{stored, stored_at, frozen, shares_into, returns_value, printed_value, prints_piece, begun, assigned, result_to, made, right_moved, sets, body_run, call_run, calls_method, asserts, does, forgotten, left, again, splits_groups, locks, one, many, block, below}
 use Rattle.ae_semantics.proofs.SourceOrder.{IsUpTo, same_start, one_up_to, earlier_up_to}
+use Rattle.std.proofs.lemmas.Option.{same_Some}
 
 -- ---- what a stretch of a run may tell of
 
@@ -95,23 +96,20 @@ turn_next q j = record {
   second = later_from q j;
 }
 
-some_same : {A : Type 0} (x y : A) → Some x ≡ Some y → x ≡ y
-some_same x y e = cc
-
 up_to_of : (q : Instance) (x : Instance) → Within (From q 0) x → IsUpTo q x
 up_to_of q x (k, rest, e, l) = subst (λ (z : Instance). IsUpTo q z) (sym e) (subst (λ (z : Instance). IsUpTo z (q ++ (k ∷ rest))) (append-nil q) (same_start q [] (k ∷ rest) refl))
 
 pub ran_tells : (q : Instance) (at : Spot) → Tells (Ran q at) (From q 0) (Of q)
 ran_tells q at = record {
-  own = λ y e. ([], sym (some_same q y e) ∙ sym (append-nil q));
-  ahead = λ y e x h. subst (λ (z : Instance). IsUpTo z x) (some_same q y e) (up_to_of q x h);
+  own = λ y e. ([], sym (same_Some q y e) ∙ sym (append-nil q));
+  ahead = λ y e x h. subst (λ (z : Instance). IsUpTo z x) (same_Some q y e) (up_to_of q x h);
   inner = from_of q;
 }
 
 turned_tells : (q : Instance) (t : ℕ) → Tells (Turned q t) (From q t) (From q t)
 turned_tells q t = record {
-  own = λ y e. (t, [], sym (some_same (q ++ (t ∷ [])) y e), omega arith);
-  ahead = λ y e x h. subst (λ (z : Instance). IsUpTo z x) (some_same (q ++ (t ∷ [])) y e) (up_to_from q t x h);
+  own = λ y e. (t, [], sym (same_Some (q ++ (t ∷ [])) y e), omega arith);
+  ahead = λ y e x h. subst (λ (z : Instance). IsUpTo z x) (same_Some (q ++ (t ∷ [])) y e) (up_to_from q t x h);
   inner = λ x h. h;
 }
 

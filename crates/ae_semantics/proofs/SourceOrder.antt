@@ -2,7 +2,7 @@
 use Rattle.std.proofs.Common.{◌≡◌, ◌<◌, inl, inr, refl, ap, sym, subst, ◌∙◌, arith, ℕ, zero, suc, nat_eq, nat_lt, Bool, true, false, ◌&&◌, ◌||◌, if◌then◌else◌, List, [], ◌∷◌, ◌++◌, map, Contains}
 use Rattle.std.proofs.lemmas.List.{append_assoc, append-nil}
 use Rattle.std.proofs.lemmas.List.Elements.{Contains-append_cases}
-use Rattle.std.proofs.lemmas.Bool.{eqb-true}
+use Rattle.std.proofs.lemmas.Bool.{eqb-true, eq-eqb}
 use Rattle.std.proofs.lemmas.Bool.Decides.{nat_tests}
 use Rattle.ae_rules.specs.Instances.{Instance}
 use Rattle.ae_rules.specs.Paths.{comes_before, later_of}
@@ -11,20 +11,13 @@ use Rattle.ae_semantics.specs.Observations.{Mark, Ran, Turned, Entered, Asked, U
 use Rattle.ae_semantics.specs.Runs.{Run, Went, Ends, Stops, Act, and_then}
 use Rattle.ae_semantics.specs.Means.{At, ran_in, turns_in, notes_of}
 use Rattle.ae_semantics.specs.Report.{turn_path, last_path}
+use Rattle.ae_semantics.proofs.from_text.Basics.{second_of_both, first_of_both, first_of_neither, second_of_neither}
 
 -- ---- paths in source order
 
 -- the one is not after the other
 abbrev pub IsUpTo : Instance → Instance → Type 0
 IsUpTo q r = comes_before r q ≡ false
-
-or_left : (a b : Bool) → (a || b) ≡ false → a ≡ false
-or_left false b e = refl
-or_left true b e = e
-
-or_right : (a b : Bool) → (a || b) ≡ false → b ≡ false
-or_right false b e = e
-or_right true b e = absurd (cc)
 
 and_then_false : (a b : Bool) → (a && b) ≡ false → a ≡ true → b ≡ false
 and_then_false true b e d = e
@@ -43,26 +36,12 @@ is_least k i e = grind (arith, nat_tests, e)
 not_equal : (k i : ℕ) → i < k → nat_eq k i ≡ false
 not_equal k i l = grind (arith, nat_tests, l)
 
-is_equal : (k i : ℕ) → nat_eq k i ≡ true → k ≡ i
-is_equal k i e = eqb-true k i e
-
-equal_is : (k i : ℕ) → k ≡ i → nat_eq k i ≡ true
-equal_is k i e = grind (arith, nat_tests, e)
-
 is_less : (i j : ℕ) → nat_lt i j ≡ true → i < j
 is_less i j e = grind (arith, nat_tests, e)
 
 other : (a b : Bool) → a ≡ false → (a || b) ≡ true → b ≡ true
 other false b e d = d
 other true b e d = absurd (cc)
-
-both_left : (a b : Bool) → (a && b) ≡ true → a ≡ true
-both_left true b e = refl
-both_left false b e = absurd (cc)
-
-both_right : (a b : Bool) → (a && b) ≡ true → b ≡ true
-both_right true b e = e
-both_right false b e = absurd (cc)
 
 no_and : (a b : Bool) → b ≡ false → (a && b) ≡ false
 no_and true b e = e
@@ -99,12 +78,12 @@ by_either false f g = g refl
 by_number : (i j k : ℕ) (a b c : Bool) → (nat_lt j i || (nat_eq j i && a)) ≡ false → (nat_lt k j || (nat_eq k j && b)) ≡ false → (a ≡ false → b ≡ false → c ≡ false)
     → (nat_lt k i || (nat_eq k i && c)) ≡ false
 by_number i j k a b c e d h =
-    let l : i < suc j = is_least j i (or_left _ _ e) in
-    let m : j < suc k = is_least k j (or_left _ _ d) in
+    let l : i < suc j = is_least j i (first_of_neither _ _ e) in
+    let m : j < suc k = is_least k j (first_of_neither _ _ d) in
     neither _ _ (not_less k i (omega (arith, l, m)))
     (by_either (nat_eq k i)
-    (λ q. let x : k ≡ i = is_equal k i q in
-    no_and _ _ (h (and_then_false _ _ (or_right _ _ e) (equal_is j i (omega (arith, l, m, x)))) (and_then_false _ _ (or_right _ _ d) (equal_is k j (omega (arith, l, m, x))))))
+    (λ q. let x : k ≡ i = eqb-true k i q in
+    no_and _ _ (h (and_then_false _ _ (second_of_neither _ _ e) (eq-eqb j i (omega (arith, l, m, x)))) (and_then_false _ _ (second_of_neither _ _ d) (eq-eqb k j (omega (arith, l, m, x))))))
     (λ q. no_and_left _ _ q))
 
 pub up_to_up_to : (q r s : Instance) → IsUpTo q r → IsUpTo r s → IsUpTo q s
@@ -120,8 +99,8 @@ before_not_after (i ∷ q) [] h = absurd (cc)
 before_not_after (i ∷ q) (j ∷ r) h = by_either (nat_lt i j)
     (λ e. earlier_up_to i j q r (is_less i j e))
     (λ e. let d : (nat_eq i j && comes_before q r) ≡ true = other (nat_lt i j) (nat_eq i j && comes_before q r) e h in
-    let x : i ≡ j = is_equal i j (both_left (nat_eq i j) (comes_before q r) d) in
-    neither _ _ (not_less j i (omega (arith, x))) (no_and _ _ (before_not_after q r (both_right (nat_eq i j) (comes_before q r) d))))
+    let x : i ≡ j = eqb-true i j (first_of_both (nat_eq i j) (comes_before q r) d) in
+    neither _ _ (not_less j i (omega (arith, x))) (no_and _ _ (before_not_after q r (second_of_both (nat_eq i j) (comes_before q r) d))))
 
 -- neither of two is after the later one
 left_up_to_later : (q a b : Instance) → IsUpTo q a → IsUpTo q (later_of a b)

@@ -29,6 +29,8 @@ use Rattle.ae_rules.specs.Walks.{held_in_field}
 use Rattle.ae_rules.specs.Uses.{nothing, read_use, whole_group, reach_use, stronger, ◌∪◌, of_judged, steps_use, walk_uses, path_uses, end_uses, value_uses}
 use Rattle.ae_semantics.specs.Values.{Val, OfInt, OfBool, Null, Owned, Member, Tree, Store, fits, is_of_kind}
 use Rattle.ae_semantics.specs.Places.{Outcome, Fine, Traps, Lacks, ◌>>=◌, there, reached, Bound, State, group_of, members, Address, InGroup, PlaceFound, ObjectOpened, opened_if, opened_member, open_form, open_place, FieldPart, part_at, field_of_object, field_value, field_place, met, into_field, local_place, step_to, steps, walk_to}
+use Rattle.std.proofs.lemmas.Option.{same_Some}
+use Rattle.ae_semantics.proofs.Alongside.{fine_same}
 
 -- both states are the same where these uses are
 pub record SameOn (u : Uses) (s t : State) : Type 0 where
@@ -78,9 +80,6 @@ open_same p s t at (f.Object (perm.Shared g) k) (OfBool b) h = refl
 open_same p s t at (f.Object perm.Unique k) v h = refl
 open_same p s t at (f.Object perm.Immutable k) v h = refl
 open_same p s t at (f.Object perm.Lent k) v h = refl
-
-fine_same : {A : Type 0} (x y : A) → Fine x ≡ Fine y → x ≡ y
-fine_same x y e = cc
 
 opened_kind : (b : Bool) (x o : ObjectOpened) → opened_if b x ≡ Fine o → x.kind ≡ o.kind
 opened_kind true x o e = ap (λ (y : ObjectOpened). y.kind) (fine_same x o e)
@@ -153,9 +152,6 @@ step_fit p k z w e = record {
 holds_same : {A : Type 0} (x y : A) → rules.Holds x ≡ rules.Holds y → x ≡ y
 holds_same x y e = cc
 
-some_is : {A : Type 0} (x y : A) → Some x ≡ Some y → x ≡ y
-some_is x y e = cc
-
 -- a step that the rules accept
 stepped : (o : Option Form) (a : rules.Verdict ⊤) (h : Held) (r : Rule) (at : Spot) (y : walks.Place)
     → (rules.◌>>=◌ (rules.found o r at) (λ k. rules.◌>>◌ a (rules.Holds (record { form = k; held = held_in_field h k })))) ≡ rules.Holds y
@@ -179,7 +175,7 @@ module _ (p : Code) (c : Context) (at : Spot) where
   fit_step s n x y y' h e z d = bind_fine (Fit p z.form y') (open_place p s x) (λ o. into_field p o n.name) z d (λ o i j.
       let k : (k : Form) × (field_of p y.form n.name ≡ Some k) × (record { form = k; held = held_in_field y.held k } ≡ y') = stepped (field_of p y.form n.name) (access c at y.held) y.held _ n.at y' e in
       let same : Some z.form ≡ Some k.0 = sym (field_form_is p o n.name (field_of_object p o.kind n.name) z refl j) ∙ sym (open_kind p s x.at x.form x.value o i n.name) ∙ h.field n.name ∙ k.1 in
-      subst (Fit p z.form) k.2 (step_fit p k.0 z.form y.held (some_is z.form k.0 same)))
+      subst (Fit p z.form) k.2 (step_fit p k.0 z.form y.held (same_Some z.form k.0 same)))
 
   abbrev StepsSame : State → State → List NameAt → Type 0
   StepsSame s t ns = (x : PlaceFound) (y w : walks.Place) → Fit p x.form y → SameOn (steps_use p c at ns y) s t → rules.in_turn (walks.step p c at) ns y ≡ rules.Holds w
@@ -297,35 +293,3 @@ bind_holds P (rules.Broken r at) g y e k = absurd (cc e)
 
 pub formed : (P : Type 0) (wanted : Form) (v : rules.Verdict Form) (at : Spot) (y : ⊤) → has_form wanted v at ≡ rules.Holds y → ((k : Form) → v ≡ rules.Holds k → P) → P
 formed P wanted v at y e k = bind_holds P v (λ form. rules.require (same_value wanted form) rule.TypeMismatch at) y e (λ x d i. k x d)
-
-pair_walked : (p : Code) (c : Context) (a b : Expression) (pair : Compared) → beside_null a b ≡ Some pair → (w : walks.Place) × (walks.walk p c pair.path ≡ rules.Holds w) → AllWalked p c a × AllWalked p c b
-pair_walked p c (Nothing at) (Read path) pair e h = (tt, (h.0, ap (λ (x : Compared). walks.walk p c x.path) (some_is (record { path = path; null_at = at }) pair e) ∙ h.1))
-pair_walked p c (Read path) (Nothing at) pair e h = ((h.0, ap (λ (x : Compared). walks.walk p c x.path) (some_is (record { path = path; null_at = at }) pair e) ∙ h.1), tt)
-pair_walked p c _ _ pair e h = absurd (cc e)
-
-both_walked : (p : Code) (c : Context) (a b : Expression) → ((k : Form) → judge_value p c a ≡ rules.Holds k → AllWalked p c a) → ((k : Form) → judge_value p c b ≡ rules.Holds k → AllWalked p c b)
-    → (o : Operands) (y : ⊤) → judge_operands p c o a b (judge_value p c a) (judge_value p c b) ≡ rules.Holds y → AllWalked p c a × AllWalked p c b
-both_walked p c a b g h Numbers y e = bind_holds _ (has_form f.Int (judge_value p c a) (expression_spot a)) _ y e (λ x d i. formed _ f.Int (judge_value p c a) (expression_spot a) x d (λ k l. formed _ f.Int (judge_value p c b) (expression_spot b) y i (λ m n. (g k l, h m n))))
-both_walked p c a b g h Truths y e = bind_holds _ (has_form f.Bool (judge_value p c a) (expression_spot a)) _ y e (λ x d i. formed _ f.Bool (judge_value p c a) (expression_spot a) x d (λ k l. formed _ f.Bool (judge_value p c b) (expression_spot b) y i (λ m n. (g k l, h m n))))
-both_walked p c a b g h Equals y e = by_pair (beside_null a b) refl e
-  where
-    by_pair : (o : Option Compared) → beside_null a b ≡ o → equal_operands p c o (judge_value p c a) (judge_value p c b) (expression_spot b) ≡ rules.Holds y → AllWalked p c a × AllWalked p c b
-    by_pair None d e = bind_holds _ (judge_value p c a) (λ form. has_form form (judge_value p c b) (expression_spot b)) y e (λ k l i. formed _ k (judge_value p c b) (expression_spot b) y i (λ m n. (g k l, h m n)))
-    by_pair (Some pair) d e = bind_holds _ (walks.walk p c pair.path) _ y e (λ w l i. pair_walked p c a b pair d (w, l))
-
--- an expression that the rules accept
-pub judged_walked : (p : Code) (c : Context) (e : Expression) (k : Form) → judge_value p c e ≡ rules.Holds k → AllWalked p c e
-judged_walked p c (Number n at) k e = tt
-judged_walked p c (Truth b at) k e = tt
-judged_walked p c (Nothing at) k e = tt
-judged_walked p c (Read path) k e = bind_holds _ (walks.walk p c path) _ k e (λ w d i. (w, d))
-judged_walked p c (Item path x) k e = bind_holds _ (walks.walk p c path) _ k e (λ w d i.
-    bind_holds _ (rules.require (is_ints w.form) rule.TypeMismatch path.root.at) _ k i (λ a b j.
-    bind_holds _ (access c path.root.at w.held) _ k j (λ g h l.
-    bind_holds _ (has_form f.Int (judge_value p c x) (expression_spot x)) _ k l (λ m n q.
-    formed _ f.Int (judge_value p c x) (expression_spot x) m n (λ r s. ((w, d), judged_walked p c x r s))))))
-judged_walked p c (Length path at) k e = bind_holds _ (walks.walk p c path) _ k e (λ w d i. (w, d))
-judged_walked p c (Grouped x at) k e = judged_walked p c x k e
-judged_walked p c (Negated x at) k e = bind_holds _ (has_form f.Bool (judge_value p c x) (expression_spot x)) _ k e (λ m n q. formed _ f.Bool (judge_value p c x) (expression_spot x) m n (λ r s. judged_walked p c x r s))
-judged_walked p c (Minus x at) k e = bind_holds _ (has_form f.Int (judge_value p c x) (expression_spot x)) _ k e (λ m n q. formed _ f.Int (judge_value p c x) (expression_spot x) m n (λ r s. judged_walked p c x r s))
-judged_walked p c (Binary o a b) k e = bind_holds _ (judge_operands p c (operands o) a b (judge_value p c a) (judge_value p c b)) _ k e (λ y d i. both_walked p c a b (judged_walked p c a) (judged_walked p c b) (operands o) y d)

@@ -15,9 +15,9 @@ use Rattle.ae_tree.specs.Grammar.{Tokens, ◌⨾◌, one_at, name, separated, wh
 use Rattle.ae_tree.specs.Limits.{KeepsDepth, KeepsIn, IsFew, Opens, KeepsBlock}
 use Rattle.ae_reading.specs.declared.fail.Fail.{Fail}
 use Rattle.ae_reading.specs.Reads.{head, Always, Free, Is, Isnt, IsWithinAll, Took, Failed, Token}
-use Rattle.ae_reading.proofs.ReadsLemmas.{AreKnown-append, Lang, Bound, Follow, Links, Both, Limits, Pair, Has, Along, NoneAt, took_as, failed_as, failed_by, has_both, has_name, at_once, free, first, second, both, io_name, took_before, failed_before, After, AfterLinks, HasEach, took_after, after_first, after_second}
-use Rattle.ae_reading.proofs.Parts.{Optional, took_absent, took_present, failed_present}
-use Rattle.ae_reading.proofs.Begins.{opens_mark, opens_first, opens_other, is_isnt}
+use Rattle.ae_statements.proofs.from_reading.ReadsLemmas.{AreKnown-append, Lang, Bound, Follow, Links, Both, Limits, Pair, Has, Along, NoneAt, took_as, failed_as, failed_by, has_both, has_name, at_once, free, first, second, both, io_name, took_before, failed_before, After, AfterLinks, HasEach, took_after, after_first, after_second}
+use Rattle.ae_statements.proofs.from_reading.Parts.{Optional, took_absent, took_present, failed_present}
+use Rattle.ae_statements.proofs.from_reading.Begins.{opens_mark, opens_first, opens_other, is_isnt}
 use Rattle.ae_expressions.specs.Ends.{Ends}
 use Rattle.ae_statements.specs.Productions.{stmt, KeepsStmt, NoElse, numbered_block, KeepsBraced, otherwise, Closes}
 use Rattle.ae_statements.proofs.ShapeLemmas.{Pre, Suf, Lets, took_pre, pre_first, pre_second, has_pre, took_suf, suf_first, suf_second, has_suf, has_whole, begins_lets, sign_ends}

@@ -16,9 +16,9 @@ use Rattle.ae_tree.specs.Limits.{KeepsDepth, IsFew, EachKeeps, KeepsBlock, state
 use Rattle.ae_reading.specs.declared.fail.Fail.{Fail}
 use Rattle.ae_reading.specs.declared.fail.Why.TheVariants.{Over}
 use Rattle.ae_reading.specs.Reads.{head, Always, Free, Is, Took, Stopped, Failed, Larger, Token}
-use Rattle.ae_reading.proofs.ReadsLemmas.{Lang, Bound, Follow, Links, Both, Limits, Pair, Along, Has, NoneAt, took_as, failed_as, stopped_as, failed_by, took_then, stopped_second, stopped_first_with, lead_here, nowhere, at_once, free, first, second, both, took_before, failed_before}
-use Rattle.ae_reading.proofs.Parts.{Optional, took_absent, took_present, failed_present}
-use Rattle.ae_reading.proofs.Begins.{opens_at, opens_other}
+use Rattle.ae_statements.proofs.from_reading.ReadsLemmas.{Lang, Bound, Follow, Links, Both, Limits, Pair, Along, Has, NoneAt, took_as, failed_as, stopped_as, failed_by, took_then, stopped_second, stopped_first_with, lead_here, nowhere, at_once, free, first, second, both, took_before, failed_before}
+use Rattle.ae_statements.proofs.from_reading.Parts.{Optional, took_absent, took_present, failed_present}
+use Rattle.ae_statements.proofs.from_reading.Begins.{opens_at, opens_other}
 use Rattle.ae_statements.specs.Productions.{Closes, with_semicolon, returned, KeepsReturned, body_statements}
 use Rattle.ae_statements.proofs.ShapeLemmas.{Pre, Suf, Lets, took_pre, pre_first, pre_second, took_suf, suf_first, suf_second, has_suf, has_whole}
 use Rattle.ae_statements.proofs.BlockLemmas.{opening, closing, KeepsLines, none_keep}

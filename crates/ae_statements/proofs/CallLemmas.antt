@@ -17,10 +17,10 @@ use Rattle.ae_tree.specs.Grammar.{Tokens, Then, ◌⨾◌, one_token, whole_expr
 use Rattle.ae_tree.specs.Limits.{KeepsDepth, AllKeepDepth}
 use Rattle.ae_reading.specs.declared.fail.Fail.{Fail}
 use Rattle.ae_reading.specs.Reads.{head, Always, Free, Is, Isnt, IsWithinAll, Took, Failed}
-use Rattle.ae_reading.proofs.ReadsLemmas.{Links, Both, Pair, Has, Along, NoneAt, took_as, failed_as}
-use Rattle.ae_reading.proofs.Parts.{Commas, Parted, commas_go_on, no_comma, commas_link}
-use Rattle.ae_reading.proofs.Runs.{Run, run_start, run_more, run_end, run_failed}
-use Rattle.ae_reading.proofs.Begins.{Opens, opens_mark, opens_first, opens_at, opens_one, opens_isnt}
+use Rattle.ae_statements.proofs.from_reading.ReadsLemmas.{Links, Both, Pair, Has, Along, NoneAt, took_as, failed_as}
+use Rattle.ae_statements.proofs.from_reading.Parts.{Commas, Parted, commas_go_on, no_comma, commas_link}
+use Rattle.ae_statements.proofs.from_reading.Runs.{Run, run_start, run_more, run_end, run_failed}
+use Rattle.ae_statements.proofs.from_reading.Begins.{Opens, opens_mark, opens_first, opens_at, opens_one, opens_isnt}
 use Rattle.ae_expressions.specs.Ends.{Ends}
 use Rattle.ae_statements.specs.Productions.{with_semicolon, call_rest, KeepsCalled, but_last, last, receiver_of}
 use Rattle.ae_statements.proofs.ShapeLemmas.{Lets, has_suf, has_pre, sign_ends}
@@ -192,7 +192,3 @@ invoked_some root x steps xs gs es e =
     ap (λ o. record { on = o; method = x; groups = gs; args = es }) (sym (receiver_snoc root x xs)) ∙
     ap (λ m. record { on = receiver_of root (xs ++ x ∷ []); method = m; groups = gs; args = es }) (sym (last_snoc root x xs)) ∙
     ap (λ s. invocation_at root s gs es) (sym e)
-
-pub invoked_none : (root : NameAt) (steps gs : List NameAt) (es : List Expression) → steps ≡ [] →
-    record { on = None; method = root; groups = gs; args = es } ≡ invocation_at root steps gs es
-invoked_none root steps gs es e = ap (λ s. invocation_at root s gs es) (sym e)

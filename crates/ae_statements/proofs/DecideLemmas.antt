@@ -14,9 +14,9 @@ use Rattle.ae_tree.specs.Grammar.{Tokens, one_by_one, root, path_step, path, rec
 use Rattle.ae_tree.specs.Limits.{KeepsRight, AllKeepDepth, early}
 use Rattle.ae_reading.specs.declared.fail.Why.TheVariants.{Unexpected}
 use Rattle.ae_reading.specs.Reads.{head, Always, Is, Isnt, IsName, IsWithinAll, EndIsNone, Stopped}
-use Rattle.ae_reading.proofs.ReadsLemmas.{NoEnd-append, lead_here, name_token}
-use Rattle.ae_reading.proofs.UniquePaths.{IsRoot}
-use Rattle.ae_reading.proofs.Begins.{isnt_of}
+use Rattle.ae_statements.proofs.from_reading.ReadsLemmas.{NoEnd-append, lead_here, name_token}
+use Rattle.ae_statements.proofs.from_reading.UniquePaths.{IsRoot}
+use Rattle.ae_statements.proofs.from_reading.Begins.{isnt_of}
 use Rattle.ae_statements.specs.Productions.{with_semicolon}
 use Rattle.ae_statements.specs.Deciding.{Calling, IsCall, IsCallable, IsCallTail, IsPlainSide, IsValue, starts, follows_path, follows_compared, follows_group}
 use Rattle.ae_statements.proofs.CallLemmas.{none_within}
@@ -360,18 +360,3 @@ value_other ts plain no_name no_this = record {
         no_root (subst P (ap head (sym (append_assoc d.front d.back r) ∙ ap (λ l. l ++ r) (sym d.parts) ∙ e) ∙ h) (begins_call c d.front (d.back ++ r) d.first))
 
 -- ---- calls
-
-pub call_paren : (p : Path) (ps later : Tokens) (t : Lexeme) → path p ps → IsCallable p ps → t.kind ≡ tok.Sign sign.OpenParen → IsCall (ps ++ (t ∷ later))
-call_paren p ps later t q k i = record { callee = p; taken = ps; rest = t ∷ later; whole = refl; is_path = q; callable = k; tail = inl (t, later, refl, i) }
-
-group_kind : (k : Lexical) → follows_group k ≡ true → (k ≡ tok.Sign sign.Comma) ⊎ (k ≡ tok.Sign sign.Greater)
-group_kind (tok.Sign g) e = group_sign g e
-  where
-    group_sign : (g : Sign) → follows_group (tok.Sign g) ≡ true → (tok.Sign g ≡ tok.Sign sign.Comma) ⊎ (tok.Sign g ≡ tok.Sign sign.Greater)
-    group_sign sign.Comma e = inl refl
-    group_sign sign.Greater e = inr refl
-    group_sign _ e = absurd (let n : ⊥ = cc in n)
-group_kind _ e = absurd (let n : ⊥ = cc in n)
-
-pub call_group : (p : Path) (ps later : Tokens) (less n t : Lexeme) (m : ℕ) → path p ps → IsCallable p ps → less.kind ≡ tok.Sign sign.Less → n.kind ≡ tok.Name m → follows_group t.kind ≡ true → IsCall (ps ++ (less ∷ n ∷ t ∷ later))
-call_group p ps later less n t m q c k i f = record { callee = p; taken = ps; rest = less ∷ n ∷ t ∷ later; whole = refl; is_path = q; callable = c; tail = inr (less, n, t, m, later, refl, k, i, group_kind t.kind f) }

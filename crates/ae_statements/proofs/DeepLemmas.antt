@@ -23,7 +23,7 @@ use Rattle.ae_reading.specs.declared.fail.Fail.{Fail}
 use Rattle.ae_reading.specs.declared.fail.Why.{Why}
 use Rattle.ae_reading.specs.declared.fail.Why.TheVariants.{Unexpected, Over}
 use Rattle.ae_reading.specs.Reads.{head, Always, Free, Is, Isnt, Took, Lead, Stopped, Failed, Counts, Beyond, Token, IsWithinAll}
-use Rattle.ae_reading.proofs.ReadsLemmas.{Lang, Bound, Follow, Both, Pair, Along, AreKnown-append, same_head, counts_by, failed_by, nowhere, io_name, took_as, failed_as, both, first, second, free, has_name}
+use Rattle.ae_statements.proofs.from_reading.ReadsLemmas.{Lang, Bound, Follow, Both, Pair, Along, AreKnown-append, same_head, counts_by, failed_by, nowhere, io_name, took_as, failed_as, both, first, second, free, has_name}
 use Rattle.ae_expressions.specs.Ends.{Ends}
 use Rattle.ae_statements.specs.Productions.{stmt, KeepsStmt, NoElse, Opening, numbered_block}
 use Rattle.ae_statements.specs.Blocks.{KeepsCondition, condition, split_groups, locked_group}

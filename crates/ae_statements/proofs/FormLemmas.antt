@@ -12,8 +12,8 @@ use Rattle.ae_tree.specs.Plain.{Expression, RightSide, Lines}
 use Rattle.ae_tree.specs.Plain.{Action, Declares, Assigns, Stores, StoresAt, Calls, Chooses, ChoosesElse, Repeats, Groups, Splits, Locks, Freezes, Shares, Prints, PrintsText, Asserts, Returns}
 use Rattle.ae_tree.specs.Grammar.{Tokens, Then, ◌⨾◌, one_at, name, root, path_step, path, receiver, statement}
 use Rattle.ae_reading.specs.Reads.{head, Is}
-use Rattle.ae_reading.proofs.ReadsLemmas.{NoneAt}
-use Rattle.ae_reading.proofs.Runs.{each-append, each-one}
+use Rattle.ae_statements.proofs.from_reading.ReadsLemmas.{NoneAt}
+use Rattle.ae_statements.proofs.from_reading.Runs.{each-append, each-one}
 use Rattle.ae_statements.specs.Productions as productions
 use Rattle.ae_statements.specs.Productions.{stmt}
 use Rattle.ae_statements.proofs.UniqueRightSides.{joined}

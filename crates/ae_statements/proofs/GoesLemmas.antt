@@ -16,13 +16,13 @@ use Rattle.ae_tree.specs.Plain.{Expression, Number, Truth, Nothing, Read, Item, 
 use Rattle.ae_tree.specs.Grammar.{Tokens, path, level, left_level, sign_of, whole_expression, expression_at}
 use Rattle.ae_tree.specs.Refused.{AreSpellable}
 use Rattle.ae_reading.specs.Reads.{head, Is, Isnt, IsName}
-use Rattle.ae_reading.proofs.ReadsLemmas.{nowhere, io_name, AreKnown-append}
-use Rattle.ae_reading.proofs.UniquePaths.{IsRoot, begins_path}
-use Rattle.ae_reading.proofs.Begins.{of_other, not_both}
-use Rattle.ae_expressions.proofs.UniqueExpressions.{Form, kind_form, word_form, sign_form}
-use Rattle.ae_expressions.proofs.LeadingOperands.{operator_at, Outer, Operated, IsStart, leads_path, begins_expression, led_by_path}
+use Rattle.ae_statements.proofs.from_reading.ReadsLemmas.{nowhere, io_name, AreKnown-append}
+use Rattle.ae_statements.proofs.from_reading.UniquePaths.{IsRoot, begins_path}
+use Rattle.ae_statements.proofs.from_reading.Begins.{of_other, not_both}
+use Rattle.ae_statements.proofs.from_expressions.UniqueExpressions.{Form, kind_form, word_form, sign_form}
+use Rattle.ae_statements.proofs.from_expressions.LeadingOperands.{operator_at, Outer, Operated, IsStart, leads_path, begins_expression, led_by_path}
 use Rattle.ae_expressions.specs.Productions.{at_level}
-use Rattle.ae_expressions.proofs.OperatorLemmas.{same_operator}
+use Rattle.ae_statements.proofs.from_expressions.OperatorLemmas.{same_operator}
 use Rattle.ae_statements.specs.Productions.{with_semicolon}
 use Rattle.ae_statements.specs.Deciding.{Comparing, starts, follows_path, follows_compared}
 use Rattle.ae_statements.proofs.SideLemmas.{Dot, one_of, name_of, path_goes}

@@ -15,8 +15,8 @@ use Rattle.ae_tree.specs.Grammar.{Tokens, ◌⨾◌, a_sign, name, path_step, pa
 use Rattle.ae_tree.specs.Limits.{KeepsDepth, KeepsRight, KeepsIn}
 use Rattle.ae_reading.specs.declared.fail.Fail.{Fail}
 use Rattle.ae_reading.specs.Reads.{head, Always, Free, Is, Isnt, IsName, Took, Failed}
-use Rattle.ae_reading.proofs.ReadsLemmas.{Lang, Bound, Follow, Links, Both, Limits, Pair, Has, Along, failed_by, has_both, After, AfterLinks, HasEach, took_after, after_first, after_second}
-use Rattle.ae_reading.proofs.Begins.{Opens, is_isnt, opens_mark, opens_first, opens_is, opens_other, opens_isnt}
+use Rattle.ae_statements.proofs.from_reading.ReadsLemmas.{Lang, Bound, Follow, Links, Both, Limits, Pair, Has, Along, failed_by, has_both, After, AfterLinks, HasEach, took_after, after_first, after_second}
+use Rattle.ae_statements.proofs.from_reading.Begins.{Opens, is_isnt, opens_mark, opens_first, opens_is, opens_other, opens_isnt}
 use Rattle.ae_expressions.specs.Ends.{Ends}
 use Rattle.ae_statements.specs.declared.led.Front.{Front}
 use Rattle.ae_statements.specs.declared.led.Front.TheVariants as front
@@ -153,9 +153,6 @@ index_along f ts o = record {
   to = λ q us d l v. v;
   from = λ q us d l v. v;
 }
-
-assign_case : (us r ts : Tokens) (k : Lexical) → Opens us r k → head (us ++ r) ≡ head ts → Is (tok.Sign sign.Assign) (head ts) → k ≡ tok.Sign sign.Assign
-assign_case us r ts k b h is = opens_is us r ts b h is
 
 bracket_assign : tok.Sign sign.OpenBracket ≡ tok.Sign sign.Assign → ⊥
 bracket_assign e = cc

@@ -1,3 +1,6 @@
+-- The lemmas of the crates below that this one goes by, and its own.
+pub use Rattle.ae_expressions.proofs as from_expressions
+pub use Rattle.ae_reading.proofs as from_reading
 pub mod ShapeLemmas
 pub mod CallLemmas
 pub mod FormLemmas

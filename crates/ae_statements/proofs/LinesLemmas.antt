@@ -23,9 +23,9 @@ use Rattle.ae_reading.specs.declared.fail.Fail.{Fail}
 use Rattle.ae_reading.specs.declared.fail.Why.{Why}
 use Rattle.ae_reading.specs.declared.fail.Why.TheVariants.{Unexpected, Over}
 use Rattle.ae_reading.specs.Reads.{head, Is, IsWithinAll, Took, Stopped, Failed, Beyond, chain, state_after}
-use Rattle.ae_reading.proofs.ReadsLemmas.{Bound, Follow, Along, Has, took_as, failed_as, stopped_as, stopped_here, failed_by, nowhere, io_name}
-use Rattle.ae_reading.proofs.Chains.{Chain, ChainTurns, chain_start, chain_more, chain_full, chain_stopped, chain_end}
-use Rattle.ae_reading.proofs.Begins.{opens_at}
+use Rattle.ae_statements.proofs.from_reading.ReadsLemmas.{Bound, Follow, Along, Has, took_as, failed_as, stopped_as, stopped_here, failed_by, nowhere, io_name}
+use Rattle.ae_statements.proofs.from_reading.Chains.{Chain, ChainTurns, chain_start, chain_more, chain_full, chain_stopped, chain_end}
+use Rattle.ae_statements.proofs.from_reading.Begins.{opens_at}
 use Rattle.ae_statements.specs.Productions as productions
 use Rattle.ae_statements.specs.Productions.{stmt, KeepsStmt, NoElse, shown_stmt, Closes, Further, IsOpener, IsSimple, IsRoot}
 use Rattle.ae_statements.proofs.FormLemmas.{form_of, no_stmt}
@@ -452,13 +452,6 @@ pub simple_number : (n : ℕ) {W : Bound (Spot × Action)} {F : Follow} (ts rest
 simple_number n ts rest q none t =
     let e : blocks_opened q.1 ≡ 0 = opens_none n q.0 q.1 t.taken rest ts t.derives (ap head (sym t.whole)) none in
     omega (arith, e)
-
--- the last word of a block that is left
-pub is_lock : (ts : Tokens) → IsOpener (head ts) → (Is (tok.Word word.If) (head ts) → ⊥) → (Is (tok.Word word.While) (head ts) → ⊥) → (Is (tok.Word word.Split) (head ts) → ⊥) → Is (tok.Word word.Atomic) (head ts)
-is_lock ts (inl i) a b c = absurd (a i)
-is_lock ts (inr (inl i)) a b c = absurd (b i)
-is_lock ts (inr (inr (inl i))) a b c = absurd (c i)
-is_lock ts (inr (inr (inr i))) a b c = i
 
 -- a statement needs a word or a path in front
 pub no_words : (o : Option Lexeme) → (IsOpener o → ⊥) → (Is (tok.Word word.Let) o → ⊥) → (Is (tok.Word word.Group) o → ⊥) → (Is (tok.Word word.Freeze) o → ⊥) → (Is (tok.Word word.Share) o → ⊥) →

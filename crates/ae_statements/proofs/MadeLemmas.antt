@@ -18,9 +18,9 @@ use Rattle.ae_reading.specs.declared.fail.Fail.TheVariants.{Refused}
 use Rattle.ae_reading.specs.declared.fail.Why.{Why}
 use Rattle.ae_reading.specs.declared.fail.Why.TheVariants.{Unexpected, Over}
 use Rattle.ae_reading.specs.Reads.{head, Always, Free, Is, Isnt, IsName, Took, Stopped, Failed, Beyond, Token, Reads, itself}
-use Rattle.ae_reading.proofs.ReadsLemmas.{Lang, Both, Pair, Limits, Has, Along, AreKnown-append, lead_here, failed_by, took_as, stopped_as, nowhere, io_name, After, AfterLinks, HasEach, took_after, after_first, after_second}
-use Rattle.ae_reading.proofs.Runs.{each-append, each-one}
-use Rattle.ae_reading.proofs.Begins.{not_both}
+use Rattle.ae_statements.proofs.from_reading.ReadsLemmas.{Lang, Both, Pair, Limits, Has, Along, AreKnown-append, lead_here, failed_by, took_as, stopped_as, nowhere, io_name, After, AfterLinks, HasEach, took_after, after_first, after_second}
+use Rattle.ae_statements.proofs.from_reading.Runs.{each-append, each-one}
+use Rattle.ae_statements.proofs.from_reading.Begins.{not_both}
 use Rattle.ae_statements.specs.Productions.{with_semicolon, member, sized, filled, made_side, call_rest, KeepsCalled}
 use Rattle.ae_statements.specs.Deciding.{IsPlainSide}
 use Rattle.ae_statements.proofs.ShapeLemmas.{Lets, Pre, Suf, has_pre, has_suf, has_whole}

@@ -14,7 +14,7 @@ use Rattle.ae_reading.specs.declared.fail.Fail.{Fail}
 use Rattle.ae_reading.specs.declared.fail.Why.{Why}
 use Rattle.ae_reading.specs.declared.fail.Why.TheVariants.{Unexpected, Over}
 use Rattle.ae_reading.specs.Reads.{head, Free, Is, Isnt, IsName, Took, Lead, Stopped, Failed, Counts, Beyond}
-use Rattle.ae_reading.proofs.ReadsLemmas.{head-append, failed_by}
+use Rattle.ae_statements.proofs.from_reading.ReadsLemmas.{head-append, failed_by}
 use Rattle.ae_statements.specs.Productions.{IsRoot}
 
 -- a root that is a name, or `this`

@@ -14,8 +14,8 @@ use Rattle.ae_reading.specs.declared.fail.Fail.TheVariants.{Refused, Memory}
 use Rattle.ae_reading.specs.declared.fail.Why.{Why}
 use Rattle.ae_reading.specs.declared.fail.Why.TheVariants.{Unexpected, Over}
 use Rattle.ae_reading.specs.Reads.{head, Always, Free, Is, Isnt, Took, Lead, Stopped, Failed, Counts, Beyond}
-use Rattle.ae_reading.proofs.ReadsLemmas.{Both, NoEnd-append, failed_by}
-use Rattle.ae_reading.proofs.Begins.{of_other}
+use Rattle.ae_statements.proofs.from_reading.ReadsLemmas.{Both, NoEnd-append, failed_by}
+use Rattle.ae_statements.proofs.from_reading.Begins.{of_other}
 use Rattle.ae_statements.specs.Productions.{with_semicolon, call_rest, KeepsCalled, invoked}
 use Rattle.ae_statements.specs.Deciding.{IsCall, IsCallTail}
 use Rattle.ae_statements.proofs.CallLemmas.{none_within}

@@ -16,8 +16,8 @@ use Rattle.ae_tree.specs.Limits.{KeepsDepth}
 use Rattle.ae_tree.specs.Refused.{IsKnown, counts_sign}
 use Rattle.ae_reading.specs.declared.fail.Fail.{Fail}
 use Rattle.ae_reading.specs.Reads.{head, Always, Free, Took, Failed, Token, TokenMark}
-use Rattle.ae_reading.proofs.ReadsLemmas.{Lang, Bound, Follow, Links, Both, Pair, Has, Along, AreKnown-append, took_as, failed_as, first, second, both, free, took_mark, failed_mark, has_mark, nowhere, at_once}
-use Rattle.ae_reading.proofs.Begins.{Opens}
+use Rattle.ae_statements.proofs.from_reading.ReadsLemmas.{Lang, Bound, Follow, Links, Both, Pair, Has, Along, AreKnown-append, took_as, failed_as, first, second, both, free, took_mark, failed_mark, has_mark, nowhere, at_once}
+use Rattle.ae_statements.proofs.from_reading.Begins.{Opens}
 use Rattle.ae_expressions.specs.Ends.{Ends}
 
 -- ---- a token before a part

@@ -11,9 +11,9 @@ use Rattle.ae_tree.specs.declared.tree.Path.{Path}
 use Rattle.ae_tree.specs.Plain.{Expression, Invocation, RightSide, Value, Taken, Zeros, Made, Returned}
 use Rattle.ae_tree.specs.Grammar.{Tokens, ◌⨾◌, one_token, one_at, one_by_one, name, root, path_step, path, groups, arguments, call_written, whole_expression, right_of_equals}
 use Rattle.ae_reading.specs.Reads.{head, Always, Is, Isnt, IsName}
-use Rattle.ae_reading.proofs.ReadsLemmas.{Both}
-use Rattle.ae_reading.proofs.UniquePaths.{IsRoot, begins_path, unique_root, unique_path}
-use Rattle.ae_reading.proofs.Runs.{each-append, each-one}
+use Rattle.ae_statements.proofs.from_reading.ReadsLemmas.{Both}
+use Rattle.ae_statements.proofs.from_reading.UniquePaths.{IsRoot, begins_path, unique_root, unique_path}
+use Rattle.ae_statements.proofs.from_reading.Runs.{each-append, each-one}
 use Rattle.ae_statements.specs.Productions.{with_semicolon, call_rest, invoked, receiver_of, last, but_last}
 use Rattle.ae_statements.specs.Deciding.{IsCallable, IsCallTail, IsPlainSide, Steps, AllSteps}
 use Rattle.ae_statements.proofs.UniqueRightSides.{joined, call_parts, call_tail, call_isnt, joined_on, joined_method}

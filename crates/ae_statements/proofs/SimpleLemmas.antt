@@ -17,13 +17,13 @@ use Rattle.ae_tree.specs.Limits.{KeepsDepth, KeepsRight, KeepsIn}
 use Rattle.ae_reading.specs.declared.fail.Fail.{Fail}
 use Rattle.ae_reading.specs.declared.fail.Why.TheVariants.{Unexpected}
 use Rattle.ae_reading.specs.Reads.{head, Always, Free, Is, Isnt, Took, Stopped, Failed, Token}
-use Rattle.ae_reading.proofs.ReadsLemmas.{Lang, Bound, Links, Both, Pair, Has, Along, NoneAt, took_as, failed_as, has_both, has_name, stopped_here, nowhere, at_once, took_before, failed_before}
-use Rattle.ae_reading.proofs.Begins.{opens_at, opens_isnt}
+use Rattle.ae_statements.proofs.from_reading.ReadsLemmas.{Lang, Bound, Links, Both, Pair, Has, Along, NoneAt, took_as, failed_as, has_both, has_name, stopped_here, nowhere, at_once, took_before, failed_before}
+use Rattle.ae_statements.proofs.from_reading.Begins.{opens_at, opens_isnt}
 use Rattle.ae_statements.specs.Productions.{with_semicolon, local_value, text, print_operand, IsText, KeepsPrinted, stmt, KeepsStmt, NoElse}
 use Rattle.ae_statements.proofs.ShapeLemmas.{Pre, has_pre, has_suf, has_whole}
 use Rattle.ae_statements.proofs.CallLemmas.{no_whole}
 use Rattle.ae_statements.proofs.FormLemmas.{Formed, formed}
-use Rattle.ae_reading.proofs.TypeLemmas.{has_type}
+use Rattle.ae_statements.proofs.from_reading.TypeLemmas.{has_type}
 
 -- a form of a statement that ends by itself
 pub simple_took : {B : Type 0} {E : Lang B} {V : Bound B} {n levels : ℕ} {ts rest : Tokens} {q : B} (build : B → Spot × Action) →

@@ -12,7 +12,7 @@ use Rattle.ae_tree.specs.Plain.{Expression, Number, Read, Binary}
 use Rattle.ae_tree.specs.Grammar.{Tokens, ◌⨾◌, one_by_one, name, root, path_step, path, receiver, arguments, call_written, whole_expression, expression_at}
 use Rattle.ae_tree.specs.Names.{io}
 use Rattle.ae_tree.specs.Refused.{AreSpellable, marks_in}
-use Rattle.ae_reading.proofs.ReadsLemmas.{nowhere, io_name, name_token}
+use Rattle.ae_statements.proofs.from_reading.ReadsLemmas.{nowhere, io_name, name_token}
 use Rattle.ae_statements.specs.Productions.{with_semicolon, call_rest, invoked, receiver_of}
 use Rattle.ae_statements.specs.Deciding.{IsCallable, Calling, IsUndecided}
 use Rattle.ae_statements.proofs.CallLemmas.{last_snoc, receiver_snoc}

@@ -15,17 +15,17 @@ use Rattle.ae_tree.specs.declared.tree.Op.TheVariants as op
 use Rattle.ae_tree.specs.Plain.{Expression, Read, Invocation, RightSide, Value, Taken, Zeros, Made, Returned}
 use Rattle.ae_tree.specs.Grammar.{Tokens, one_by_one, further, comma_list, name, path_step, path, groups, level, left_level, sign_of, whole_expression, arguments, receiver, call_written, right_of_equals}
 use Rattle.ae_reading.specs.Reads.{head, Always, Is, Isnt, IsName, Token, TokenMark}
-use Rattle.ae_reading.proofs.ReadsLemmas.{Lang, Follow, Both, Links}
-use Rattle.ae_reading.proofs.UniqueLemmas.{Unique, apart_by, unique_at, unique_mark, unique_name, unique_then, unique_both, unique_as, unique_under, unique_always, unique_choice, by_first, unique_listed, unique_closing}
-use Rattle.ae_reading.proofs.UniquePaths.{IsRoot, begins_path, unique_path}
-use Rattle.ae_reading.proofs.Runs.{each-append, each-one}
-use Rattle.ae_reading.proofs.Begins.{Begins, begins_token, begins_mark, begins_name, begins_both, of_kind, of_other, links_by, not_both}
-use Rattle.ae_reading.proofs.UniqueTypes.{unique_groups}
+use Rattle.ae_statements.proofs.from_reading.ReadsLemmas.{Lang, Follow, Both, Links}
+use Rattle.ae_statements.proofs.from_reading.UniqueLemmas.{Unique, apart_by, unique_at, unique_mark, unique_name, unique_then, unique_both, unique_as, unique_under, unique_always, unique_choice, by_first, unique_listed, unique_closing}
+use Rattle.ae_statements.proofs.from_reading.UniquePaths.{IsRoot, begins_path, unique_path}
+use Rattle.ae_statements.proofs.from_reading.Runs.{each-append, each-one}
+use Rattle.ae_statements.proofs.from_reading.Begins.{Begins, begins_token, begins_mark, begins_name, begins_both, of_kind, of_other, links_by, not_both}
+use Rattle.ae_statements.proofs.from_reading.UniqueTypes.{unique_groups}
 use Rattle.ae_expressions.specs.Ends.{Ends}
-use Rattle.ae_expressions.proofs.UniqueExpressions.{left_cases, sign_ends, Form, OfPath, form_of, kind_form, word_form, form_at_root, unique_expression}
-use Rattle.ae_expressions.proofs.LeadingOperands.{operator_at, Outer, Behind, leads_path, IsStart, begins_expression}
+use Rattle.ae_statements.proofs.from_expressions.UniqueExpressions.{left_cases, sign_ends, Form, OfPath, form_of, kind_form, word_form, form_at_root, unique_expression}
+use Rattle.ae_statements.proofs.from_expressions.LeadingOperands.{operator_at, Outer, Behind, leads_path, IsStart, begins_expression}
 use Rattle.ae_expressions.specs.Productions.{at_level}
-use Rattle.ae_expressions.proofs.OperatorLemmas.{same_operator, no_operator, operator_ends}
+use Rattle.ae_statements.proofs.from_expressions.OperatorLemmas.{same_operator, no_operator, operator_ends}
 use Rattle.ae_statements.specs.Productions.{last, receiver_of}
 use Rattle.ae_statements.proofs.CallLemmas.{last_snoc, receiver_snoc}
 

@@ -16,15 +16,15 @@ use Rattle.ae_tree.specs.Plain.{Expression, Invocation, RightSide, Value, Lines,
 use Rattle.ae_tree.specs.Plain.{Action, Declares, Assigns, Stores, StoresAt, Calls, Chooses, ChoosesElse, Repeats, Groups, Splits, Locks, Freezes, Shares, Prints, PrintsText, Asserts, Returns}
 use Rattle.ae_tree.specs.Grammar.{Tokens, ◌⨾◌, a_sign, one_token, name, path, type_, groups, arguments, call_written, separated, whole_expression, right_of_equals, blocks_opened, opened_in, call_spot, in_braces, statement, statements, return_end, with_return, method_body}
 use Rattle.ae_reading.specs.Reads.{head, Always, Is, Isnt, Token, TokenMark, chain}
-use Rattle.ae_reading.proofs.ReadsLemmas.{lengths, Lang, Follow, Both, Links, After}
-use Rattle.ae_reading.proofs.UniqueLemmas.{Unique, apart_by, none_at, isnt_at, unique_at, unique_mark, unique_name, unique_then, unique_both, unique_after, unique_as, unique_always, unique_choice, by_first, unique_optional, unique_separated, unique_closing, unique_chain}
-use Rattle.ae_reading.proofs.UniquePaths.{IsRoot, begins_path, unique_path}
-use Rattle.ae_reading.proofs.Begins.{Begins, begins_token, begins_mark, begins_both, of_kind, of_other, links_by, is_isnt, not_both}
-use Rattle.ae_reading.proofs.Parts.{optional}
-use Rattle.ae_reading.proofs.UniqueTypes.{unique_type}
+use Rattle.ae_statements.proofs.from_reading.ReadsLemmas.{lengths, Lang, Follow, Both, Links, After}
+use Rattle.ae_statements.proofs.from_reading.UniqueLemmas.{Unique, apart_by, none_at, isnt_at, unique_at, unique_mark, unique_name, unique_then, unique_both, unique_after, unique_as, unique_always, unique_choice, by_first, unique_optional, unique_separated, unique_closing, unique_chain}
+use Rattle.ae_statements.proofs.from_reading.UniquePaths.{IsRoot, begins_path, unique_path}
+use Rattle.ae_statements.proofs.from_reading.Begins.{Begins, begins_token, begins_mark, begins_both, of_kind, of_other, links_by, is_isnt, not_both}
+use Rattle.ae_statements.proofs.from_reading.Parts.{optional}
+use Rattle.ae_statements.proofs.from_reading.UniqueTypes.{unique_type}
 use Rattle.ae_expressions.specs.Ends.{Ends}
-use Rattle.ae_expressions.proofs.UniqueExpressions.{sign_ends, form_of, unique_expression}
-use Rattle.ae_expressions.proofs.LeadingOperands.{IsStart, begins_expression}
+use Rattle.ae_statements.proofs.from_expressions.UniqueExpressions.{sign_ends, form_of, unique_expression}
+use Rattle.ae_statements.proofs.from_expressions.LeadingOperands.{IsStart, begins_expression}
 use Rattle.ae_statements.proofs.UniqueRightSides.{joined, parts_of, call_of, call_parts, joined_on, joined_method, CallTail, call_tail, unique_grouped, semicolon_ends, unique_right_side}
 
 abbrev pub semicolon : Lexical
@@ -548,10 +548,6 @@ unique_fewer (suc k) n x y us vs r s d e same t u = more_fewer k n (unique_fewer
 -- tokens before a `}` or a `return` stand for one list of statements at most
 pub unique_statements : (n : ℕ) → Unique (statements n) Closes
 unique_statements n x y us vs r s d e same t u = unique_fewer (suc (length us + length vs)) n x y us vs r s (omega arith, d) (omega arith, e) same t u
-
--- tokens stand for one statement at most
-pub unique_statement : (n : ℕ) → Unique (λ (p : Spot × Action). statement n p.0 p.1) (Isnt (tok.Word word.Else))
-unique_statement n x y us vs r s d e same t u = unique_stmt (length us + length vs) n (unique_fewer (length us + length vs)) x y us vs r s (omega arith, d) (omega arith, e) same t u
 
 -- ---- bodies
 

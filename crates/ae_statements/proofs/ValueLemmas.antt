@@ -17,10 +17,10 @@ use Rattle.ae_reading.specs.declared.fail.Fail.TheVariants.{Refused, Memory}
 use Rattle.ae_reading.specs.declared.fail.Why.{Why}
 use Rattle.ae_reading.specs.declared.fail.Why.TheVariants.{Unexpected, Over}
 use Rattle.ae_reading.specs.Reads.{head, Always, Is, EndIsNone, Took, Stopped, Failed, Counts}
-use Rattle.ae_reading.proofs.ReadsLemmas.{head-append, NoEnd-append, lead_here, stopped_on}
-use Rattle.ae_reading.proofs.UniqueLemmas.{none_at}
-use Rattle.ae_expressions.proofs.UniqueExpressions.{form_of}
-use Rattle.ae_expressions.proofs.LeadingOperands.{IsStart, begins_expression}
+use Rattle.ae_statements.proofs.from_reading.ReadsLemmas.{head-append, NoEnd-append, lead_here, stopped_on}
+use Rattle.ae_statements.proofs.from_reading.UniqueLemmas.{none_at}
+use Rattle.ae_statements.proofs.from_expressions.UniqueExpressions.{form_of}
+use Rattle.ae_statements.proofs.from_expressions.LeadingOperands.{IsStart, begins_expression}
 use Rattle.ae_statements.specs.Productions.{with_semicolon}
 use Rattle.ae_statements.specs.Deciding.{Calling, Comparing, IsValue, IsPlainSide, IsUndecided, no_earlier}
 use Rattle.ae_statements.proofs.UniqueRightSides.{no_call}

@@ -4,24 +4,6 @@ use Rattle.std.proofs.lemmas.List.{length-take, length-drop}
 use Rattle.std.specs.Io.KnownBytes.{Appends}
 use Rattle.ae_text.specs.Calls.{Asks, AsksAtMost, Reaches, ReachesEnd}
 
--- where no call was made, none asked for too much
-pub asks_nothing_at_first : (told : Option ℕ) (n : ℕ) → AsksAtMost told told n
-asks_nothing_at_first None n = tt
-asks_nothing_at_first (Some a) n = omega arith
-
--- one more call that asks for no more
-pub asks_once_more : (a b c : Option ℕ) (m n : ℕ) → AsksAtMost a b n → Asks b c m → m ≤ n → AsksAtMost a c n
-asks_once_more None b c m n p q l = tt
-asks_once_more (Some x) None c m n p q l = absurd p
-asks_once_more (Some x) (Some y) None m n p q l = absurd q
-asks_once_more (Some x) (Some y) (Some z) m n p q l = omega (arith, p, q, l)
-
--- where nothing was offered, no piece ended early
-pub reaches_end_at_first : (told : Option ℕ) (bytes : Option (List ℕ)) (text : List ℕ) → ReachesEnd told told bytes text
-reaches_end_at_first None bytes text = tt
-reaches_end_at_first (Some a) None text = tt
-reaches_end_at_first (Some a) (Some xs) text = omega arith
-
 -- the first bytes of a text, behind what stands there, and its rest come to all of it
 rest_ends : (xs ys text : List ℕ) (done : ℕ) → done ≤ length text → ys ≡ xs ++ take done text → length ys + (length text - done) ≡ length xs + length text
 rest_ends xs ys text done l e = omega (arith, ap length e ∙ length-append xs (take done text), length-take done text)

@@ -18,6 +18,7 @@ use Rattle.ae_text.specs.Scan.{Front, Cuts, FaultAfter, Faults, Scanned, IsFault
 use Rattle.ae_text.proofs.ScanLemmas.{front_nil, front_then, front_as, front_length, front_take, front_smaller, front_utf8}
 use Rattle.ae_text.proofs.QuoteLemmas.{open_no_quoted, bad_no_quoted}
 use Rattle.ae_text.proofs.LexLemmas.{piece_unique, spells_first, nothing_no_piece, large_no_piece, quote_piece}
+use Rattle.ae_text.proofs.PlaceLemmas.{moved-append}
 
 -- ---- one cutting
 
@@ -135,10 +136,6 @@ ArePieces-push (q ∷ ps) p x m n =
     let P : Text → Type 0 = IsPiece q in
     (subst P (sym (append_assoc (text_of ps) (piece_text p) x) ∙ ap (λ l. l ++ x) (sym (text_of-push ps p))) m.0, ArePieces-push ps p x m.1 n)
 
-moved-append : (p : Spot) (a b : Text) → spot_after p (a ++ b) ≡ spot_after (spot_after p a) b
-moved-append p [] b = refl
-moved-append p (x ∷ a) b = moved-append (next_spot p x) a b
-
 moved-characters : (a b : Text) → spot_after (spot_after first_spot (encode_utf8_all a)) (encode_utf8_all b) ≡ spot_after first_spot (encode_utf8_all (a ++ b))
 moved-characters a b = sym (moved-append first_spot (encode_utf8_all a) (encode_utf8_all b)) ∙ ap (spot_after first_spot) (sym (encodes-append a b))
 
@@ -158,9 +155,6 @@ token_of_piece bytes at (Tok k s) = refl
 -- the place behind the characters of a front
 place_of : (bytes x s : Text) → Front bytes s x → place bytes (width s) ≡ spot_after first_spot (encode_utf8_all s)
 place_of bytes x s f = ap (spot_after first_spot) (front_take bytes x s (width s) f refl)
-
-pub scanned_start : (bytes : Text) → IsUtf8 bytes → Scanned bytes bytes first_spot []
-scanned_start bytes u = record { pieces = []; utf8 = u; front = front_nil bytes; each = tt; spot_is = refl; tokens_are = refl }
 
 scanned_more : (bytes rest after : Text) (spot : Spot) (tokens : List Token) (kind : Option TokenKind) → Scanned bytes rest spot tokens → Cuts rest kind after →
     Scanned bytes after (spot_after spot (take (length rest - length after) rest))
@@ -210,9 +204,6 @@ cuts_smaller rest after kind c =
 
 pub cuts_utf8 : (rest after : Text) (kind : Option TokenKind) → Cuts rest kind after → IsUtf8 rest → IsUtf8 after
 cuts_utf8 rest after kind c u = front_utf8 rest after (piece_text c.piece) c.front u
-
-pub scanned_within : (bytes rest : Text) (spot : Spot) (tokens : List Token) → Scanned bytes rest spot tokens → length rest ≤ length bytes
-scanned_within bytes rest spot tokens s = omega (arith, front_length bytes rest (text_of s.pieces) s.front)
 
 pub scanned_end : (bytes rest : Text) (spot : Spot) (tokens : List Token) → Scanned bytes rest spot tokens → chars rest ≡ [] → Lexes bytes (tokens ++ record { kind = (end_token bytes).kind; begin = length bytes; end = length bytes; at = spot } ∷ [])
 scanned_end bytes rest spot tokens s e =
@@ -274,10 +265,6 @@ scanned_place bytes rest spot tokens s =
     (omega (arith, b.0), omega (arith, b.1), omega (arith, b.2))
 
 -- ---- refusals
-
-pub faults_within : (text : Text) (f : Fault) → Faults text f → IsFaultWithin f text
-faults_within text (fault.Rule r ahead) f = omega (arith, f.ahead_is, front_length text f.after f.before f.front)
-faults_within text fault.Memory f = tt
 
 cut_is_fault : (bytes : Text) (r : Rule) (at : ℕ) → CutFault bytes r at → LexFault bytes r at
 cut_is_fault bytes rule.NotText at f = absurd f.fault

@@ -8,8 +8,9 @@ use Rattle.ae_text.specs.declared.refusal.Rule.TheVariants as rule
 use Rattle.ae_text.specs.declared.token.Token.{Token}
 use Rattle.ae_text.specs.declared.token.TokenKind.TheVariants as t
 use Rattle.ae_text.specs.Tokens.{Text, width, is_digit, IsNumber, digits_value, TextPiece, text_of, ArePieces, IsNothing, IsTooLarge, IsOpen, IsBadEscape, IsFault, Lexes, CutFault, LexFault}
-use Rattle.ae_text.proofs.QuoteLemmas.{first_is, bad_same, bad_no_open}
+use Rattle.ae_text.proofs.QuoteLemmas.{bad_same, bad_no_open}
 use Rattle.ae_text.proofs.CutLemmas.{cuttings, NoPiece, fault_no_piece, fault_refuses}
+use Rattle.ae_text.proofs.TextLemmas.{first_is}
 
 -- the four kinds of faults
 pub data Kind (r : Rule) (before rest : Text) : Type 0 where

@@ -14,14 +14,9 @@ use Rattle.ae_text.specs.Scan.{Front, Spans, Cuts, NoSign, SignThen, CommentThen
 use Rattle.ae_text.proofs.SpellingLemmas.{keyword_is_word, keyword_unique, sign_unique, sign_first, signs_start, begins_ascii}
 use Rattle.ae_text.proofs.QuoteLemmas.{quoted_longest, quoted_value}
 use Rattle.ae_text.proofs.ScanLemmas.{front_nil, digits_are}
+use Rattle.ae_text.proofs.TextLemmas.{first_is, no_truth, not_both}
 
 -- ---- bytes
-
-not_both : (b : Bool) → IsTrue b → b ≡ false → ⊥
-not_both b h e = cc
-
-no_truth : IsTrue false → ⊥
-no_truth h = cc
 
 each-append : (c : ℕ → Bool) (a b : Text) → Each c (a ++ b) → Each c b
 each-append c [] b e = e
@@ -100,9 +95,6 @@ quote_no_sign h = cc
 
 slash_no_digit : IsTrue (is_digit 47) → ⊥
 slash_no_digit h = cc
-
-first_is : (b c : ℕ) (s r : Text) → b ∷ s ≡ c ∷ r → b ≡ c
-first_is b c s r e = cc
 
 -- ---- how each kind of spelling begins
 
@@ -231,7 +223,7 @@ longest_sign g text after s = λ k more r e h.
     let q = spells_sign k f.0 (f.1 ++ more) f.3 (subst P f.2 h) in
     s.longest q.0 more r e (ap (λ x. x ++ more) f.2 ∙ q.2)
 
-longest_quoted : (bytes s after : Text) → IsQuoted bytes s → IsLongest s after
+pub longest_quoted : (bytes s after : Text) → IsQuoted bytes s → IsLongest s after
 longest_quoted bytes [] after h = λ k more r e g. absurd (let no_way : [] ≡ 34 ∷ _ = h.whole in cc)
 longest_quoted bytes (b ∷ s) after h = λ k more r e g.
     let quote : b ≡ 34 = first_is b 34 s _ h.whole in

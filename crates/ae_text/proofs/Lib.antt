@@ -1,3 +1,4 @@
+pub mod Basics
 pub mod ScanLemmas
 pub mod SpellingLemmas
 pub mod TextLemmas

@@ -28,7 +28,7 @@ moved-col : (p : Spot) (bs : Text) → Each in_line bs → (spot_after p bs).col
 moved-col p [] e = omega arith
 moved-col p (b ∷ bs) e = let here = not_feed (b == 10) p e.0 in let rest = moved-col (next_spot p b) bs e.1 in omega (arith, here, rest)
 
-moved-append : (p : Spot) (a b : Text) → spot_after p (a ++ b) ≡ spot_after (spot_after p a) b
+pub moved-append : (p : Spot) (a b : Text) → spot_after p (a ++ b) ≡ spot_after (spot_after p a) b
 moved-append p [] b = refl
 moved-append p (x ∷ a) b = moved-append (next_spot p x) a b
 

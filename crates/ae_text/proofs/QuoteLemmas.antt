@@ -4,17 +4,9 @@ use Rattle.std.specs.Str.{encode_utf8_all}
 use Rattle.ae_text.specs.declared.texts.Part.{Part}
 use Rattle.ae_text.specs.declared.texts.Part.TheVariants.{Plain, Escape}
 use Rattle.ae_text.specs.Tokens.{Text, Stops, in_line, in_text, is_escape, parts_text, AreParts, AreKnownEscapes, parts_meaning, IsQuoted, EndsOpen, IsOpen, IsBadEscape}
+use Rattle.ae_text.proofs.TextLemmas.{first_is, no_truth, not_both, spelled-append, parts-append}
 
-no_truth : IsTrue false → ⊥
-no_truth h = cc
-
-not_both : (b : Bool) → IsTrue b → b ≡ false → ⊥
-not_both b h e = cc
-
-pub first_is : (b c : ℕ) (s r : Text) → b ∷ s ≡ c ∷ r → b ≡ c
-first_is b c s r e = cc
-
-tail_is : (b c : ℕ) (s r : Text) → b ∷ s ≡ c ∷ r → s ≡ r
+pub tail_is : (b c : ℕ) (s r : Text) → b ∷ s ≡ c ∷ r → s ≡ r
 tail_is b c s r e = cc
 
 plain_no_quote : (c : ℕ) → IsTrue (in_text c) → c ≡ 34 → ⊥
@@ -97,16 +89,6 @@ escape_unknown : (a b : List Part) (c : ℕ) → is_escape c ≡ false → AreKn
 escape_unknown [] b c u k = not_both (is_escape c) k.0 u
 escape_unknown (Plain d ∷ a) b c u k = escape_unknown a b c u k
 escape_unknown (Escape d ∷ a) b c u k = escape_unknown a b c u k.1
-
-spelled-append : (a b : List Part) → parts_text (a ++ b) ≡ parts_text a ++ parts_text b
-spelled-append [] b = refl
-spelled-append (Plain c ∷ a) b = ap (λ x. c ∷ x) (spelled-append a b)
-spelled-append (Escape c ∷ a) b = ap (λ x. 92 ∷ c ∷ x) (spelled-append a b)
-
-parts-append : (a b : List Part) → AreParts a → AreParts b → AreParts (a ++ b)
-parts-append [] b m n = n
-parts-append (Plain c ∷ a) b m n = (m.0, parts-append a b m.1 n)
-parts-append (Escape c ∷ a) b m n = (m.0, parts-append a b m.1 n)
 
 -- the parts of a text with an escape that stands for nothing
 abbrev all_parts : {before rest : Text} → IsBadEscape before rest → List Part

@@ -11,6 +11,7 @@ use Rattle.std.specs.Char.{is_ascii_alphabetic}
 use Rattle.std.proofs.lemmas.Str.{encode_ascii}
 use Rattle.unicode_ident.specs.Ident.{is_xid_start}
 use Rattle.unicode_ident.proofs.IdentLemmas.{is_xid_start-ascii, is_xid_start-is_xid_continue}
+use Rattle.std.proofs.lemmas.Bool.{or_right, and_parts}
 
 abbrev pub keywords : List Keyword
 keywords = word.Ints ∷ word.Assert ∷ word.Atomic ∷ word.Bool ∷ word.Class ∷ word.Else ∷ word.Exclusive ∷ word.False ∷ word.Freeze ∷ word.Group ∷ word.If ∷ word.Immutable ∷ word.Int ∷ word.Into ∷ word.Len ∷ word.Lent ∷ word.Let ∷ word.Method ∷ word.New ∷ word.None ∷ word.Null ∷ word.Open ∷ word.Print ∷ word.Protected ∷ word.Return ∷ word.Share ∷ word.Shared ∷ word.Split ∷ word.Take ∷ word.This ∷ word.True ∷ word.Unique ∷ word.Void ∷ word.While ∷ word.With ∷ []
@@ -104,13 +105,9 @@ abbrev each_test : (ℕ → Bool) → Text → Bool
 each_test c [] = true
 each_test c (b ∷ s) = c b && each_test c s
 
-both_true : (a b : Bool) → (a && b) ≡ true → (a ≡ true) × (b ≡ true)
-both_true true b e = (refl, e)
-both_true false b e = absurd (cc)
-
 each_by : (c : ℕ → Bool) (s : Text) → each_test c s ≡ true → Each c s
 each_by c [] e = tt
-each_by c (b ∷ s) e = let p = both_true (c b) (each_test c s) e in (p.0, each_by c s p.1)
+each_by c (b ∷ s) e = let p = and_parts (c b) (each_test c s) e in (p.0, each_by c s p.1)
 
 abbrev pub ascii_letter : ℕ → Bool
 ascii_letter b = (nat_le 97 b && nat_le b 122) || (nat_le 65 b && nat_le b 90)
@@ -121,15 +118,11 @@ letter_low b h = search (rules, tests)
 letter_alphabetic : (b : ℕ) → IsTrue (ascii_letter b) → IsTrue (is_ascii_alphabetic b)
 letter_alphabetic b h = search (rules, tests)
 
-right_true : (a b : Bool) → b ≡ true → (a || b) ≡ true
-right_true true b e = refl
-right_true false b e = e
-
 letter_xid : (b : ℕ) → IsTrue (ascii_letter b) → is_xid_start b ≡ true
 letter_xid b h = is_xid_start-ascii b (letter_low b h) ∙ letter_alphabetic b h
 
 letter_begins : (b : ℕ) → IsTrue (ascii_letter b) → IsTrue (begins_word b)
-letter_begins b h = right_true (b == 95) (is_xid_start b) (letter_xid b h)
+letter_begins b h = or_right (b == 95) (is_xid_start b) (letter_xid b h)
 
 letters_go_on : (s : Text) → Each ascii_letter s → Each goes_on s
 letters_go_on [] e = tt
@@ -186,14 +179,14 @@ keyword_test word.With = refl
 
 is_word_by : (s : Text) → word_test s ≡ true → IsWord s
 is_word_by [] e = absurd (cc)
-is_word_by (b ∷ s) e = let p = both_true (ascii_letter b) (each_test ascii_letter s) e in (letter_begins b p.0, letters_go_on s (each_by ascii_letter s p.1))
+is_word_by (b ∷ s) e = let p = and_parts (ascii_letter b) (each_test ascii_letter s) e in (letter_begins b p.0, letters_go_on s (each_by ascii_letter s p.1))
 
 pub keyword_is_word : (k : Keyword) → IsWord (keyword_text k)
 keyword_is_word k = is_word_by (keyword_text k) (keyword_test k)
 
 word_same : (s : Text) → word_test s ≡ true → encode_utf8_all s ≡ s
 word_same [] e = refl
-word_same (b ∷ s) e = let p = both_true (ascii_letter b) (each_test ascii_letter s) e in letters_same (b ∷ s) (p.0, each_by ascii_letter s p.1)
+word_same (b ∷ s) e = let p = and_parts (ascii_letter b) (each_test ascii_letter s) e in letters_same (b ∷ s) (p.0, each_by ascii_letter s p.1)
 
 pub keyword_same : (k : Keyword) → encode_utf8_all (keyword_text k) ≡ keyword_text k
 keyword_same k = word_same (keyword_text k) (keyword_test k)

@@ -12,13 +12,13 @@ use Rattle.ae_text.specs.Tokens.{Text, width, escape_meaning, parts_text, ArePar
 use Rattle.ae_text.specs.Scan.{Front, EndsText, PartThen, PartsThen, NoQuote, Means, IsUnknown, BadEscapeFault, ValueThen, FaultAfter, Faults}
 use Rattle.ae_text.proofs.ScanLemmas.{front_nil, front_then, front_as, front_length, front_smaller}
 
-no_truth : IsTrue false → ⊥
+pub no_truth : IsTrue false → ⊥
 no_truth h = cc
 
-not_both : (b : Bool) → IsTrue b → b ≡ false → ⊥
+pub not_both : (b : Bool) → IsTrue b → b ≡ false → ⊥
 not_both b h e = cc
 
-first_is : (b c : ℕ) (s r : Text) → b ∷ s ≡ c ∷ r → b ≡ c
+pub first_is : (b c : ℕ) (s r : Text) → b ∷ s ≡ c ∷ r → b ≡ c
 first_is b c s r e = cc
 
 -- ---- one list of parts after another
@@ -37,11 +37,6 @@ known-append : (a b : List Part) → AreKnownEscapes a → AreKnownEscapes b →
 known-append [] b m n = n
 known-append (Plain c ∷ a) b m n = known-append a b m n
 known-append (Escape c ∷ a) b m n = (m.0, known-append a b m.1 n)
-
-known-back : (a b : List Part) → AreKnownEscapes (a ++ b) → AreKnownEscapes b
-known-back [] b m = m
-known-back (Plain c ∷ a) b m = known-back a b m
-known-back (Escape c ∷ a) b m = known-back a b m.1
 
 meant-append : (a b : List Part) → parts_meaning (a ++ b) ≡ parts_meaning a ++ parts_meaning b
 meant-append [] b = refl
@@ -108,15 +103,6 @@ pub ends_open : (text : Text) → EndsText text → NoQuote text → EndsOpen te
 ends_open [] e n = tt
 ends_open (c ∷ text) (inl e) n = absurd (n text (ap (λ x. x ∷ text) e))
 ends_open (c ∷ text) (inr e) n = e
-
-pub reads_open : (quoted rest bytes : Text) → Reads quoted rest bytes → EndsText (chars rest) → NoQuote (chars rest) → FaultAfter quoted rule.OpenText 0
-reads_open quoted rest bytes r e n = record {
-  before = [];
-  after = quoted;
-  front = front_nil quoted;
-  ahead_is = refl;
-  is = (refl, record { inner = r.parts; after = chars rest; parts = r.front.characters; are = r.are; ends = ends_open (chars rest) e n });
-}
 
 pub reads_bad : (quoted rest after bytes : Text) (p : Part) (ahead : ℕ) (f : Fault) → Reads quoted rest bytes → PartThen rest p after → IsUnknown p → ahead ≡ length quoted - length rest → BadEscapeFault ahead (chars after) f → Faults quoted f
 reads_bad quoted rest after bytes (Plain c) ahead f r k u a b = absurd u

@@ -1,6 +1,6 @@
-mod BelowLemmas
+pub mod BelowLemmas
 mod NamedLemmas
 mod BlockLemmas
-mod ProgramLemmas
+pub mod ProgramLemmas
 mod DeclLemmas
 mod ThisLemmas

@@ -33,7 +33,7 @@ receiver_is : (o : Option ℕ) (m : Definition) → IsMethodOf o m → is_some m
 receiver_is None m h = ap is_some h.1 ∙ sym (ap is_some h.0)
 receiver_is (Some c) m h = there m.me h.1 ∙ sym (ap is_some h.0)
 
-class_is : (o : Option ℕ) (m : Definition) → IsMethodOf o m → m.class ≡ o
+pub class_is : (o : Option ℕ) (m : Definition) → IsMethodOf o m → m.class ≡ o
 class_is None m h = h.0
 class_is (Some c) m h = h.0
 

@@ -14,13 +14,15 @@ use Rattle.ae_semantics.specs.Atom.{atom, part}
 use Rattle.ae_semantics.specs.Report.{Event, Cell, Report, LeadsTo, Legal, Explained, mean_of, part_of_report, asking_of}
 use Rattle.ae_semantics.specs.Report.{ended_at, LineRun, turn_path, IsLater, InTurnsFrom, Covers, IsLineOf, KeepInTime, traced_part}
 use Rattle.ae_semantics.specs.Report.{Traced}
-use Rattle.ae_worked.proofs.ReportWords.{by_test, no_thing, of_two, pair_of_two, two_differ, some_same, carried_same}
+use Rattle.ae_worked.proofs.ReportWords.{by_test, of_two, pair_of_two, two_differ, carried_same}
 use Rattle.ae_worked.proofs.ReportWords.{asking_same, two_same, not_both, unparted, fork_of, part_so, rises_two}
-use Rattle.ae_worked.proofs.ReportWords.{one_cell, nothing_given, all_differ-so, and_left, and_right, and_false}
+use Rattle.ae_worked.proofs.ReportWords.{one_cell, nothing_given, all_differ-so, and_false}
 use Rattle.ae_worked.proofs.UnfoldingExamples.{every}
 use Rattle.ae_worked.proofs.ProgramWords.{at}
 use Rattle.ae_worked.proofs.MeaningWords.{line, nothing_out}
 use Rattle.ae_worked.proofs.SplitRunExamples.{prints_forever}
+use Rattle.ae_worked.proofs.from_text.Basics.{second_of_both, first_of_both, empty_has_nothing}
+use Rattle.std.proofs.lemmas.Option.{same_Some}
 
 -- ---- a loop that spends the fuel
 
@@ -138,7 +140,7 @@ spent-asks_past = two_same _ _ _ _
 is_asked : (e : Event) (x : Asking) → Contains spent.events e → asking_of spent e ≡ Some x → Contains both_asks x
 is_asked e x c = of_two (λ (d : Event). asking_of spent d ≡ Some x → Contains both_asks x) (event_in 0 1 1)
     (event_in 1 0 2)
-    (λ q. (0, omega arith, some_same (asking 0 1) x q)) (λ q. (1, omega arith, some_same (asking 1 0) x q)) e c
+    (λ q. (0, omega arith, same_Some (asking 0 1) x q)) (λ q. (1, omega arith, same_Some (asking 1 0) x q)) e c
 
 spent-explained : Explained prints_forever [] 2 spent
 unfolding mean part one many below atom
@@ -151,7 +153,7 @@ spent-explained = record {
     of_a_cell = of_two (λ (e : Event). e.cell < 1) (event_in 0 1 1) (event_in 1 0 2) (omega arith) (omega arith);
   };
   used = record { from = refl; asks = ap (map Some) spent-asks };
-  past = record { within = omega arith; later = λ e c. absurd (no_thing e c); none = λ d. refl };
+  past = record { within = omega arith; later = λ e c. absurd (empty_has_nothing e c); none = λ d. refl };
   asked = λ e x c q. subst (λ (l : List Asking). Contains l x) (sym spent-asks_past) (is_asked e x c q);
   cells = inl (inl (0, omega arith, refl), ([], refl, refl));
   legal = spent-legal;
@@ -203,9 +205,9 @@ third (i ∷ j ∷ t ∷ q) = t
 third_is : (t : ℕ) (rest q : Instance) → is_prefix_of (0 ∷ 0 ∷ t ∷ rest) q ≡ true → third q ≡ t
 third_is t rest [] h = absurd (not_both _ refl h)
 third_is t rest (i ∷ []) h = absurd (not_both _ (and_false (nat_eq 0 i)) h)
-third_is t rest (i ∷ j ∷ []) h = absurd (not_both _ (and_false (nat_eq 0 j)) (and_right (nat_eq 0 i) _ h))
+third_is t rest (i ∷ j ∷ []) h = absurd (not_both _ (and_false (nat_eq 0 j)) (second_of_both (nat_eq 0 i) _ h))
 third_is t rest (i ∷ j ∷ u ∷ q) h = sym
-    (eqb-true t u (and_left (nat_eq t u) _ (and_right (nat_eq 0 j) _ (and_right (nat_eq 0 i) _ h))))
+    (eqb-true t u (first_of_both (nat_eq t u) _ (second_of_both (nat_eq 0 j) _ (second_of_both (nat_eq 0 i) _ h))))
 
 -- a block is no turn of a loop
 block_is_no_turn : (t u : ℕ) → block_in t ≡ 0 ∷ 0 ∷ u ∷ [] → ⊥

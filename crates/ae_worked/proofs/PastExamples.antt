@@ -13,7 +13,7 @@ use Rattle.ae_semantics.specs.Meaning.{one, many, below}
 use Rattle.ae_semantics.specs.Means.{Asking, mean}
 use Rattle.ae_semantics.specs.Atom.{atom, part}
 use Rattle.ae_semantics.specs.Report.{Event, Report, LeadsTo, Legal, Explained, mean_of, part_of_report, asking_of}
-use Rattle.ae_worked.proofs.ReportWords.{by_test, one_thing, of_two, pair_of_two, two_differ, some_same, carried_same}
+use Rattle.ae_worked.proofs.ReportWords.{by_test, one_thing, of_two, pair_of_two, two_differ, carried_same}
 use Rattle.ae_worked.proofs.ReportWords.{asking_same, one_same, two_same, unparted, part_so, fork_of, used_at}
 use Rattle.ae_worked.proofs.ReportWords.{backwards, side_by_side, hidden, unused, rises_two, one_cell, nothing_given}
 use Rattle.ae_worked.proofs.ProgramWords.{at}
@@ -21,6 +21,7 @@ use Rattle.ae_worked.proofs.MeaningWords.{nothing_out}
 use Rattle.ae_worked.proofs.ReportExamples.{first_block, second_block, event_at, piece_two, log_cell, IsBlock, free_in}
 use Rattle.ae_worked.proofs.ReportExamples.{inside_split, asking, both_asks}
 use Rattle.ae_worked.proofs.SplitRunExamples.{trap_before_a_print}
+use Rattle.std.proofs.lemmas.Option.{same_Some}
 
 -- ---- a block that traps, and one past it
 
@@ -105,8 +106,8 @@ is_trapped_asked : (e : Event) (x : Asking) → Contains trapped.events e → as
     → Contains both_asks x
 is_trapped_asked e x c = of_two (λ (d : Event). asking_of trapped d ≡ Some x → Contains both_asks x) trap_event
     (event_at second_block 3 1)
-    (λ q. (0, omega arith, some_same (asking first_block 2) x q))
-    (λ q. (1, omega arith, some_same (asking second_block 3) x q)) e c
+    (λ q. (0, omega arith, same_Some (asking first_block 2) x q))
+    (λ q. (1, omega arith, same_Some (asking second_block 3) x q)) e c
 
 not_done : (code : ℕ) (spot : Spot) → Trap code spot ≡ Done → ⊥
 not_done code spot e = cc

@@ -17,13 +17,15 @@ use Rattle.ae_semantics.specs.Means.{Asking, mean, pieces_bytes}
 use Rattle.ae_semantics.specs.Atom.{atom, part}
 use Rattle.ae_semantics.specs.Report.{Event, Cell, LineRun, Report, Leads, LeadsTo, Legal, Explained, mean_of, part_of_report}
 use Rattle.ae_semantics.specs.Report.{asking_of}
-use Rattle.ae_worked.proofs.ReportWords.{no_thing, of_two, pair_of_two, two_differ, some_same, carried_same}
+use Rattle.ae_worked.proofs.ReportWords.{of_two, pair_of_two, two_differ, carried_same}
 use Rattle.ae_worked.proofs.ReportWords.{asking_same, two_same, unparted, part_so, fork_of, used_at, backwards}
 use Rattle.ae_worked.proofs.ReportWords.{side_by_side, hidden, unused, rises_two, one_cell, by_test, nothing_given}
 use Rattle.ae_worked.proofs.ReportWords.{two_lines}
 use Rattle.ae_worked.proofs.ProgramWords.{at}
 use Rattle.ae_worked.proofs.MeaningWords.{line, nothing_out}
 use Rattle.ae_worked.proofs.SplitRunExamples.{two_prints}
+use Rattle.ae_worked.proofs.from_text.Basics.{empty_has_nothing}
+use Rattle.std.proofs.lemmas.Option.{same_Some}
 
 -- ---- two blocks that print
 
@@ -203,8 +205,8 @@ is_asked : (s t : ℕ) (order : List ℕ) (pieces : List Piece) (out : List ℕ)
 is_asked s t order pieces out trace e x c = of_two
     (λ (d : Event). asking_of (report s t order pieces out trace) d ≡ Some x → Contains both_asks x)
     (event_at first_block 2 s) (event_at second_block 3 t)
-    (λ q. (0, omega arith, some_same (asking first_block 2) x q))
-    (λ q. (1, omega arith, some_same (asking second_block 3) x q)) e c
+    (λ q. (0, omega arith, same_Some (asking first_block 2) x q))
+    (λ q. (1, omega arith, same_Some (asking second_block 3) x q)) e c
 
 explained : (s t : ℕ) (order : List ℕ) (pieces : List Piece) (out : List ℕ) (trace : List LineRun) → out
     ≡ pieces_bytes pieces ++ [] → Legal two_prints (report s t order pieces out trace)
@@ -221,7 +223,7 @@ explained s t order pieces out trace same legal = record {
     (omega arith) (omega arith);
   };
   used = record { from = refl; asks = ap (map Some) (asked_in s t order pieces out trace) };
-  past = record { within = omega arith; later = λ e c. absurd (no_thing e c); none = λ d. refl };
+  past = record { within = omega arith; later = λ e c. absurd (empty_has_nothing e c); none = λ d. refl };
   asked = λ e x c q. subst (λ (l : List Asking). Contains l x) (sym (asked_past s t order pieces out trace))
       (is_asked s t order pieces out trace e x c q);
   cells = inl (inl (0, omega arith, refl), ([], refl, refl));

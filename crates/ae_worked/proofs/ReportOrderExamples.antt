@@ -12,12 +12,14 @@ use Rattle.ae_semantics.specs.Meaning.{one, many, below}
 use Rattle.ae_semantics.specs.Means.{Asking, mean}
 use Rattle.ae_semantics.specs.Atom.{atom, part}
 use Rattle.ae_semantics.specs.Report.{Event, Cell, Report, LeadsTo, Legal, Explained, mean_of, part_of_report, asking_of}
-use Rattle.ae_worked.proofs.ReportWords.{no_thing, of_two, pair_of_two, two_differ, some_same, carried_same}
+use Rattle.ae_worked.proofs.ReportWords.{of_two, pair_of_two, two_differ, carried_same}
 use Rattle.ae_worked.proofs.ReportWords.{asking_same, two_same, unparted, part_so, fork_of, backwards, rises_two}
 use Rattle.ae_worked.proofs.ReportWords.{one_cell, by_test, nothing_given, one_line}
 use Rattle.ae_worked.proofs.MeaningWords.{line, nothing_out, number_out}
 use Rattle.ae_worked.proofs.ReportExamples.{asked_at}
 use Rattle.ae_worked.proofs.SplitRunExamples.{written_then_printed}
+use Rattle.ae_worked.proofs.from_text.Basics.{empty_has_nothing}
+use Rattle.std.proofs.lemmas.Option.{same_Some}
 
 -- The second block reads what the first one writes, so it comes after it.
 pub written_first : Ordered written_then_printed (1 ∷ 0 ∷ []) (1 ∷ 1 ∷ [])
@@ -154,8 +156,8 @@ is_written_asked : (e : Event) (x : Asking) → Contains writing_first.events e 
     → Contains written_asks x
 is_written_asked e x c = of_two
     (λ (d : Event). asking_of writing_first d ≡ Some x → Contains written_asks x) writing printing
-    (λ q. (0, omega arith, some_same (record { cell = written_cell.name; ask = writing.ask }) x q))
-    (λ q. (1, omega arith, some_same (record { cell = written_cell.name; ask = printing.ask }) x q)) e c
+    (λ q. (0, omega arith, same_Some (record { cell = written_cell.name; ask = writing.ask }) x q))
+    (λ q. (1, omega arith, same_Some (record { cell = written_cell.name; ask = printing.ask }) x q)) e c
 
 -- The block that prints asks with what the other one answered.
 writing_first-explained : Explained written_then_printed [] 10 writing_first
@@ -168,7 +170,7 @@ writing_first-explained = record {
     of_a_cell = of_two (λ (e : Event). e.cell < 1) writing printing (omega arith) (omega arith);
   };
   used = record { from = refl; asks = ap (map Some) writing_first-asks };
-  past = record { within = omega arith; later = λ e c. absurd (no_thing e c); none = λ d. refl };
+  past = record { within = omega arith; later = λ e c. absurd (empty_has_nothing e c); none = λ d. refl };
   asked = λ e x c q. subst (λ (l : List Asking). Contains l x) (sym writing_first-asks_past)
       (is_written_asked e x c q);
   cells = inl (inl (0, omega arith, refl), ([], refl, refl));

@@ -10,13 +10,14 @@ use Rattle.ae_semantics.specs.Means.{At, mean}
 use Rattle.ae_semantics.specs.Atom.{part}
 use Rattle.ae_semantics.specs.Report.{LineRun, Report, AllDiffer, mean_of, Covers, IsLineOf, IsLater, KeepInTime, traced_part}
 use Rattle.ae_semantics.specs.Report.{Traced}
-use Rattle.ae_worked.proofs.ReportWords.{no_thing, of_two, of_three, pair_of_two, and_false, not_both, fork_of}
+use Rattle.ae_worked.proofs.ReportWords.{of_two, of_three, pair_of_two, and_false, not_both, fork_of}
 use Rattle.ae_worked.proofs.ReportWords.{conflict_so, all_differ-so, no_line}
 use Rattle.ae_worked.proofs.ProgramWords.{at}
 use Rattle.ae_worked.proofs.ReportExamples.{first_block, second_block, piece_one, piece_two, report, block_line}
 use Rattle.ae_worked.proofs.ReportExamples.{in_order, other_order, no_clash, free}
 use Rattle.ae_worked.proofs.ReportOrderExamples.{written_first, writing_first}
 use Rattle.ae_worked.proofs.SplitRunExamples.{two_prints, written_then_printed}
+use Rattle.ae_worked.proofs.from_text.Basics.{empty_has_nothing}
 
 -- ---- traced
 
@@ -38,8 +39,8 @@ lines_apart : (s t : ℕ) (order : List ℕ) (pieces : List Piece) (out : List �
 unfolding part one many below
 lines_apart s t order pieces out trace l m e d q (inl x) (inl y) = apart q (subst (λ z. is_prefix_of z q ≡ true) e x)
     (subst (λ z. is_prefix_of z q ≡ true) d y)
-lines_apart s t order pieces out trace l m e d q (inl x) (inr y) = absurd (no_thing y.0 y.1)
-lines_apart s t order pieces out trace l m e d q (inr x) y = absurd (no_thing x.0 x.1)
+lines_apart s t order pieces out trace l m e d q (inl x) (inr y) = absurd (empty_has_nothing y.0 y.1)
+lines_apart s t order pieces out trace l m e d q (inr x) y = absurd (empty_has_nothing x.0 x.1)
 
 no_conflict : Conflict two_prints first_block second_block → ⊥
 no_conflict = conflict_so two_prints first_block second_block

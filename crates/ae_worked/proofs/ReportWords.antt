@@ -18,11 +18,11 @@ use Rattle.ae_semantics.specs.Observations.{Carried, Gave}
 use Rattle.ae_semantics.specs.Means.{Asking}
 use Rattle.ae_semantics.specs.Report.{Event, Cell, LineRun, AllPairs, AllDiffer, Rises, of_cell, Leads}
 use Rattle.ae_worked.proofs.MeaningWords.{nothing_out}
+use Rattle.ae_worked.proofs.from_text.Basics.{second_of_both, first_of_both, none_is_no_some, empty_has_nothing}
+use Rattle.std.proofs.lemmas.Option.{same_Some}
+use Rattle.ae_worked.proofs.from_rules.EdgeLemmas.{forward}
 
 -- ---- the things of short lists
-
-pub no_thing : {A : Type 0} (z : A) → Contains [] z → ⊥
-no_thing z (k, l, e) = omega (arith, l)
 
 pub one_thing : {A : Type 0} (x z : A) → Contains (x ∷ []) z → x ≡ z
 one_thing x z (zero, l, e) = e
@@ -41,16 +41,10 @@ of_three P x y w p q r z (suc (suc zero), l, e) = subst P e r
 of_three P x y w p q r z (suc (suc (suc k)), l, e) = absurd (omega (arith, l))
 
 pub pair_of_two : {A : Type 0} (rel : A → A → Type 0) (x y : A) → rel x y → AllPairs rel (x ∷ y ∷ [])
-pair_of_two rel x y r = (λ z c. subst (rel x) (one_thing y z c) r, (λ z c. absurd (no_thing z c), tt))
+pair_of_two rel x y r = (λ z c. subst (rel x) (one_thing y z c) r, (λ z c. absurd (empty_has_nothing z c), tt))
 
 pub two_differ : (m n : ℕ) → m ≢ n → AllDiffer (m ∷ n ∷ [])
 two_differ m n e = pair_of_two {A = ℕ} (λ (k l : ℕ). k ≢ l) m n e
-
-pub some_same : {A : Type 0} (x y : A) → Some x ≡ Some y → x ≡ y
-some_same x y e = cc
-
-pub none_is_not : {A : Type 0} {x : A} → None ≡ Some x → ⊥
-none_is_not i = cc
 
 -- ---- what is carried, asked and answered, compared name by name
 
@@ -80,14 +74,6 @@ and_false false = refl
 pub not_both : (b : Bool) → b ≡ false → b ≡ true → ⊥
 not_both b e d = cc
 
-pub and_left : (a b : Bool) → (a && b) ≡ true → a ≡ true
-and_left true b h = refl
-and_left false b h = h
-
-pub and_right : (a b : Bool) → (a && b) ≡ true → b ≡ true
-and_right true b h = h
-and_right false b h = absurd (not_both false refl h)
-
 -- ---- lines that are printed
 
 pub one_line : (xs : List ℕ) → xs ≡ (xs ++ []) ++ []
@@ -105,13 +91,13 @@ fork_of p q r = given (parting p q r)
 
 -- instances that do not part are not ordered
 pub unparted : (p : Code) (q r : Instance) → parting p q r ≡ None → Ordered p q r → ⊥
-unparted p q r e o = none_is_not (sym e ∙ o.parts)
+unparted p q r e o = none_is_no_some (sym e ∙ o.parts)
 
 -- where it is known how they part
 pub part_so : (p : Code) (q r : Instance) (k : Parting) → parting p q r ≡ Some k
     → (IsFirstAt p k.at k.left k.right → ⊥) → Ordered p q r → ⊥
 part_so p q r k e h o = h (subst (λ (x : Parting). IsFirstAt p x.at x.left x.right)
-    (some_same o.fork k (sym o.parts ∙ e)) o.order)
+    (same_Some o.fork k (sym o.parts ∙ e)) o.order)
 
 abbrev pub ConflictAt : Code → Parting → Resource → Type 0
 ConflictAt p k r = IsConflict (uses_from p k.at (k.left ∷ k.left_rest) r)
@@ -120,12 +106,7 @@ ConflictAt p k r = IsConflict (uses_from p k.at (k.left ∷ k.left_rest) r)
 pub conflict_so : (p : Code) (q r : Instance) (k : Parting) → parting p q r ≡ Some k
     → ((s : Resource) → ConflictAt p k s → ⊥) → Conflict p q r → ⊥
 conflict_so p q r k e h o = h o.on
-    (subst (λ (x : Parting). ConflictAt p x o.on) (some_same o.fork k (sym o.parts ∙ e)) o.conflict)
-
--- a chain leads forward
-forward : (u : BlockUses) (i j : ℕ) → Before u i j → i < j
-forward u _ _ (Direct i j e) = e.before
-forward u _ _ (Through i j k e c) = let l : i < j = e.before in let m : j < k = forward u j k c in omega (arith, l, m)
+    (subst (λ (x : Parting). ConflictAt p x o.on) (same_Some o.fork k (sym o.parts ∙ e)) o.conflict)
 
 pub not_back : (u : BlockUses) (i j : ℕ) → j < suc i → Before u i j → ⊥
 not_back u i j l c = let m : i < j = forward u i j c in omega (arith, l, m)
@@ -188,15 +169,15 @@ unused o n e h = subst (λ (x : Option Mode). IsConflict x n) e h
 
 pub rises_two : (es : List Event) (i j : ℕ) (x y : Event) → slice_get es i ≡ Some x → slice_get es j ≡ Some y
     → x.stamp < y.stamp → Rises es (i ∷ j ∷ [])
-rises_two es i j x y p q l = (λ d e a b. later x y d e (some_same x d (sym p ∙ a)) (some_same y e (sym q ∙ b)) l, tt)
+rises_two es i j x y p q l = (λ d e a b. later x y d e (same_Some x d (sym p ∙ a)) (same_Some y e (sym q ∙ b)) l, tt)
   where
     later : (x y d e : Event) → x ≡ d → y ≡ e → x.stamp < y.stamp → d.stamp < e.stamp
     later x y d e a b l = subst (λ (z : Event). z.stamp < e.stamp) a (subst (λ (z : Event). x.stamp < z.stamp) b l)
 
 pub one_cell : (p : Code) (es : List Event) (x : Cell) → Leads p (of_cell 0 es) x.first x.last
     → (i : ℕ) (c : Cell) → slice_get (x ∷ []) i ≡ Some c → Leads p (of_cell i es) c.first c.last
-one_cell p es x l zero c e = subst (λ (z : Cell). Leads p (of_cell 0 es) z.first z.last) (some_same x c e) l
-one_cell p es x l (suc i) c e = absurd (none_is_not e)
+one_cell p es x l zero c e = subst (λ (z : Cell). Leads p (of_cell 0 es) z.first z.last) (same_Some x c e) l
+one_cell p es x l (suc i) c e = absurd (none_is_no_some e)
 
 -- ---- numbers that differ
 
@@ -225,12 +206,12 @@ all_differ (x ∷ xs) = is_absent x xs && all_differ xs
 
 pub absent : (m : ℕ) (xs : List ℕ) → is_absent m xs ≡ true → (z : ℕ) → Contains xs z → m ≢ z
 absent m [] h z (k, l, e) = absurd (omega (arith, l))
-absent m (x ∷ xs) h z (zero, l, e) = subst (λ y. m ≢ y) e (differs m x (and_left _ _ h))
-absent m (x ∷ xs) h z (suc k, l, e) = absent m xs (and_right _ _ h) z (k, omega (arith, l), e)
+absent m (x ∷ xs) h z (zero, l, e) = subst (λ y. m ≢ y) e (differs m x (first_of_both _ _ h))
+absent m (x ∷ xs) h z (suc k, l, e) = absent m xs (second_of_both _ _ h) z (k, omega (arith, l), e)
 
 pub no_line : {P : LineRun → Type 0} → ((l : LineRun) × Contains [] l × P l) → ⊥
-no_line x = no_thing x.0 x.1
+no_line x = empty_has_nothing x.0 x.1
 
 pub all_differ-so : (xs : List ℕ) → all_differ xs ≡ true → AllDiffer xs
 all_differ-so [] h = tt
-all_differ-so (x ∷ xs) h = (absent x xs (and_left _ _ h), all_differ-so xs (and_right _ _ h))
+all_differ-so (x ∷ xs) h = (absent x xs (first_of_both _ _ h), all_differ-so xs (second_of_both _ _ h))

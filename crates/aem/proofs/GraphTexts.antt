@@ -24,17 +24,15 @@ use Rattle.ae_rules.specs.Blocks.{Scene, Opened, body_scene as body_scene, scene
 use Rattle.ae_rules.specs.Cases.{DeclaresOne, TodaysUsesAreACase}
 use Rattle.ae_graph.specs.Graph.{Graph, IsGraph, preds_in}
 use Rattle.ae_graph.specs.GraphText.{written_name, block_text, method_text, AreMethodTexts, IsGraphText}
-use Rattle.ae_graph.proofs.Elements.{here, there, nowhere, uncons}
+use Rattle.aem.proofs.from_graph.Elements.{here, there, uncons}
 use Rattle.ae_graph.specs.Graphs.{text_of_block, text_of_method, graph_text}
+use Rattle.aem.proofs.from_text.Basics.{number_is_itself, empty_has_nothing}
+use Rattle.aem.proofs.from_graph.Rows.{rising_tail}
 
 -- ---- rising lists
 
-rising_tail : (x : ℕ) (xs : List ℕ) → IsRising (x ∷ xs) → IsRising xs
-rising_tail x [] r = tt
-rising_tail x (y ∷ xs) r = r.1
-
 above_first : (x : ℕ) (xs : List ℕ) → IsRising (x ∷ xs) → (z : ℕ) → Contains xs z → x < z
-above_first x [] r z h = absurd (nowhere z h)
+above_first x [] r z h = absurd (empty_has_nothing z h)
 above_first x (y ∷ xs) r z h = elim (uncons y xs z h) [
   | inl e ↦ subst (λ w. x < w) e r.0
   | inr k ↦ let l : y < z = above_first y xs r.1 z k in let m : x < y = r.0 in omega (arith, l, m)
@@ -62,8 +60,8 @@ tail_within x y xs ys e r f z h = elim (uncons y ys z (f z (there x xs z h))) [
 -- two rising lists of the same numbers are one list
 same_rising : (xs ys : List ℕ) → IsRising xs → IsRising ys → Within xs ys → Within ys xs → xs ≡ ys
 same_rising [] [] r s f g = refl
-same_rising [] (y ∷ ys) r s f g = absurd (nowhere y (g y (here y ys)))
-same_rising (x ∷ xs) [] r s f g = absurd (nowhere x (f x (here x xs)))
+same_rising [] (y ∷ ys) r s f g = absurd (empty_has_nothing y (g y (here y ys)))
+same_rising (x ∷ xs) [] r s f g = absurd (empty_has_nothing x (f x (here x xs)))
 same_rising (x ∷ xs) (y ∷ ys) r s f g =
     let e : x ≡ y = first_same x y xs ys r s f g in
     ap₂ (λ (a : ℕ) (b : List ℕ). a ∷ b) e
@@ -129,11 +127,8 @@ no_scenes p m End h c = refl
 no_scenes p m (Next at a rest) h c = ap₂ (λ (x y : List Opened). x ++ y) (no_scenes_in p m a h.0 c)
     (none_judged (judge_statement p m at a c) (scenes_among p m false rest) (λ d. no_scenes p m rest h.1 d))
 
-is_itself : (n : ℕ) → nat_eq n n ≡ true
-is_itself n = grind (arith, nat_tests)
-
 pub own_scene : (p : Code) (m : Definition) → scene p m m.no ≡ Some (body_scene p m)
-own_scene p m = by (nat_eq m.no m.no) (is_itself m.no)
+own_scene p m = by (nat_eq m.no m.no) (number_is_itself m.no)
   where
     by : (b : Bool) → b ≡ true → (if b then Some (body_scene p m) else scene_numbered m.no (scenes_among p m true m.body (start p m))) ≡ Some (body_scene p m)
     by true e = refl

@@ -16,16 +16,10 @@ use Rattle.ae_tree.specs.Plain.{Action, Declares, Assigns, Prints}
 use Rattle.ae_rules.specs.BuiltUses.{reads_local, reads_right, read_if, use_of, use_at}
 use Rattle.ae_tree.specs.WellShaped.{ExpressionNamed, RightNamed, ActionNamed, EachStatement, WellShaped, DerivedAreWellShaped}
 use Rattle.ae_rules.specs.EdgeLaws.{name_of_resource, NamesBelow}
-
-from_eq : (x y : ℕ) → nat_eq x y ≡ true → x ≡ y
-from_eq x y e = grind (arith, nat_tests)
-
-or_cases : (a b : Bool) → (a || b) ≡ true → (a ≡ true) ⊎ (b ≡ true)
-or_cases true b e = inl refl
-or_cases false b e = inr e
+use Rattle.std.proofs.lemmas.Bool.{eqb-true, or_cases}
 
 same_below : (n x y : ℕ) → x < n → nat_eq x y ≡ true → y < n
-same_below n x y l e = subst (λ (z : ℕ). z < n) (from_eq x y e) l
+same_below n x y l e = subst (λ (z : ℕ). z < n) (eqb-true x y e) l
 
 -- what an expression reads
 read_below : (n : ℕ) (e : Expression) → ExpressionNamed n e → (y : ℕ) → reads_local e y ≡ true → y < n

@@ -5,7 +5,7 @@ use Rattle.ae_tree.specs.Plain.{Expression, Item, Grouped, Negated, Minus}
 use Rattle.ae_tree.specs.Limits.{marks}
 use Rattle.ae_tree.specs.Shown.{expression, expression-Path, expression-Index, expression-Paren, expression-Not, expression-Neg}
 use Rattle.ae_reading.specs.Reads.{Took, Always, Free}
-use Rattle.ae_reading.proofs.ReadsLemmas.{exits, passes, failed_by, refuses}
+use Rattle.ae_expressions.proofs.from_reading.ReadsLemmas.{exits, passes, failed_by, refuses}
 use Rattle.ae_expressions.specs.Ends.{Ends}
 use Rattle.ae_expressions.specs.declared.starts.Mark.{Mark}
 use Rattle.ae_expressions.specs.declared.starts.Mark.TheVariants as mark

@@ -1,7 +1,7 @@
 use Rattle.ae_tree.specs.Grammar.{whole_expression}
 use Rattle.ae_tree.specs.Limits.{KeepsDepth}
 use Rattle.ae_tree.specs.Shown as shown
-use Rattle.ae_reading.proofs.ReadsLemmas.{exits}
+use Rattle.ae_expressions.proofs.from_reading.ReadsLemmas.{exits}
 use Rattle.ae_expressions.specs.Ends.{Ends}
 use Rattle.ae_expressions.proofs.WholeLemmas.{whole_took, whole_failed}
 use Rattle.ae_expressions.proofs.expressions.expression.Goals as goal

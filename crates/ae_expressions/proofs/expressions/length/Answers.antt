@@ -3,7 +3,7 @@ use Rattle.ae_tree.specs.Plain.{Expression}
 use Rattle.ae_tree.specs.Limits.{marks}
 use Rattle.ae_tree.specs.Shown.{expression-Len}
 use Rattle.ae_reading.specs.Reads.{Took}
-use Rattle.ae_reading.proofs.ReadsLemmas.{exits}
+use Rattle.ae_expressions.proofs.from_reading.ReadsLemmas.{exits}
 use Rattle.ae_expressions.specs.Ends.{Ends}
 use Rattle.ae_expressions.specs.Productions.{AtMostMarks, counted}
 use Rattle.ae_expressions.proofs.OperandLemmas.{len_operand, length_took, length_failed_word, length_failed_path}

@@ -3,7 +3,7 @@ use Rattle.ae_tree.specs.Plain.{Expression}
 use Rattle.ae_tree.specs.Shown.{expression}
 use Rattle.ae_reading.specs.Reads.{Always, Free, Took}
 use Rattle.ae_expressions.specs.Productions.{literal, counted}
-use Rattle.ae_reading.proofs.ReadsLemmas.{refuses}
+use Rattle.ae_expressions.proofs.from_reading.ReadsLemmas.{refuses}
 use Rattle.ae_expressions.proofs.OperandLemmas.{took_literal, literal_end, literal_other}
 use Rattle.ae_expressions.proofs.expressions.literal.Goals as goal
 

@@ -1,8 +1,8 @@
 use Rattle.std.proofs.Common.{arith, ◌<◌, length}
 use Rattle.ae_tree.specs.Grammar.{path}
 use Rattle.ae_reading.specs.Reads.{itself, Isnt}
-use Rattle.ae_reading.proofs.ReadsLemmas.{exits, refuses}
-use Rattle.ae_reading.proofs.PathLemmas.{dot}
+use Rattle.ae_expressions.proofs.from_reading.ReadsLemmas.{exits, refuses}
+use Rattle.ae_expressions.proofs.from_reading.PathLemmas.{dot}
 use Rattle.ae_expressions.specs.Productions.{IsShortPath}
 use Rattle.ae_expressions.proofs.StepLemmas.{fields_start, path_failed, fields_more, fields_stopped, fields_over, fields_end}
 use Rattle.ae_expressions.proofs.paths.path.Goals as goal

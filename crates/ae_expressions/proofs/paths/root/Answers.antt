@@ -1,7 +1,7 @@
 use Rattle.ae_tree.specs.Grammar.{root, name}
 use Rattle.ae_reading.specs.Reads.{Always, Free, itself}
-use Rattle.ae_reading.proofs.ReadsLemmas.{exits, passes}
-use Rattle.ae_reading.proofs.PathLemmas.{this_failed, named_took, named_failed}
+use Rattle.ae_expressions.proofs.from_reading.ReadsLemmas.{exits, passes}
+use Rattle.ae_expressions.proofs.from_reading.PathLemmas.{this_failed, named_took, named_failed}
 use Rattle.ae_expressions.proofs.paths.root.Goals as goal
 
 pub returns-in_err-at : goal.returns-in_err-at

@@ -1,7 +1,7 @@
 use Rattle.ae_tree.specs.Grammar.{name, path_step}
 use Rattle.ae_reading.specs.Reads.{Always, Free, itself}
-use Rattle.ae_reading.proofs.ReadsLemmas.{exits, passes}
-use Rattle.ae_reading.proofs.PathLemmas.{step_took, step_failed_dot, step_failed_name}
+use Rattle.ae_expressions.proofs.from_reading.ReadsLemmas.{exits, passes}
+use Rattle.ae_expressions.proofs.from_reading.PathLemmas.{step_took, step_failed_dot, step_failed_name}
 use Rattle.ae_expressions.proofs.paths.step.Goals as goal
 
 pub returns-in_err-rest : goal.returns-in_err-rest

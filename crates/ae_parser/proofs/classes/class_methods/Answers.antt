@@ -1,7 +1,7 @@
 use Rattle.std.proofs.Common.{map, Some, arith}
 use Rattle.ae_tree.specs.Shown as shown
 use Rattle.ae_tree.specs.Grammar.{method, one_by_one}
-use Rattle.ae_reading.proofs.ReadsLemmas.{exits}
+use Rattle.ae_parser.proofs.from_reading.ReadsLemmas.{exits}
 use Rattle.ae_parser.specs.Productions.{AllMethodsKeep}
 use Rattle.ae_parser.proofs.ClassLemmas.{NoMethod, methods_start, methods_more, methods_failed, methods_end, method_smaller, run_shorter}
 use Rattle.ae_parser.proofs.classes.class_methods.Goals as goal

@@ -1,9 +1,9 @@
-use Rattle.ae_reading.proofs.ReadsLemmas.{exits, first, second, both, free, took_mark, failed_mark, has_mark}
+use Rattle.ae_parser.proofs.from_reading.ReadsLemmas.{exits, first, second, both, free, took_mark, failed_mark, has_mark}
 use Rattle.ae_tree.specs.Grammar.{field}
 use Rattle.ae_reading.specs.Reads.{itself, Free, Always}
 use Rattle.ae_text.specs.declared.token.Sign.TheVariants as sign
 use Rattle.ae_tree.specs.declared.lexeme.Lexical.TheVariants as tok
-use Rattle.ae_reading.proofs.ReadsLemmas.{has_mark}
+use Rattle.ae_parser.proofs.from_reading.ReadsLemmas.{has_mark}
 use Rattle.ae_parser.proofs.ParamLemmas.{named_ends}
 use Rattle.ae_parser.proofs.ClassLemmas.{has_ended, field_took, field_failed}
 use Rattle.ae_parser.proofs.classes.field.Goals as goal

@@ -1,7 +1,7 @@
 use Rattle.ae_tree.specs.Grammar.{field, one_by_one}
 use Rattle.ae_reading.specs.Reads.{itself, Free}
-use Rattle.ae_reading.proofs.ReadsLemmas.{exits}
-use Rattle.ae_reading.proofs.PartLemmas.{loop_start, loop_more, loop_failed}
+use Rattle.ae_parser.proofs.from_reading.ReadsLemmas.{exits}
+use Rattle.ae_parser.proofs.from_reading.PartLemmas.{loop_start, loop_more, loop_failed}
 use Rattle.ae_parser.specs.Productions.{NoType}
 use Rattle.ae_parser.proofs.ClassLemmas.{type_goes_on, fields_end, field_smaller}
 use Rattle.ae_parser.proofs.classes.fields.Goals as goal

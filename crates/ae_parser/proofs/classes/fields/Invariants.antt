@@ -1,7 +1,7 @@
 use Rattle.std.proofs.Common.{length}
 use Rattle.ae_tree.specs.Grammar.{field}
 use Rattle.ae_reading.specs.Reads.{Free}
-use Rattle.ae_reading.proofs.Runs.{Run}
+use Rattle.ae_parser.proofs.from_reading.Runs.{Run}
 use Rattle.ae_parser.specs.Productions.{NoType}
 use Rattle.ae_parser.proofs.classes.fields.Given as goal
 

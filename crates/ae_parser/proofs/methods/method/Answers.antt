@@ -1,4 +1,4 @@
-use Rattle.ae_reading.proofs.ReadsLemmas.{exits, first, second, both, free, took_mark, failed_mark, took_shorter}
+use Rattle.ae_parser.proofs.from_reading.ReadsLemmas.{exits, first, second, both, free, took_mark, failed_mark, took_shorter}
 use Rattle.std.proofs.Common.{ℕ, sym, subst, arith}
 use Rattle.ae_tree.specs.declared.lexeme.Lexical.TheVariants as tok
 use Rattle.ae_text.specs.declared.token.Sign.TheVariants as sign

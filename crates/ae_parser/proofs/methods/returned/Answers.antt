@@ -3,8 +3,8 @@ use Rattle.ae_tree.specs.Grammar.{result, type_}
 use Rattle.ae_reading.specs.Reads.{itself, Free, TokenMark}
 use Rattle.ae_text.specs.declared.token.Keyword.TheVariants as word
 use Rattle.ae_tree.specs.declared.lexeme.Lexical.TheVariants as tok
-use Rattle.ae_reading.proofs.ReadsLemmas.{exits, took_as, failed_as, took_mark, failed_mark, took_when, failed_when}
-use Rattle.ae_reading.proofs.TypeLemmas.{NoLess}
+use Rattle.ae_parser.proofs.from_reading.ReadsLemmas.{exits, took_as, failed_as, took_mark, failed_mark, took_when, failed_when}
+use Rattle.ae_parser.proofs.from_reading.TypeLemmas.{NoLess}
 use Rattle.ae_parser.proofs.MethodLemmas.{void_when, some_along}
 use Rattle.ae_parser.proofs.methods.returned.Goals as goal
 

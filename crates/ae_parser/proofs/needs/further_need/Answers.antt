@@ -1,7 +1,7 @@
 use Rattle.ae_tree.specs.Grammar.{need, further}
 use Rattle.ae_reading.specs.Reads.{itself, Free, Always}
-use Rattle.ae_reading.proofs.ReadsLemmas.{exits, passes, took_mark, failed_mark}
-use Rattle.ae_reading.proofs.Parts.{took_further, further_first, further_second}
+use Rattle.ae_parser.proofs.from_reading.ReadsLemmas.{exits, passes, took_mark, failed_mark}
+use Rattle.ae_parser.proofs.from_reading.Parts.{took_further, further_first, further_second}
 use Rattle.ae_parser.proofs.MethodLemmas.{has_need}
 use Rattle.ae_parser.proofs.needs.further_need.Goals as goal
 

@@ -1,8 +1,8 @@
 use Rattle.ae_tree.specs.Grammar.{further, need, one_by_one}
 use Rattle.ae_reading.specs.Reads.{itself, Free, Always}
-use Rattle.ae_reading.proofs.ReadsLemmas.{exits, mark_smaller}
-use Rattle.ae_reading.proofs.Parts.{Comma}
-use Rattle.ae_reading.proofs.PartLemmas.{loop_start, loop_more, loop_failed, commas_end}
+use Rattle.ae_parser.proofs.from_reading.ReadsLemmas.{exits, mark_smaller}
+use Rattle.ae_parser.proofs.from_reading.Parts.{Comma}
+use Rattle.ae_parser.proofs.from_reading.PartLemmas.{loop_start, loop_more, loop_failed, commas_end}
 use Rattle.ae_parser.proofs.MethodLemmas.{Opening, comma_or_brace}
 use Rattle.ae_parser.proofs.needs.further_needs.Goals as goal
 

@@ -1,6 +1,6 @@
 use Rattle.ae_tree.specs.Grammar.{need}
 use Rattle.ae_reading.specs.Reads.{itself, Free, Always}
-use Rattle.ae_reading.proofs.ReadsLemmas.{passes, took_as, failed_as}
+use Rattle.ae_parser.proofs.from_reading.ReadsLemmas.{passes, took_as, failed_as}
 use Rattle.ae_parser.specs.Productions.{need_by}
 use Rattle.ae_text.specs.declared.token.Keyword.TheVariants as word
 use Rattle.ae_parser.proofs.MethodLemmas.{need_there, need_left}

@@ -1,6 +1,6 @@
-use Rattle.ae_reading.proofs.ReadsLemmas.{exits, first, second, both, free, took_mark, failed_mark}
+use Rattle.ae_parser.proofs.from_reading.ReadsLemmas.{exits, first, second, both, free, took_mark, failed_mark}
 use Rattle.ae_reading.specs.Reads.{itself, Free, Always}
-use Rattle.ae_reading.proofs.ReadsLemmas.{has_name}
+use Rattle.ae_parser.proofs.from_reading.ReadsLemmas.{has_name}
 use Rattle.ae_parser.specs.Productions.{need_by}
 use Rattle.ae_parser.proofs.MethodLemmas.{need_took, need_failed}
 use Rattle.ae_parser.proofs.needs.need_by.Goals as goal

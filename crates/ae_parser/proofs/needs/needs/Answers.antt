@@ -1,6 +1,6 @@
 use Rattle.ae_tree.specs.Grammar.{needs}
 use Rattle.ae_reading.specs.Reads.{itself, Free}
-use Rattle.ae_reading.proofs.ReadsLemmas.{passes, took_when, failed_when}
+use Rattle.ae_parser.proofs.from_reading.ReadsLemmas.{passes, took_when, failed_when}
 use Rattle.ae_parser.specs.Productions.{some_needs}
 use Rattle.ae_parser.proofs.MethodLemmas.{Opening, needs_when, needs_none}
 use Rattle.ae_parser.proofs.needs.needs.Goals as goal

@@ -2,8 +2,8 @@ use Rattle.std.proofs.Common.{List, sym, subst}
 use Rattle.ae_tree.specs.declared.tree.GroupNeed.{GroupNeed}
 use Rattle.ae_tree.specs.Grammar.{need}
 use Rattle.ae_reading.specs.Reads.{itself, Free, Took}
-use Rattle.ae_reading.proofs.ReadsLemmas.{exits, first, second, both, free, took_mark, failed_mark}
-use Rattle.ae_reading.proofs.Parts.{free_commas, free_parted, has_separated, took_separated, separated_first, separated_more}
+use Rattle.ae_parser.proofs.from_reading.ReadsLemmas.{exits, first, second, both, free, took_mark, failed_mark}
+use Rattle.ae_parser.proofs.from_reading.Parts.{free_commas, free_parted, has_separated, took_separated, separated_first, separated_more}
 use Rattle.ae_parser.specs.Productions.{some_needs}
 use Rattle.ae_parser.proofs.MethodLemmas.{Opening, has_need, needs_end, with_took, with_failed}
 use Rattle.ae_parser.proofs.needs.some_needs.Goals as goal

@@ -1,6 +1,6 @@
 use Rattle.ae_tree.specs.Grammar.{away}
 use Rattle.ae_reading.specs.Reads.{itself, Free, Always}
-use Rattle.ae_reading.proofs.ReadsLemmas.{passes, took_when, failed_when}
+use Rattle.ae_parser.proofs.from_reading.ReadsLemmas.{passes, took_when, failed_when}
 use Rattle.ae_parser.specs.Productions.{away_mark}
 use Rattle.ae_parser.proofs.ParamLemmas.{NoAway, away_when, away_none}
 use Rattle.ae_parser.proofs.params.away.Goals as goal

@@ -1,8 +1,8 @@
 use Rattle.std.proofs.Common.{◌<◌, ◌≤◌, length, arith}
 use Rattle.ae_tree.specs.Grammar.{param, one_by_one, further}
 use Rattle.ae_reading.specs.Reads.{itself}
-use Rattle.ae_reading.proofs.ReadsLemmas.{exits, took_mark}
-use Rattle.ae_reading.proofs.Parts.{further_second}
+use Rattle.ae_parser.proofs.from_reading.ReadsLemmas.{exits, took_mark}
+use Rattle.ae_parser.proofs.from_reading.Parts.{further_second}
 use Rattle.ae_parser.specs.Productions.{AtMostParams}
 use Rattle.ae_parser.proofs.ParamLemmas.{Closing, params_start, comma_there, params_more, params_failed, params_full, params_end, param_smaller}
 use Rattle.ae_parser.proofs.params.further_params.Goals as goal

@@ -1,8 +1,8 @@
-use Rattle.ae_reading.proofs.ReadsLemmas.{exits, first, second, both, free, took_mark, failed_mark, has_mark}
+use Rattle.ae_parser.proofs.from_reading.ReadsLemmas.{exits, first, second, both, free, took_mark, failed_mark, has_mark}
 use Rattle.ae_reading.specs.Reads.{itself, Free, Always}
 use Rattle.ae_text.specs.declared.token.Keyword.TheVariants as word
 use Rattle.ae_tree.specs.declared.lexeme.Lexical.TheVariants as tok
-use Rattle.ae_reading.proofs.ReadsLemmas.{has_mark}
+use Rattle.ae_parser.proofs.from_reading.ReadsLemmas.{has_mark}
 use Rattle.ae_parser.specs.Productions.{away_mark}
 use Rattle.ae_parser.proofs.ParamLemmas.{given_took, given_failed}
 use Rattle.ae_parser.proofs.params.given_away.Goals as goal

@@ -2,8 +2,8 @@ use Rattle.std.proofs.Common.{List, sym, subst}
 use Rattle.ae_tree.specs.declared.tree.Param.{Param}
 use Rattle.ae_tree.specs.Grammar.{param, separated, comma_list}
 use Rattle.ae_reading.specs.Reads.{itself, Took}
-use Rattle.ae_reading.proofs.ReadsLemmas.{passes}
-use Rattle.ae_reading.proofs.Parts.{took_none, took_some, failed_some}
+use Rattle.ae_parser.proofs.from_reading.ReadsLemmas.{passes}
+use Rattle.ae_parser.proofs.from_reading.Parts.{took_none, took_some, failed_some}
 use Rattle.ae_parser.specs.Productions.{AtMostParams}
 use Rattle.ae_parser.proofs.ParamLemmas.{Closing, no_params, at_most_16}
 use Rattle.ae_parser.proofs.params.listed_params.Goals as goal

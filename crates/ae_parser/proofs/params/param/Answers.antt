@@ -1,4 +1,4 @@
-use Rattle.ae_reading.proofs.ReadsLemmas.{exits, first, second, both, free}
+use Rattle.ae_parser.proofs.from_reading.ReadsLemmas.{exits, first, second, both, free}
 use Rattle.ae_tree.specs.Grammar.{param, away}
 use Rattle.ae_reading.specs.Reads.{itself, Free}
 use Rattle.ae_parser.proofs.ParamLemmas.{NoAway, named_ends, has_named, has_away, param_took, param_failed}

@@ -1,6 +1,6 @@
 use Rattle.ae_reading.specs.Reads.{itself}
-use Rattle.ae_reading.proofs.ReadsLemmas.{exits, first, second, both}
-use Rattle.ae_reading.proofs.Parts.{commas_link}
+use Rattle.ae_parser.proofs.from_reading.ReadsLemmas.{exits, first, second, both}
+use Rattle.ae_parser.proofs.from_reading.Parts.{commas_link}
 use Rattle.ae_tree.specs.Grammar.{param}
 use Rattle.ae_parser.specs.Productions.{given_to_method, FewGiven}
 use Rattle.ae_parser.proofs.ParamLemmas.{Closing, params_commas, has_furthers, led_took, led_failed, unled_took, unled_failed}

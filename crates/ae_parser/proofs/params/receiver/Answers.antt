@@ -1,4 +1,4 @@
-use Rattle.ae_reading.proofs.ReadsLemmas.{exits, first, second, both, free}
+use Rattle.ae_parser.proofs.from_reading.ReadsLemmas.{exits, first, second, both, free}
 use Rattle.ae_tree.specs.Grammar.{me}
 use Rattle.ae_reading.specs.Reads.{itself, Free}
 use Rattle.ae_parser.proofs.ParamLemmas.{NoAway, has_this, has_away, me_took, me_failed}

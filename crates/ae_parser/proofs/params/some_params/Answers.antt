@@ -2,8 +2,8 @@ use Rattle.std.proofs.Common.{List, sym, subst}
 use Rattle.ae_tree.specs.declared.tree.Param.{Param}
 use Rattle.ae_tree.specs.Grammar.{param, separated}
 use Rattle.ae_reading.specs.Reads.{itself, Took}
-use Rattle.ae_reading.proofs.ReadsLemmas.{exits}
-use Rattle.ae_reading.proofs.Parts.{took_separated, separated_first, separated_more}
+use Rattle.ae_parser.proofs.from_reading.ReadsLemmas.{exits}
+use Rattle.ae_parser.proofs.from_reading.Parts.{took_separated, separated_first, separated_more}
 use Rattle.ae_parser.specs.Productions.{AtMostParams}
 use Rattle.ae_parser.proofs.ParamLemmas.{Closing, params_parted, params_commas, at_most_none}
 use Rattle.ae_parser.proofs.params.some_params.Goals as goal

@@ -6,10 +6,11 @@ use Rattle.ae_meaning.specs.Running.{held}
 use Rattle.ae_run.specs.declared.course.First.{First}
 use Rattle.ae_run.specs.Queue.{zero_as_one, waits_of, AreWaits, AreReady}
 use Rattle.ae_run.specs.Course.{IsRight, Settles, went, was_taken}
-use Rattle.ae_run.proofs.Courses.{fresh, count-lines}
+use Rattle.ae_run.proofs.Courses.{fresh}
 use Rattle.ae_run.proofs.Queues.{taken_now, ready_now, ready_rest, waits_kept, room, waits_after, ready_after, fresh_waits, fresh_ready, fewer_open, over}
 use Rattle.ae_run.proofs.schedule.run_block.Goals as goal
 use Rattle.ae_text.specs.Numbers.{times}
+use Rattle.ae_run.proofs.from_graph.Rows.{count_lines}
 
 pub settle-requires-clause-within : goal.settle-requires-clause-within
 settle-requires-clause-within g c κs met =
@@ -18,7 +19,7 @@ settle-requires-clause-within g c κs met =
     let l : c.in-Some.j < length c.loop-j.queue.waits.items = t.within in
     let e : length c.loop-j.queue.waits.items ≡ length c.args.graph.now = c.loop-j.invariant.waits.size in
     let f : length c.args.graph.now ≡ statement_count b = c.requires.graph.0 in
-    let g : statement_count b ≡ length c.args.stmts.now = count-lines c.args.stmts.now in
+    let g : statement_count b ≡ length c.args.stmts.now = count_lines c.args.stmts.now in
     omega arith
 
 pub settle-requires-clause-counted : goal.settle-requires-clause-counted

@@ -7,7 +7,7 @@ use Rattle.ae_tree.specs.Shown as shown
 use Rattle.ae_tree.specs.Shown.{action-While, action-Split, action-Atomic, action-If, action-If_else, lines-roll, no-roll}
 use Rattle.ae_tree.specs.Grammar.{statements, blocks_opened, opened_in}
 use Rattle.ae_reading.specs.Reads.{Took, Failed, Always}
-use Rattle.ae_reading.proofs.ReadsLemmas.{exits, passes, token_smaller, took_shorter}
+use Rattle.ae_statements.proofs.from_reading.ReadsLemmas.{exits, passes, token_smaller, took_shorter}
 use Rattle.ae_statements.specs.Productions.{stmt, KeepsStmt, NoElse, Closes, numbered_block, otherwise, KeepsBraced, shown_block, shown_stmt, shown_numbered, shown_stmts}
 use Rattle.ae_statements.proofs.ShapeLemmas.{pre_first, pre_second, took_pre}
 use Rattle.ae_statements.proofs.BlockLemmas.{KeepsLines, braced_took, braced_first, braced_inner, braced_last, has_braced, looped, loops, divided, splits, locked, locks, one_took, one_first, one_second, one_third, behind, other_absent, two_took, two_first, two_second, choice_took, choice_first, choice_second, choice_third, next_number, both_numbers, other_took_at, other_failed_at}

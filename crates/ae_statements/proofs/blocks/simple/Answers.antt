@@ -1,4 +1,4 @@
-use Rattle.ae_reading.proofs.ReadsLemmas.{refuses}
+use Rattle.ae_statements.proofs.from_reading.ReadsLemmas.{refuses}
 use Rattle.ae_statements.specs.Productions.{stmt, KeepsStmt, NoElse, shown_stmt}
 use Rattle.ae_statements.proofs.LinesLemmas.{no_words, stmt_refused}
 use Rattle.ae_statements.proofs.blocks.simple.Goals as goal

@@ -4,7 +4,7 @@ use Rattle.ae_tree.specs.Shown as shown
 use Rattle.ae_tree.specs.Shown.{lines-roll, no-roll}
 use Rattle.ae_tree.specs.Grammar as grammar
 use Rattle.ae_reading.specs.Reads.{Always, Took}
-use Rattle.ae_reading.proofs.ReadsLemmas.{exits}
+use Rattle.ae_statements.proofs.from_reading.ReadsLemmas.{exits}
 use Rattle.ae_statements.proofs.BlockLemmas.{KeepsLines}
 use Rattle.ae_statements.proofs.BodyLemmas.{body_took, body_first, body_inner, body_last}
 use Rattle.ae_statements.proofs.bodies.body.Goals as goal

@@ -7,7 +7,7 @@ use Rattle.ae_tree.specs.Shown as shown
 use Rattle.ae_tree.specs.Shown.{action-Return}
 use Rattle.ae_tree.specs.Limits.{statement_count}
 use Rattle.ae_reading.specs.Reads.{Is, Took}
-use Rattle.ae_reading.proofs.ReadsLemmas.{exits}
+use Rattle.ae_statements.proofs.from_reading.ReadsLemmas.{exits}
 use Rattle.ae_statements.specs.Productions.{body_statements}
 use Rattle.ae_statements.proofs.BlockLemmas.{KeepsLines}
 use Rattle.ae_statements.proofs.BodyLemmas.{lines_first, lines_alone, lines_last, lines_second, lines_full, count_lines, lines_snoc}

@@ -1,5 +1,5 @@
 use Rattle.ae_reading.specs.Reads.{Always}
-use Rattle.ae_reading.proofs.ReadsLemmas.{exits}
+use Rattle.ae_statements.proofs.from_reading.ReadsLemmas.{exits}
 use Rattle.ae_statements.specs.Productions.{returned, KeepsReturned, shown_returned}
 use Rattle.ae_statements.proofs.BodyLemmas.{returned_took, returned_first, returned_second}
 use Rattle.ae_statements.proofs.bodies.result_of.Goals as goal

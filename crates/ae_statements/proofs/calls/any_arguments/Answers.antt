@@ -6,8 +6,8 @@ use Rattle.ae_tree.specs.Shown as shown
 use Rattle.ae_tree.specs.Grammar.{whole_expression, separated, comma_list}
 use Rattle.ae_tree.specs.Limits.{AllKeepDepth}
 use Rattle.ae_reading.specs.Reads.{Took}
-use Rattle.ae_reading.proofs.ReadsLemmas.{passes}
-use Rattle.ae_reading.proofs.Parts.{took_none, took_some, failed_some}
+use Rattle.ae_statements.proofs.from_reading.ReadsLemmas.{passes}
+use Rattle.ae_statements.proofs.from_reading.Parts.{took_none, took_some, failed_some}
 use Rattle.ae_statements.proofs.CallLemmas.{none_within, Closed, no_whole}
 use Rattle.ae_statements.proofs.calls.any_arguments.Goals as goal
 

@@ -3,7 +3,7 @@ use Rattle.ae_tree.specs.Shown as shown
 use Rattle.ae_tree.specs.Grammar.{whole_expression, comma_list, arguments}
 use Rattle.ae_tree.specs.Limits.{AllKeepDepth}
 use Rattle.ae_reading.specs.Reads.{Always}
-use Rattle.ae_reading.proofs.ReadsLemmas.{exits}
+use Rattle.ae_statements.proofs.from_reading.ReadsLemmas.{exits}
 use Rattle.ae_statements.proofs.ShapeLemmas.{pre_first, pre_second, took_pre, suf_first, suf_second, took_suf}
 use Rattle.ae_statements.proofs.CallLemmas.{closes, has_closed}
 use Rattle.ae_statements.proofs.calls.arguments.Goals as goal

@@ -1,6 +1,6 @@
 use Rattle.ae_tree.specs.Grammar.{arguments}
 use Rattle.ae_reading.specs.Reads.{Always}
-use Rattle.ae_reading.proofs.ReadsLemmas.{exits, first, second, both}
+use Rattle.ae_statements.proofs.from_reading.ReadsLemmas.{exits, first, second, both}
 use Rattle.ae_statements.specs.Productions.{call_rest, KeepsCalled, shown_called}
 use Rattle.ae_statements.proofs.ShapeLemmas.{suf_first, suf_second, took_suf, always}
 use Rattle.ae_statements.proofs.CallLemmas.{has_ended_arguments, no_less, called_took, called_failed}

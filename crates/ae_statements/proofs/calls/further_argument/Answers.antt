@@ -1,7 +1,7 @@
 use Rattle.ae_tree.specs.Shown as shown
 use Rattle.ae_tree.specs.Grammar.{whole_expression, further}
 use Rattle.ae_tree.specs.Limits.{KeepsDepth}
-use Rattle.ae_reading.proofs.ReadsLemmas.{exits, passes}
+use Rattle.ae_statements.proofs.from_reading.ReadsLemmas.{exits, passes}
 use Rattle.ae_expressions.specs.Ends.{Ends}
 use Rattle.ae_statements.proofs.ShapeLemmas.{pre_first, pre_second, took_pre, has_whole}
 use Rattle.ae_statements.proofs.calls.further_argument.Goals as goal

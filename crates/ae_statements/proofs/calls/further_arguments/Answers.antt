@@ -2,8 +2,8 @@ use Rattle.std.proofs.Common.{map}
 use Rattle.ae_tree.specs.Shown as shown
 use Rattle.ae_tree.specs.Grammar.{whole_expression, further, one_by_one}
 use Rattle.ae_tree.specs.Limits.{AllKeepDepth, KeepsDepth}
-use Rattle.ae_reading.proofs.ReadsLemmas.{exits, mark_smaller}
-use Rattle.ae_reading.proofs.Parts.{Comma}
+use Rattle.ae_statements.proofs.from_reading.ReadsLemmas.{exits, mark_smaller}
+use Rattle.ae_statements.proofs.from_reading.Parts.{Comma}
 use Rattle.ae_expressions.specs.Ends.{Ends}
 use Rattle.ae_statements.proofs.CallLemmas.{Closed, arguments_start, arguments_more, arguments_failed, arguments_end}
 use Rattle.ae_statements.proofs.calls.further_arguments.Goals as goal

@@ -4,8 +4,8 @@ use Rattle.ae_tree.specs.Shown as shown
 use Rattle.ae_tree.specs.Grammar.{whole_expression, separated}
 use Rattle.ae_tree.specs.Limits.{AllKeepDepth}
 use Rattle.ae_reading.specs.Reads.{Took}
-use Rattle.ae_reading.proofs.ReadsLemmas.{exits}
-use Rattle.ae_reading.proofs.Parts.{took_separated, separated_first, separated_more}
+use Rattle.ae_statements.proofs.from_reading.ReadsLemmas.{exits}
+use Rattle.ae_statements.proofs.from_reading.Parts.{took_separated, separated_first, separated_more}
 use Rattle.ae_statements.proofs.CallLemmas.{none_within, Closed, commas, parted}
 use Rattle.ae_statements.proofs.calls.some_arguments.Goals as goal
 

@@ -1,4 +1,4 @@
-use Rattle.ae_reading.proofs.ReadsLemmas.{exits}
+use Rattle.ae_statements.proofs.from_reading.ReadsLemmas.{exits}
 use Rattle.ae_expressions.specs.Ends.{Ends}
 use Rattle.ae_statements.specs.Blocks.{KeepsCondition, condition, shown_condition}
 use Rattle.ae_statements.proofs.DeepLemmas.{condition_took, condition_first, condition_second}

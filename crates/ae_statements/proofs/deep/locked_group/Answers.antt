@@ -1,5 +1,5 @@
 use Rattle.ae_reading.specs.Reads.{itself, Free, Always}
-use Rattle.ae_reading.proofs.ReadsLemmas.{exits}
+use Rattle.ae_statements.proofs.from_reading.ReadsLemmas.{exits}
 use Rattle.ae_statements.specs.Blocks.{locked_group}
 use Rattle.ae_statements.proofs.DeepLemmas.{lock_took, lock_first, lock_second}
 use Rattle.ae_statements.proofs.deep.locked_group.Goals as goal

@@ -1,7 +1,7 @@
 use Rattle.ae_text.specs.declared.token.Sign.TheVariants as sign
 use Rattle.ae_tree.specs.declared.lexeme.Lexical.TheVariants as tok
 use Rattle.ae_reading.specs.Reads.{itself, Free, Isnt}
-use Rattle.ae_reading.proofs.ReadsLemmas.{exits}
+use Rattle.ae_statements.proofs.from_reading.ReadsLemmas.{exits}
 use Rattle.ae_statements.specs.Blocks.{split_groups}
 use Rattle.ae_statements.proofs.DeepLemmas.{split_took, split_first, split_second}
 use Rattle.ae_statements.proofs.deep.split_groups.Goals as goal

@@ -1,5 +1,5 @@
 use Rattle.ae_reading.specs.Reads.{Always}
-use Rattle.ae_reading.proofs.ReadsLemmas.{exits, took_as, failed_as}
+use Rattle.ae_statements.proofs.from_reading.ReadsLemmas.{exits, took_as, failed_as}
 use Rattle.ae_statements.specs.Productions.{indexed, tail, KeepsTail, shown_tail}
 use Rattle.ae_statements.proofs.LedLemmas.{at_place, index_along}
 use Rattle.ae_statements.proofs.led.index_tail.Goals as goal

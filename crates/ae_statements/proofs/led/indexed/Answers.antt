@@ -1,6 +1,6 @@
 use Rattle.ae_tree.specs.Grammar.{whole_expression}
 use Rattle.ae_reading.specs.Reads.{Always}
-use Rattle.ae_reading.proofs.ReadsLemmas.{exits, first, second, both}
+use Rattle.ae_statements.proofs.from_reading.ReadsLemmas.{exits, first, second, both}
 use Rattle.ae_statements.specs.Productions.{with_semicolon}
 use Rattle.ae_statements.proofs.ShapeLemmas.{pre_first, pre_second, took_pre, has_whole}
 use Rattle.ae_statements.specs.Productions.{stored_value, indexed, KeepsIndexed, shown_indexed}

@@ -1,7 +1,7 @@
 use Rattle.std.proofs.Common.{sym, subst}
 use Rattle.ae_tree.specs.Plain.{Action}
 use Rattle.ae_reading.specs.Reads.{Took}
-use Rattle.ae_reading.proofs.ReadsLemmas.{exits}
+use Rattle.ae_statements.proofs.from_reading.ReadsLemmas.{exits}
 use Rattle.ae_statements.specs.Productions.{stmt, KeepsStmt, NoElse, shown_stmt}
 use Rattle.ae_statements.proofs.SimpleLemmas.{simple_took, simple_failed}
 use Rattle.ae_statements.proofs.PathLemmas.{named_of}

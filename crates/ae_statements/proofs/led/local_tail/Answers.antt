@@ -1,5 +1,5 @@
 use Rattle.ae_reading.specs.Reads.{Always}
-use Rattle.ae_reading.proofs.ReadsLemmas.{exits, took_as, failed_as}
+use Rattle.ae_statements.proofs.from_reading.ReadsLemmas.{exits, took_as, failed_as}
 use Rattle.ae_statements.specs.Productions.{local_value}
 use Rattle.ae_statements.specs.declared.led.Front.TheVariants as front
 use Rattle.ae_statements.specs.Productions.{Assigned, tail, KeepsTail, shown_tail}

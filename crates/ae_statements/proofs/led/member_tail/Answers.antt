@@ -1,5 +1,5 @@
 use Rattle.ae_reading.specs.Reads.{Always}
-use Rattle.ae_reading.proofs.ReadsLemmas.{exits, took_as, failed_as}
+use Rattle.ae_statements.proofs.from_reading.ReadsLemmas.{exits, took_as, failed_as}
 use Rattle.ae_statements.specs.declared.led.Front.TheVariants as front
 use Rattle.ae_statements.specs.Productions.{stored_value, Stored, tail, KeepsTail, shown_tail}
 use Rattle.ae_statements.proofs.LedLemmas.{member_along}

@@ -2,7 +2,7 @@ use Rattle.ae_tree.specs.Shown as shown
 use Rattle.ae_tree.specs.Grammar.{whole_expression}
 use Rattle.ae_tree.specs.Limits.{KeepsDepth}
 use Rattle.ae_reading.specs.Reads.{Always}
-use Rattle.ae_reading.proofs.ReadsLemmas.{exits, passes}
+use Rattle.ae_statements.proofs.from_reading.ReadsLemmas.{exits, passes}
 use Rattle.ae_statements.specs.Productions.{with_semicolon}
 use Rattle.ae_statements.proofs.ShapeLemmas.{pre_first, pre_second, took_pre, has_whole}
 use Rattle.ae_tree.specs.Shown.{action-Assign, action-Field, action-Index, action-Call}

@@ -1,7 +1,7 @@
 use Rattle.std.proofs.Common.{sym, subst}
 use Rattle.ae_tree.specs.Plain.{Action}
 use Rattle.ae_reading.specs.Reads.{Always, Took}
-use Rattle.ae_reading.proofs.ReadsLemmas.{exits, first, second, both, free}
+use Rattle.ae_statements.proofs.from_reading.ReadsLemmas.{exits, first, second, both, free}
 use Rattle.ae_statements.specs.Productions.{stmt, KeepsStmt, NoElse, shown_stmt}
 use Rattle.ae_tree.specs.Shown.{action-Let}
 use Rattle.ae_statements.proofs.SimpleLemmas.{simple_took, simple_failed, has_value, has_bound, has_typed, name_follows, declared, declaration_along}

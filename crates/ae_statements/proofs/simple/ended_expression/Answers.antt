@@ -4,7 +4,7 @@ use Rattle.ae_tree.specs.Grammar.{whole_expression}
 use Rattle.ae_tree.specs.Limits.{KeepsDepth}
 use Rattle.ae_tree.specs.Shown as shown
 use Rattle.ae_reading.specs.Reads.{Always}
-use Rattle.ae_reading.proofs.ReadsLemmas.{exits}
+use Rattle.ae_statements.proofs.from_reading.ReadsLemmas.{exits}
 use Rattle.ae_statements.specs.Productions.{with_semicolon}
 use Rattle.ae_statements.proofs.ShapeLemmas.{suf_first, suf_second, took_suf, sign_ends}
 use Rattle.ae_statements.proofs.simple.ended_expression.Goals as goal

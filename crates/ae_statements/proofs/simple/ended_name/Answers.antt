@@ -1,6 +1,6 @@
 use Rattle.ae_tree.specs.Grammar.{name}
 use Rattle.ae_reading.specs.Reads.{itself, Always, Free}
-use Rattle.ae_reading.proofs.ReadsLemmas.{exits}
+use Rattle.ae_statements.proofs.from_reading.ReadsLemmas.{exits}
 use Rattle.ae_statements.specs.Productions.{with_semicolon}
 use Rattle.ae_statements.proofs.ShapeLemmas.{suf_first, suf_second, took_suf, always}
 use Rattle.ae_statements.proofs.simple.ended_name.Goals as goal

@@ -2,7 +2,7 @@ use Rattle.std.proofs.Common.{sym, subst}
 use Rattle.ae_tree.specs.Plain.{Action}
 use Rattle.ae_tree.specs.Grammar.{name}
 use Rattle.ae_reading.specs.Reads.{Always, Took}
-use Rattle.ae_reading.proofs.ReadsLemmas.{exits, first, second, both, free, has_name}
+use Rattle.ae_statements.proofs.from_reading.ReadsLemmas.{exits, first, second, both, free, has_name}
 use Rattle.ae_statements.specs.Productions.{stmt, KeepsStmt, NoElse, shown_stmt}
 use Rattle.ae_tree.specs.Shown.{action-Group}
 use Rattle.ae_statements.proofs.SimpleLemmas.{simple_took, simple_failed, has_ended, grouped, group_along}

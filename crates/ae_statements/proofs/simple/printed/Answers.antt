@@ -3,7 +3,7 @@ use Rattle.ae_tree.specs.Plain.{Action}
 use Rattle.ae_tree.specs.Shown as shown
 use Rattle.ae_tree.specs.Grammar.{whole_expression}
 use Rattle.ae_reading.specs.Reads.{Always, Took}
-use Rattle.ae_reading.proofs.ReadsLemmas.{exits, took_as, failed_as}
+use Rattle.ae_statements.proofs.from_reading.ReadsLemmas.{exits, took_as, failed_as}
 use Rattle.ae_statements.specs.Productions.{with_semicolon, print_operand, KeepsPrinted}
 use Rattle.ae_tree.specs.Shown.{action-Let, action-Group, action-Freeze, action-Share, action-Assert, action-PrintExpr, action-PrintText}
 use Rattle.ae_tree.specs.Plain.{Prints}

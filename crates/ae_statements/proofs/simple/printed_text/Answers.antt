@@ -2,7 +2,7 @@ use Rattle.std.proofs.Common.{sym, subst}
 use Rattle.ae_tree.specs.Plain.{Action}
 use Rattle.ae_tree.specs.Shown as shown
 use Rattle.ae_reading.specs.Reads.{Always, Took}
-use Rattle.ae_reading.proofs.ReadsLemmas.{exits, took_as, failed_as}
+use Rattle.ae_statements.proofs.from_reading.ReadsLemmas.{exits, took_as, failed_as}
 use Rattle.ae_statements.specs.Productions.{with_semicolon, text, print_operand, KeepsPrinted}
 use Rattle.ae_statements.proofs.ShapeLemmas.{suf_first, suf_second, took_suf, always}
 use Rattle.ae_tree.specs.Shown.{action-Let, action-Group, action-Freeze, action-Share, action-Assert, action-PrintExpr, action-PrintText}

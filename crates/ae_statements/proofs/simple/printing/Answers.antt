@@ -1,5 +1,5 @@
 use Rattle.ae_reading.specs.Reads.{Always}
-use Rattle.ae_reading.proofs.ReadsLemmas.{exits, first, second, both, free}
+use Rattle.ae_statements.proofs.from_reading.ReadsLemmas.{exits, first, second, both, free}
 use Rattle.ae_statements.specs.Productions.{stmt, KeepsStmt, NoElse, shown_stmt}
 use Rattle.ae_statements.proofs.SimpleLemmas.{simple_took, simple_failed, has_printed, print_tree, printing_along}
 use Rattle.ae_statements.proofs.simple.printing.Goals as goal

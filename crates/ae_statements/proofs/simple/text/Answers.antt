@@ -1,7 +1,7 @@
 use Rattle.std.proofs.Common.{sym, subst, ◌∙◌, List, ℕ}
 use Rattle.ae_reading.specs.Reads.{itself, Always, Free, Took}
 use Rattle.ae_statements.specs.Productions.{text}
-use Rattle.ae_reading.proofs.ReadsLemmas.{refuses}
+use Rattle.ae_statements.proofs.from_reading.ReadsLemmas.{refuses}
 use Rattle.ae_statements.proofs.SimpleLemmas.{text_took, text_end, text_other}
 use Rattle.ae_statements.proofs.simple.text.Goals as goal
 

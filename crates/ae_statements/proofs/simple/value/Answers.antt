@@ -2,7 +2,7 @@ use Rattle.ae_tree.specs.Shown as shown
 use Rattle.ae_tree.specs.Grammar.{right_of_equals}
 use Rattle.ae_tree.specs.Limits.{KeepsRight}
 use Rattle.ae_reading.specs.Reads.{Always}
-use Rattle.ae_reading.proofs.ReadsLemmas.{exits, passes}
+use Rattle.ae_statements.proofs.from_reading.ReadsLemmas.{exits, passes}
 use Rattle.ae_statements.specs.Productions.{with_semicolon, local_value}
 use Rattle.ae_statements.proofs.ShapeLemmas.{pre_first, pre_second, took_pre}
 use Rattle.ae_tree.specs.Shown.{action-Let, action-Group, action-Freeze, action-Share, action-Assert, action-PrintExpr, action-PrintText}

@@ -2,7 +2,7 @@ use Rattle.ae_tree.specs.Shown as shown
 use Rattle.ae_tree.specs.Grammar.{right_of_equals}
 use Rattle.ae_tree.specs.Limits.{KeepsRight}
 use Rattle.ae_reading.specs.Reads.{Always}
-use Rattle.ae_reading.proofs.ReadsLemmas.{exits}
+use Rattle.ae_statements.proofs.from_reading.ReadsLemmas.{exits}
 use Rattle.ae_statements.specs.Productions.{with_semicolon}
 use Rattle.ae_statements.proofs.ReturnedLemmas.{path_failed, call_took_at, call_failed_at}
 use Rattle.ae_statements.proofs.values.call.Goals as goal

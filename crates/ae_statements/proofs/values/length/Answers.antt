@@ -5,7 +5,7 @@ use Rattle.ae_tree.specs.Shown as shown
 use Rattle.ae_tree.specs.Grammar.{whole_expression}
 use Rattle.ae_tree.specs.Limits.{KeepsDepth}
 use Rattle.ae_reading.specs.Reads.{Always}
-use Rattle.ae_reading.proofs.ReadsLemmas.{exits}
+use Rattle.ae_statements.proofs.from_reading.ReadsLemmas.{exits}
 use Rattle.ae_statements.specs.Productions.{with_semicolon, sized}
 use Rattle.ae_statements.proofs.ShapeLemmas.{Suf, pre_first, pre_second, took_pre, suf_first, suf_second, took_suf, sign_ends, always}
 use Rattle.ae_statements.proofs.MadeLemmas.{parted, has_parted, has_closed}

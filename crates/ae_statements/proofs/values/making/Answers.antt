@@ -2,7 +2,7 @@ use Rattle.ae_tree.specs.Shown as shown
 use Rattle.ae_tree.specs.Grammar.{right_of_equals}
 use Rattle.ae_tree.specs.Limits.{KeepsRight}
 use Rattle.ae_reading.specs.Reads.{Always}
-use Rattle.ae_reading.proofs.ReadsLemmas.{exits, passes}
+use Rattle.ae_statements.proofs.from_reading.ReadsLemmas.{exits, passes}
 use Rattle.ae_statements.specs.Productions.{with_semicolon, made_side}
 use Rattle.ae_statements.proofs.MadeLemmas.{new_first, new_second, new_took}
 use Rattle.ae_statements.proofs.values.making.Goals as goal

@@ -2,7 +2,7 @@ use Rattle.std.proofs.Common.{refl}
 use Rattle.ae_text.specs.declared.token.Sign.TheVariants as sign
 use Rattle.ae_tree.specs.declared.lexeme.Lexical.TheVariants as tok
 use Rattle.ae_reading.specs.Reads.{itself, Free, Isnt}
-use Rattle.ae_reading.proofs.ReadsLemmas.{exits}
+use Rattle.ae_statements.proofs.from_reading.ReadsLemmas.{exits}
 use Rattle.ae_statements.specs.Productions.{member}
 use Rattle.ae_statements.proofs.MadeLemmas.{member_took, member_refused, member_failed}
 use Rattle.ae_statements.proofs.values.member.Goals as goal

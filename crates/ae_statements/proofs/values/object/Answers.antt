@@ -2,7 +2,7 @@ use Rattle.ae_tree.specs.Shown as shown
 use Rattle.ae_tree.specs.Grammar.{name}
 use Rattle.ae_tree.specs.Limits.{KeepsRight}
 use Rattle.ae_reading.specs.Reads.{Always}
-use Rattle.ae_reading.proofs.ReadsLemmas.{Both, exits, first, second, both, free, took_as, failed_as}
+use Rattle.ae_statements.proofs.from_reading.ReadsLemmas.{Both, exits, first, second, both, free, took_as, failed_as}
 use Rattle.ae_statements.specs.Productions.{call_rest, made_side}
 use Rattle.ae_statements.proofs.MadeLemmas.{object_of, object_along, has_called}
 use Rattle.ae_statements.proofs.values.object.Goals as goal

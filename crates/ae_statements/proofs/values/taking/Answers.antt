@@ -2,7 +2,7 @@ use Rattle.ae_tree.specs.Shown as shown
 use Rattle.ae_tree.specs.Grammar.{right_of_equals}
 use Rattle.ae_tree.specs.Limits.{KeepsRight}
 use Rattle.ae_reading.specs.Reads.{Always}
-use Rattle.ae_reading.proofs.ReadsLemmas.{exits, first, second, both, free, took_as, failed_as}
+use Rattle.ae_statements.proofs.from_reading.ReadsLemmas.{exits, first, second, both, free, took_as, failed_as}
 use Rattle.ae_statements.specs.Productions.{with_semicolon, member}
 use Rattle.ae_statements.proofs.ShapeLemmas.{suf_first, suf_second, took_suf}
 use Rattle.ae_statements.proofs.MadeLemmas.{taking, taken, take_along, ended_member, no_dot}

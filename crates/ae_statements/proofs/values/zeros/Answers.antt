@@ -2,7 +2,7 @@ use Rattle.ae_tree.specs.Shown as shown
 use Rattle.ae_tree.specs.Plain.{Zeros}
 use Rattle.ae_tree.specs.Limits.{KeepsRight}
 use Rattle.ae_reading.specs.Reads.{Always}
-use Rattle.ae_reading.proofs.ReadsLemmas.{exits, took_as, failed_as}
+use Rattle.ae_statements.proofs.from_reading.ReadsLemmas.{exits, took_as, failed_as}
 use Rattle.ae_statements.specs.Productions.{with_semicolon, sized, made_side}
 use Rattle.ae_statements.proofs.MadeLemmas.{zeros_along}
 use Rattle.ae_statements.proofs.values.zeros.Goals as goal
