@@ -1,5 +1,6 @@
 -- What the judgement says of the statements that run today.
-use Rattle.std.proofs.Common.{◌≡◌, ℕ, Bool, true, false, not, if◌then◌else◌, nat_eq, Option, None, Some, refl, ap, subst}
+use Rattle.std.proofs.Common.{◌≡◌, ℕ, Bool, true, false, not, if◌then◌else◌, nat_eq, Option, None, Some, refl, ap}
+use Rattle.std.proofs.Common.{subst}
 use Rattle.std.specs.Prelude.{option_map}
 use Rattle.ae_text.specs.declared.refusal.Spot.{Spot}
 use Rattle.ae_text.specs.declared.refusal.Rule.{Rule}
@@ -27,7 +28,8 @@ abbrev pub Integers : Context → Type 0
 Integers c = (x : ℕ) (l : Local) → c.local x ≡ Some l → l.form ≡ form_of.Int
 
 with_choice : (b : Bool) (o : Option Local) (l : Local) → (o ≡ Some l → l.form ≡ form_of.Int)
-    → (if b then Some (record { form = form_of.Int; held = held_of form_of.Int; stays = false }) else o) ≡ Some l → l.form ≡ form_of.Int
+    → (if b then Some (record { form = form_of.Int; held = held_of form_of.Int; stays = false }) else o) ≡ Some l
+    → l.form ≡ form_of.Int
 with_choice true o l h e = cc e
 with_choice false o l h e = h e
 
@@ -55,7 +57,8 @@ right_is p c d e h =
     held_same : {A : Type 0} (x y : A) → Holds x ≡ Holds y → x ≡ y
     held_same x y e = cc e
 
-pub let_is : (p : Code) (c d : Context) (at : Spot) (x : NameAt) (e : Expression) → judge_let p c (ty.Int at) x (Value e) ≡ Holds d → d ≡ with_local x.name form_of.Int c
+pub let_is : (p : Code) (c d : Context) (at : Spot) (x : NameAt) (e : Expression)
+    → judge_let p c (ty.Int at) x (Value e) ≡ Holds d → d ≡ with_local x.name form_of.Int c
 let_is p c d at x e h =
     let n = first_holds (require (not (is_visible c x.name)) rule.DuplicateLocal x.at) _ d h in
     let r = first_holds (judge_right p c form_of.Int (Value e)) (λ k. Holds (with_local x.name form_of.Int k)) d n.2 in
@@ -68,17 +71,20 @@ pub record Assigned (c : Context) (x : ℕ) (d : Context) : Type 0 where
   pub form : local.form ≡ form_of.Int
   pub after : d ≡ with_held x (held_of local.form) c
 
-pub assign_is : (p : Code) (c d : Context) → Integers c → (x : NameAt) (e : Expression) → judge_assign p c x (Value e) ≡ Holds d → Assigned c x.name d
+pub assign_is : (p : Code) (c d : Context) → Integers c → (x : NameAt) (e : Expression) → judge_assign p c x (Value e)
+    ≡ Holds d → Assigned c x.name d
 assign_is p c d i x e h =
     let l = first_holds (found (c.local x.name) rule.UnknownName x.at) _ d h in
     let f : c.local x.name ≡ Some l.0 = found_is (c.local x.name) rule.UnknownName x.at l.0 l.1 in
     let q = first_holds (require (not l.0.stays) rule.ParameterMoved x.at) _ d l.2 in
-    let r = first_holds (judge_right p c l.0.form (Value e)) (λ k. Holds (with_held x.name (held_of l.0.form) k)) d q.2 in
+    let r = first_holds (judge_right p c l.0.form (Value e)) (λ k. Holds (with_held x.name (held_of l.0.form) k)) d
+    q.2 in
     let int : l.0.form ≡ form_of.Int = i x.name l.0 f in
     let same : r.0 ≡ c = right_is p c r.0 e (subst (λ (t : Form). judge_right p c t (Value e) ≡ Holds r.0) int r.1) in
     record { local = l.0; found = f; form = int; after = cc (r.2, ap (with_held x.name (held_of l.0.form)) same) }
 
-pub print_is : (p : Code) (c d : Context) (at : Spot) (e : Expression) → (judge_value p c e >> prints c at) ≡ Holds d → d ≡ c
+pub print_is : (p : Code) (c d : Context) (at : Spot) (e : Expression) → (judge_value p c e >> prints c at) ≡ Holds d
+    → d ≡ c
 print_is p c d at e h =
     let v = first_holds (judge_value p c e) (λ _. prints c at) d h in
     let r = first_holds (group_access c.group io at) (λ _. Holds c) d v.2 in

@@ -1,5 +1,6 @@
 -- Operands, by their first token.
-use Rattle.std.proofs.Common.{◌≡◌, ℕ, ◌+◌, ◌≤◌, ◌<◌, ◌++◌, [], ◌∷◌, length, Option, Some, None, refl, sym, ap, ◌∙◌, append-nil, subst, arith, pos, true, false, inl, inr}
+use Rattle.std.proofs.Common.{◌≡◌, ℕ, ◌+◌, ◌≤◌, ◌<◌, ◌++◌, [], ◌∷◌, length, Option, Some, None, refl, sym, ap, ◌∙◌}
+use Rattle.std.proofs.Common.{append-nil, subst, arith, pos, true, false, inl, inr}
 use Rattle.ae_text.specs.declared.refusal.Spot.{Spot}
 use Rattle.ae_text.specs.declared.token.Keyword.{Keyword}
 use Rattle.ae_text.specs.declared.token.Keyword.TheVariants as word
@@ -18,8 +19,14 @@ use Rattle.ae_tree.specs.Refused.{AreSpellable}
 use Rattle.ae_reading.specs.declared.fail.Fail.{Fail}
 use Rattle.ae_reading.specs.declared.fail.Why.TheVariants.{Unexpected, Over}
 use Rattle.ae_reading.specs.Reads.{head, Always, Is, Isnt, Free, Took, Stopped, Failed, Larger, Token, TokenMark}
-use Rattle.ae_expressions.proofs.from_reading.ReadsLemmas.{took_before, failed_before, over_here, Lang, Bound, Follow, Both, Limits, Pair, Has, Links, Along, has_both, has_mark, took_as, failed_as, failed_by, stopped_as, stopped_here, stopped_second, stopped_first_with, first, second, both, took_then, nowhere, at_once, free, took_mark, failed_mark, io_name}
-use Rattle.ae_expressions.proofs.from_reading.Begins.{Opens, is_isnt, of_kind, of_other, begins_mark, begins_both, opens_one, opens_at, opens_mark, opens_so}
+use Rattle.ae_expressions.proofs.from_reading.ReadsLemmas.{took_before, failed_before, over_here, Lang, Bound}
+use Rattle.ae_expressions.proofs.from_reading.ReadsLemmas.{Follow, Both, Limits, Pair, Has, Links, Along, has_both}
+use Rattle.ae_expressions.proofs.from_reading.ReadsLemmas.{has_mark, took_as, failed_as, failed_by, stopped_as}
+use Rattle.ae_expressions.proofs.from_reading.ReadsLemmas.{stopped_here, stopped_second, stopped_first_with, first}
+use Rattle.ae_expressions.proofs.from_reading.ReadsLemmas.{second, both, took_then, nowhere, at_once, free}
+use Rattle.ae_expressions.proofs.from_reading.ReadsLemmas.{took_mark, failed_mark, io_name}
+use Rattle.ae_expressions.proofs.from_reading.Begins.{Opens, is_isnt, of_kind, of_other, begins_mark, begins_both}
+use Rattle.ae_expressions.proofs.from_reading.Begins.{opens_one, opens_at, opens_mark, opens_so}
 use Rattle.ae_expressions.proofs.from_reading.Parts.{optional, left_out, took_optional, stopped_optional}
 use Rattle.ae_expressions.proofs.from_reading.UniquePaths.{IsRoot, begins_path}
 use Rattle.ae_expressions.specs.Ends.{Ends}
@@ -27,7 +34,8 @@ use Rattle.ae_expressions.specs.declared.starts.Mark.{Mark as Marked}
 use Rattle.ae_expressions.specs.declared.starts.Mark.TheVariants as mark
 use Rattle.ae_expressions.specs.declared.starts.Start.{Start}
 use Rattle.ae_expressions.specs.declared.starts.Start.TheVariants as start
-use Rattle.ae_expressions.specs.Productions.{AtMostMarks, AtMostInside, IsShortPath, IsClosing, Next, at_level, operand_start, mark_kind, literal, operand, enclosed, start_of}
+use Rattle.ae_expressions.specs.Productions.{AtMostMarks, AtMostInside, IsShortPath, IsClosing, Next, at_level}
+use Rattle.ae_expressions.specs.Productions.{operand_start, mark_kind, literal, operand, enclosed, start_of}
 use Rattle.ae_expressions.proofs.OperatorLemmas.{low_level, ends_closing}
 use Rattle.ae_expressions.proofs.OptionLemmas.{begun, full, none_before}
 use Rattle.ae_expressions.proofs.ChainLemmas.{has_at_level, zero_expression}
@@ -58,7 +66,8 @@ starts (Truth true at) us r d = starts_as start.Literal us r refl (opens_one us 
 starts (Truth false at) us r d = starts_as start.Literal us r refl (opens_one us r d)
 starts (Nothing at) us r d = starts_as start.Literal us r refl (opens_one us r d)
 starts (Read p) us r d = path_first p us r d
-starts (Item p e) us r d = begins_both path (λ p e. a_sign sign.OpenBracket ⨾ at_level 0 e ⨾ a_sign sign.CloseBracket) (Starts start.Place) path_first (p, e) us r d
+starts (Item p e) us r d = begins_both path (λ p e. a_sign sign.OpenBracket ⨾ at_level 0 e ⨾ a_sign sign.CloseBracket)
+    (Starts start.Place) path_first (p, e) us r d
 starts (Length p at) us r d = starts_as (start.Counted mark.Len) us r refl (opens_at us r d)
 starts (Grouped a at) us r d = starts_as (start.Counted mark.Paren) us r refl (opens_at us r d)
 starts (Negated a at) us r d = starts_as (start.Counted mark.Not) us r refl (opens_at us r d)
@@ -66,17 +75,33 @@ starts (Minus a at) us r d = starts_as (start.Counted mark.Minus) us r refl (ope
 starts (Binary o a b) us r d = absurd (omega (arith, low_level o, d.0))
 
 -- the form of an operand that begins with this token
-form_is : (s : Start) (y : Expression) (us r ts rest : Tokens) (t : Lexeme) → start_of t.kind ≡ s → ts ≡ t ∷ rest → at_level 5 y us → head (us ++ r) ≡ head ts → operand_start y ≡ s
-form_is s y us r ts rest t is e d h = let P : Option Lexeme → Type 0 = Starts (operand_start y) in sym (subst P (h ∙ ap head e) (starts y us r d)) ∙ is
+form_is : (s : Start) (y : Expression) (us r ts rest : Tokens) (t : Lexeme) → start_of t.kind ≡ s → ts ≡ t ∷ rest
+    → at_level 5 y us → head (us ++ r) ≡ head ts → operand_start y ≡ s
+form_is s y us r ts rest t is e d h = let P : Option Lexeme
+    → Type 0 = Starts (operand_start y) in sym (subst P (h ∙ ap head e) (starts y us r d)) ∙ is
 
-operand_along : (s : Start) (W : Bound Expression) (ts rest : Tokens) (t : Lexeme) → start_of t.kind ≡ s → ts ≡ t ∷ rest → Along (at_level 5) (operand s) W W ts (λ y. y)
-operand_along s W ts rest t is e = record { intro = λ y us d. d.1; cases = λ y us r d h. (y, refl, (form_is s y us r ts rest t is e d h, d)); to = λ y us d l v. v; from = λ y us d l v. v }
+operand_along : (s : Start) (W : Bound Expression) (ts rest : Tokens) (t : Lexeme) → start_of t.kind ≡ s
+    → ts ≡ t ∷ rest → Along (at_level 5) (operand s) W W ts (λ y. y)
+operand_along s W ts rest t is e =
+    record {
+      intro = λ y us d. d.1;
+      cases = λ y us r d h. (y, refl, (form_is s y us r ts rest t is e d h, d));
+      to =
+          λ y us d l v. v;
+      from = λ y us d l v. v;
+    }
 
-pub operand_took : (s : Start) (n : ℕ) (ts rest after : Tokens) (t : Lexeme) (x : Expression) → start_of t.kind ≡ s → ts ≡ t ∷ rest → Took (operand s) (AtMostMarks n) (Ends 5) ts x after → Took (at_level 5) (AtMostMarks n) (Ends 5) ts x after
-operand_took s n ts rest after t x is e u = took_as (at_level 5) (operand s) (λ y. y) (operand_along s (AtMostMarks n) ts rest t is e) u
+pub operand_took : (s : Start) (n : ℕ) (ts rest after : Tokens) (t : Lexeme) (x : Expression) → start_of t.kind ≡ s
+    → ts ≡ t ∷ rest → Took (operand s) (AtMostMarks n) (Ends 5) ts x after
+    → Took (at_level 5) (AtMostMarks n) (Ends 5) ts x after
+operand_took s n ts rest after t x is e u = took_as (at_level 5) (operand s) (λ y. y)
+    (operand_along s (AtMostMarks n) ts rest t is e) u
 
-pub operand_failed : (s : Start) (n : ℕ) (ts rest : Tokens) (t : Lexeme) (e : Fail) → start_of t.kind ≡ s → ts ≡ t ∷ rest → Failed (operand s) (AtMostMarks n) (Ends 5) ts e → Failed (at_level 5) (AtMostMarks n) (Ends 5) ts e
-operand_failed s n ts rest t e is whole f = failed_as (at_level 5) (operand s) (λ y. y) (operand_along s (AtMostMarks n) ts rest t is whole) f
+pub operand_failed : (s : Start) (n : ℕ) (ts rest : Tokens) (t : Lexeme) (e : Fail) → start_of t.kind ≡ s
+    → ts ≡ t ∷ rest → Failed (operand s) (AtMostMarks n) (Ends 5) ts e
+    → Failed (at_level 5) (AtMostMarks n) (Ends 5) ts e
+operand_failed s n ts rest t e is whole f = failed_as (at_level 5) (operand s) (λ y. y)
+    (operand_along s (AtMostMarks n) ts rest t is whole) f
 
 -- no operand begins here
 not_other : (y : Expression) (us : Tokens) → at_level 5 y us → operand_start y ≡ start.Other → ⊥
@@ -91,11 +116,15 @@ not_other (Negated a at) us d e = let z : (start.Counted mark.Not) ≡ start.Oth
 not_other (Minus a at) us d e = let z : (start.Counted mark.Minus) ≡ start.Other = e in cc
 not_other (Binary o a b) us d e = omega (arith, low_level o, d.0)
 
-pub operand_other : (n : ℕ) (ts rest : Tokens) (t : Lexeme) → start_of t.kind ≡ start.Other → ts ≡ t ∷ rest → Stopped (at_level 5) (AtMostMarks n) (Ends 5) ts Unexpected (length ts)
-operand_other n ts rest t is e = stopped_here (has_at_level 5 n) (λ y us r d h. not_other y us d (form_is start.Other y us r ts rest t is e d h))
+pub operand_other : (n : ℕ) (ts rest : Tokens) (t : Lexeme) → start_of t.kind ≡ start.Other → ts ≡ t ∷ rest
+    → Stopped (at_level 5) (AtMostMarks n) (Ends 5) ts Unexpected (length ts)
+operand_other n ts rest t is e = stopped_here (has_at_level 5 n)
+    (λ y us r d h. not_other y us d (form_is start.Other y us r ts rest t is e d h))
 
-pub operand_end : (n : ℕ) (ts : Tokens) → ts ≡ [] → Stopped (at_level 5) (AtMostMarks n) (Ends 5) ts Unexpected (length ts)
-operand_end n ts e = stopped_here (has_at_level 5 n) (λ y us r d h. let P : Option Lexeme → Type 0 = Starts (operand_start y) in subst P (h ∙ ap head e) (starts y us r d))
+pub operand_end : (n : ℕ) (ts : Tokens) → ts ≡ [] → Stopped (at_level 5) (AtMostMarks n) (Ends 5) ts Unexpected
+    (length ts)
+operand_end n ts e = stopped_here (has_at_level 5 n) (λ y us r d h. let P : Option Lexeme
+    → Type 0 = Starts (operand_start y) in subst P (h ∙ ap head e) (starts y us r d))
 
 -- ---- literals
 
@@ -128,12 +157,14 @@ literal_one (Minus e at) us d = let z : (start.Counted mark.Minus) ≡ start.Lit
 literal_one (Binary o a b) us d = let z : start.Other ≡ start.Literal = d.0 in cc
 
 literal_known : (y : Expression) (t : Lexeme) → literal y (t ∷ []) → literal_at t ≡ Some y
-literal_known y t d = let o = literal_one y (t ∷ []) d in let same : t ≡ o.0 = (let e : t ∷ [] ≡ o.0 ∷ [] = o.1 in cc) in ap literal_at same ∙ o.2
+literal_known y t d = let o = literal_one y (t ∷ []) d in let same : t ≡ o.0 =
+    (let e : t ∷ [] ≡ o.0 ∷ [] = o.1 in cc) in ap literal_at same ∙ o.2
 
 literal_not_end : (y : Expression) (t : Lexeme) → literal_at t ≡ Some y → t.kind ≡ tok.End → ⊥
 literal_not_end y t d e = let no_way : None ≡ Some y = sym (ap (λ k. kind_literal k t.at) e) ∙ d in cc
 
-literal_only : (x y : Expression) (t : Lexeme) (us r other : Tokens) → literal x (t ∷ []) → literal y us → us ++ r ≡ t ∷ other → (y ≡ x) × (r ≡ other)
+literal_only : (x y : Expression) (t : Lexeme) (us r other : Tokens) → literal x (t ∷ []) → literal y us
+    → us ++ r ≡ t ∷ other → (y ≡ x) × (r ≡ other)
 literal_only x y t us r other dx dy e =
     let o = literal_one y us dy in
     let all : o.0 ∷ r ≡ t ∷ other = sym (ap (λ l. l ++ r) o.1) ∙ e in
@@ -141,7 +172,8 @@ literal_only x y t us r other dx dy e =
     let trees : Some y ≡ Some x = sym o.2 ∙ ap literal_at same ∙ literal_known x t dx in
     (cc, cc)
 
-pub took_literal : (ts rest : Tokens) (t : Lexeme) (x : Expression) → ts ≡ t ∷ rest → literal x (t ∷ []) → Took literal Free Always ts x rest
+pub took_literal : (ts rest : Tokens) (t : Lexeme) (x : Expression) → ts ≡ t ∷ rest → literal x (t ∷ [])
+    → Took literal Free Always ts x rest
 took_literal ts rest t x e d = record {
   taken = t ∷ [];
   whole = e;
@@ -152,14 +184,22 @@ took_literal ts rest t x e d = record {
 }
 
 has_literal : Has literal Free
-has_literal = record { tree = zero_expression; tokens = at_once (tok.Int (pos 0)); is = (refl, refl); known = (tt, tt); within = λ l. tt }
+has_literal = record {
+  tree = zero_expression;
+  tokens = at_once (tok.Int (pos 0));
+  is = (refl, refl);
+  known =
+      (tt, tt);
+  within = λ l. tt;
+}
 
 pub literal_end : (ts : Tokens) → ts ≡ [] → Stopped literal Free Always ts Unexpected (length ts)
 literal_end ts e = stopped_here has_literal (λ y us r d h.
     let o = literal_one y us d in
     let no_way : Some o.0 ≡ None = sym (ap (λ l. head (l ++ r)) o.1) ∙ h ∙ ap head e in cc)
 
-pub literal_other : (ts rest : Tokens) (t : Lexeme) → ts ≡ t ∷ rest → ((y : Expression) → literal y (t ∷ []) → ⊥) → Stopped literal Free Always ts Unexpected (length ts)
+pub literal_other : (ts rest : Tokens) (t : Lexeme) → ts ≡ t ∷ rest → ((y : Expression) → literal y (t ∷ []) → ⊥)
+    → Stopped literal Free Always ts Unexpected (length ts)
 literal_other ts rest t e none = stopped_here has_literal (λ y us r d h.
     let o = literal_one y us d in
     let heads : Some o.0 ≡ Some t = sym (ap (λ l. head (l ++ r)) o.1) ∙ h ∙ ap head e in
@@ -180,12 +220,20 @@ no_marks (Minus a at) e = let z : (start.Counted mark.Minus) ≡ start.Literal =
 no_marks (Binary o a b) e = let z : start.Other ≡ start.Literal = e in cc
 
 literal_along : (n : ℕ) (ts : Tokens) → Along literal literal (AtMostMarks n) Free ts (λ y. y)
-literal_along n ts = record { intro = λ y us d. d; cases = λ y us r d h. (y, refl, d); to = λ y us d l v e. omega (arith, no_marks y d.0); from = λ y us d l v. tt }
+literal_along n ts = record {
+  intro = λ y us d. d;
+  cases = λ y us r d h. (y, refl, d);
+  to =
+      λ y us d l v e. omega (arith, no_marks y d.0);
+  from = λ y us d l v. tt;
+}
 
-pub literal_fits : (n : ℕ) (ts rest : Tokens) (x : Expression) → Took literal Free Always ts x rest → Took literal (AtMostMarks n) (Ends 5) ts x rest
+pub literal_fits : (n : ℕ) (ts rest : Tokens) (x : Expression) → Took literal Free Always ts x rest
+    → Took literal (AtMostMarks n) (Ends 5) ts x rest
 literal_fits n ts rest x t = took_before (λ o f. tt) (took_as literal literal (λ y. y) (literal_along n ts) t)
 
-pub literal_failed : (n : ℕ) (ts : Tokens) (e : Fail) → Failed literal Free Always ts e → Failed literal (AtMostMarks n) (Ends 5) ts e
+pub literal_failed : (n : ℕ) (ts : Tokens) (e : Fail) → Failed literal Free Always ts e
+    → Failed literal (AtMostMarks n) (Ends 5) ts e
 literal_failed n ts e f = failed_before (λ o f. tt) (failed_as literal literal (λ y. y) (literal_along n ts) f)
 
 -- ---- what may follow
@@ -222,7 +270,8 @@ length_cases (Negated a at) us d = let z : (start.Counted mark.Not) ≡ (start.C
 length_cases (Minus a at) us d = let z : (start.Counted mark.Minus) ≡ (start.Counted mark.Len) = d.0 in cc
 length_cases (Binary o a b) us d = let z : start.Other ≡ (start.Counted mark.Len) = d.0 in cc
 
-length_along : (m : ℕ) (ts : Tokens) → Along len_operand array (AtMostMarks (m + 1)) (Pair Free (IsShortPath m)) ts length_of
+length_along : (m : ℕ) (ts : Tokens)
+    → Along len_operand array (AtMostMarks (m + 1)) (Pair Free (IsShortPath m)) ts length_of
 length_along m ts = record {
   intro = λ q us d. (refl, d);
   cases = λ y us r d h. length_cases y us d;
@@ -239,20 +288,29 @@ has_path m = record {
   within = λ l e. omega arith;
 }
 
-pub length_took : (n m : ℕ) (ts middle rest : Tokens) (at : Spot) (p : Path) → m + 1 ≡ n → Took (Token (tok.Word word.Len)) Free Always ts at middle → Took path (IsShortPath m) (Isnt (tok.Sign sign.Dot)) middle p rest → Took len_operand (AtMostMarks n) (Ends 5) ts (Length p at) rest
+pub length_took : (n m : ℕ) (ts middle rest : Tokens) (at : Spot) (p : Path) → m + 1 ≡ n
+    → Took (Token (tok.Word word.Len)) Free Always ts at middle
+    → Took path (IsShortPath m) (Isnt (tok.Sign sign.Dot)) middle p rest
+    → Took len_operand (AtMostMarks n) (Ends 5) ts (Length p at) rest
 length_took n m ts middle rest at p e t u =
     let P : ℕ → Type 0 = λ k. Took len_operand (AtMostMarks k) (Ends 5) ts (Length p at) rest in
-    subst P e (took_as len_operand array length_of (length_along m ts) (both (free path (Ends 5)) t (took_before no_dot u)))
+    subst P e (took_as len_operand array length_of (length_along m ts)
+    (both (free path (Ends 5)) t (took_before no_dot u)))
 
-pub length_failed_word : (n m : ℕ) (ts : Tokens) (e : Fail) → m + 1 ≡ n → Failed (Token (tok.Word word.Len)) Free Always ts e → Failed len_operand (AtMostMarks n) (Ends 5) ts e
+pub length_failed_word : (n m : ℕ) (ts : Tokens) (e : Fail) → m + 1 ≡ n
+    → Failed (Token (tok.Word word.Len)) Free Always ts e → Failed len_operand (AtMostMarks n) (Ends 5) ts e
 length_failed_word n m ts e same f =
     let P : ℕ → Type 0 = λ k. Failed len_operand (AtMostMarks k) (Ends 5) ts e in
     subst P same (failed_as len_operand array length_of (length_along m ts) (first (free path (Ends 5)) (has_path m) f))
 
-pub length_failed_path : (n m : ℕ) (ts middle : Tokens) (at : Spot) (e : Fail) → m + 1 ≡ n → Took (Token (tok.Word word.Len)) Free Always ts at middle → Failed path (IsShortPath m) (Isnt (tok.Sign sign.Dot)) middle e → Failed len_operand (AtMostMarks n) (Ends 5) ts e
+pub length_failed_path : (n m : ℕ) (ts middle : Tokens) (at : Spot) (e : Fail) → m + 1 ≡ n
+    → Took (Token (tok.Word word.Len)) Free Always ts at middle
+    → Failed path (IsShortPath m) (Isnt (tok.Sign sign.Dot)) middle e
+    → Failed len_operand (AtMostMarks n) (Ends 5) ts e
 length_failed_path n m ts middle at e same t f =
     let P : ℕ → Type 0 = λ k. Failed len_operand (AtMostMarks k) (Ends 5) ts e in
-    subst P same (failed_as len_operand array length_of (length_along m ts) (second (free path (Ends 5)) t (failed_before no_dot f)))
+    subst P same (failed_as len_operand array length_of (length_along m ts)
+    (second (free path (Ends 5)) t (failed_before no_dot f)))
 
 -- ---- brackets
 
@@ -268,7 +326,8 @@ Bracketed n = Pair Free (Pair (AtMostMarks n) Free)
 abbrev inside : Spot × (Expression × Unit {0}) → Spot × Expression
 inside q = (q.0, q.1.0)
 
-enclosed_along : (g h : Sign) (n : ℕ) (ts : Tokens) → Along (enclosed g h) (bracketed g h) (AtMostInside n) (Bracketed n) ts inside
+enclosed_along : (g h : Sign) (n : ℕ) (ts : Tokens) → Along (enclosed g h) (bracketed g h) (AtMostInside n)
+    (Bracketed n) ts inside
 enclosed_along g h n ts = record {
   intro = λ q us d. d;
   cases = λ y us r d e. ((y.0, (y.1, tt)), refl, d);
@@ -277,28 +336,39 @@ enclosed_along g h n ts = record {
 }
 
 closing_links : (h : Sign) → IsClosing h → Links (TokenMark (tok.Sign h)) Always (Ends 0)
-closing_links h c y us r d f = of_kind (tok.Sign h) (Ends 0) (λ at. ends_closing 0 h at c) (head (us ++ r)) (begins_mark (tok.Sign h) y us r d)
+closing_links h c y us r d f = of_kind (tok.Sign h) (Ends 0) (λ at. ends_closing 0 h at c) (head (us ++ r))
+    (begins_mark (tok.Sign h) y us r d)
 
 has_closing : (h : Sign) (n : ℕ) → Has (closing_parts h) (Pair (AtMostMarks n) Free)
 has_closing h n = has_both (has_at_level 0 n) (has_mark (tok.Sign h) tt)
 
-pub enclosed_took : (g h : Sign) (n : ℕ) (ts middle later rest : Tokens) (at end : Spot) (x : Expression) → IsClosing h → Took (Token (tok.Sign g)) Free Always ts at middle → Took (at_level 0) (AtMostMarks n) (Ends 0) middle x later →
+pub enclosed_took : (g h : Sign) (n : ℕ) (ts middle later rest : Tokens) (at end : Spot) (x : Expression)
+    → IsClosing h → Took (Token (tok.Sign g)) Free Always ts at middle
+    → Took (at_level 0) (AtMostMarks n) (Ends 0) middle x later →
     Took (Token (tok.Sign h)) Free Always later end rest → Took (enclosed g h) (AtMostInside n) Always ts (at, x) rest
 enclosed_took g h n ts middle later rest at end x c t u v =
-    took_as (enclosed g h) (bracketed g h) inside (enclosed_along g h n ts) (both (free (closing_parts h) Always) t (both (closing_links h c) u (took_mark v)))
+    took_as (enclosed g h) (bracketed g h) inside (enclosed_along g h n ts)
+    (both (free (closing_parts h) Always) t (both (closing_links h c) u (took_mark v)))
 
-pub enclosed_failed_open : (g h : Sign) (n : ℕ) (ts : Tokens) (e : Fail) → Failed (Token (tok.Sign g)) Free Always ts e → Failed (enclosed g h) (AtMostInside n) Always ts e
-enclosed_failed_open g h n ts e f = failed_as (enclosed g h) (bracketed g h) inside (enclosed_along g h n ts) (first (free (closing_parts h) Always) (has_closing h n) f)
+pub enclosed_failed_open : (g h : Sign) (n : ℕ) (ts : Tokens) (e : Fail)
+    → Failed (Token (tok.Sign g)) Free Always ts e → Failed (enclosed g h) (AtMostInside n) Always ts e
+enclosed_failed_open g h n ts e f = failed_as (enclosed g h) (bracketed g h) inside (enclosed_along g h n ts)
+    (first (free (closing_parts h) Always) (has_closing h n) f)
 
-pub enclosed_failed_inner : (g h : Sign) (n : ℕ) (ts middle : Tokens) (at : Spot) (e : Fail) → IsClosing h → Took (Token (tok.Sign g)) Free Always ts at middle → Failed (at_level 0) (AtMostMarks n) (Ends 0) middle e →
+pub enclosed_failed_inner : (g h : Sign) (n : ℕ) (ts middle : Tokens) (at : Spot) (e : Fail) → IsClosing h
+    → Took (Token (tok.Sign g)) Free Always ts at middle → Failed (at_level 0) (AtMostMarks n) (Ends 0) middle e →
     Failed (enclosed g h) (AtMostInside n) Always ts e
 enclosed_failed_inner g h n ts middle at e c t f =
-    failed_as (enclosed g h) (bracketed g h) inside (enclosed_along g h n ts) (second (free (closing_parts h) Always) t (first (closing_links h c) (has_mark (tok.Sign h) tt) f))
+    failed_as (enclosed g h) (bracketed g h) inside (enclosed_along g h n ts)
+    (second (free (closing_parts h) Always) t (first (closing_links h c) (has_mark (tok.Sign h) tt) f))
 
-pub enclosed_failed_close : (g h : Sign) (n : ℕ) (ts middle later : Tokens) (at : Spot) (x : Expression) (e : Fail) → IsClosing h → Took (Token (tok.Sign g)) Free Always ts at middle → Took (at_level 0) (AtMostMarks n) (Ends 0) middle x later →
+pub enclosed_failed_close : (g h : Sign) (n : ℕ) (ts middle later : Tokens) (at : Spot) (x : Expression) (e : Fail)
+    → IsClosing h → Took (Token (tok.Sign g)) Free Always ts at middle
+    → Took (at_level 0) (AtMostMarks n) (Ends 0) middle x later →
     Failed (Token (tok.Sign h)) Free Always later e → Failed (enclosed g h) (AtMostInside n) Always ts e
 enclosed_failed_close g h n ts middle later at x e c t u f =
-    failed_as (enclosed g h) (bracketed g h) inside (enclosed_along g h n ts) (second (free (closing_parts h) Always) t (second (closing_links h c) u (failed_mark f)))
+    failed_as (enclosed g h) (bracketed g h) inside (enclosed_along g h n ts)
+    (second (free (closing_parts h) Always) t (second (closing_links h c) u (failed_mark f)))
 
 -- ---- parentheses
 
@@ -311,7 +381,8 @@ paren_operand = operand (start.Counted mark.Paren)
 abbrev grouped_of : Spot × Expression → Expression
 grouped_of q = Grouped q.1 q.0
 
-grouped_cases : (y : Expression) (us : Tokens) → paren_operand y us → (q : Spot × Expression) × (y ≡ grouped_of q) × in_parentheses q us
+grouped_cases : (y : Expression) (us : Tokens) → paren_operand y us → (q : Spot × Expression) × (y ≡ grouped_of q)
+    × in_parentheses q us
 grouped_cases (Number n at) us d = let z : start.Literal ≡ (start.Counted mark.Paren) = d.0 in cc
 grouped_cases (Truth b at) us d = let z : start.Literal ≡ (start.Counted mark.Paren) = d.0 in cc
 grouped_cases (Nothing at) us d = let z : start.Literal ≡ (start.Counted mark.Paren) = d.0 in cc
@@ -323,7 +394,8 @@ grouped_cases (Negated a at) us d = let z : (start.Counted mark.Not) ≡ (start.
 grouped_cases (Minus a at) us d = let z : (start.Counted mark.Minus) ≡ (start.Counted mark.Paren) = d.0 in cc
 grouped_cases (Binary o a b) us d = let z : start.Other ≡ (start.Counted mark.Paren) = d.0 in cc
 
-grouped_along : (m : ℕ) (ts : Tokens) → Along paren_operand in_parentheses (AtMostMarks (m + 1)) (AtMostInside m) ts grouped_of
+grouped_along : (m : ℕ) (ts : Tokens) → Along paren_operand in_parentheses (AtMostMarks (m + 1))
+    (AtMostInside m) ts grouped_of
 grouped_along m ts = record {
   intro = λ q us d. (refl, d);
   cases = λ y us r d h. grouped_cases y us d;
@@ -331,12 +403,15 @@ grouped_along m ts = record {
   from = λ q us d l v e. omega (arith, v e);
 }
 
-pub grouped_took : (n m : ℕ) (ts rest : Tokens) (q : Spot × Expression) → m + 1 ≡ n → Took in_parentheses (AtMostInside m) Always ts q rest → Took paren_operand (AtMostMarks n) (Ends 5) ts (Grouped q.1 q.0) rest
+pub grouped_took : (n m : ℕ) (ts rest : Tokens) (q : Spot × Expression) → m + 1 ≡ n
+    → Took in_parentheses (AtMostInside m) Always ts q rest
+    → Took paren_operand (AtMostMarks n) (Ends 5) ts (Grouped q.1 q.0) rest
 grouped_took n m ts rest q e t =
     let P : ℕ → Type 0 = λ k. Took paren_operand (AtMostMarks k) (Ends 5) ts (Grouped q.1 q.0) rest in
     subst P e (took_before (λ o f. tt) (took_as paren_operand in_parentheses grouped_of (grouped_along m ts) t))
 
-pub grouped_failed : (n m : ℕ) (ts : Tokens) (e : Fail) → m + 1 ≡ n → Failed in_parentheses (AtMostInside m) Always ts e → Failed paren_operand (AtMostMarks n) (Ends 5) ts e
+pub grouped_failed : (n m : ℕ) (ts : Tokens) (e : Fail) → m + 1 ≡ n
+    → Failed in_parentheses (AtMostInside m) Always ts e → Failed paren_operand (AtMostMarks n) (Ends 5) ts e
 grouped_failed n m ts e same f =
     let P : ℕ → Type 0 = λ k. Failed paren_operand (AtMostMarks k) (Ends 5) ts e in
     subst P same (failed_before (λ o f. tt) (failed_as paren_operand in_parentheses grouped_of (grouped_along m ts) f))
@@ -359,7 +434,8 @@ negated_of q = Negated q.1 q.0
 abbrev minus_of : Spot × Expression → Expression
 minus_of q = Minus q.1 q.0
 
-negated_cases : (y : Expression) (us : Tokens) → not_operand y us → (q : Spot × Expression) × (y ≡ negated_of q) × prefixed sign.Not q us
+negated_cases : (y : Expression) (us : Tokens) → not_operand y us → (q : Spot × Expression) × (y ≡ negated_of q)
+    × prefixed sign.Not q us
 negated_cases (Number n at) us d = let z : start.Literal ≡ (start.Counted mark.Not) = d.0 in cc
 negated_cases (Truth b at) us d = let z : start.Literal ≡ (start.Counted mark.Not) = d.0 in cc
 negated_cases (Nothing at) us d = let z : start.Literal ≡ (start.Counted mark.Not) = d.0 in cc
@@ -371,7 +447,8 @@ negated_cases (Negated a at) us d = ((at, a), refl, d.1)
 negated_cases (Minus a at) us d = let z : (start.Counted mark.Minus) ≡ (start.Counted mark.Not) = d.0 in cc
 negated_cases (Binary o a b) us d = let z : start.Other ≡ (start.Counted mark.Not) = d.0 in cc
 
-minus_cases : (y : Expression) (us : Tokens) → minus_operand y us → (q : Spot × Expression) × (y ≡ minus_of q) × prefixed sign.Minus q us
+minus_cases : (y : Expression) (us : Tokens) → minus_operand y us → (q : Spot × Expression) × (y ≡ minus_of q)
+    × prefixed sign.Minus q us
 minus_cases (Number n at) us d = let z : start.Literal ≡ (start.Counted mark.Minus) = d.0 in cc
 minus_cases (Truth b at) us d = let z : start.Literal ≡ (start.Counted mark.Minus) = d.0 in cc
 minus_cases (Nothing at) us d = let z : start.Literal ≡ (start.Counted mark.Minus) = d.0 in cc
@@ -383,7 +460,8 @@ minus_cases (Negated a at) us d = let z : (start.Counted mark.Not) ≡ (start.Co
 minus_cases (Minus a at) us d = ((at, a), refl, d.1)
 minus_cases (Binary o a b) us d = let z : start.Other ≡ (start.Counted mark.Minus) = d.0 in cc
 
-negated_along : (m : ℕ) (ts : Tokens) → Along not_operand (prefixed sign.Not) (AtMostMarks (m + 1)) (Pair Free (AtMostMarks m)) ts negated_of
+negated_along : (m : ℕ) (ts : Tokens) → Along not_operand (prefixed sign.Not) (AtMostMarks (m + 1))
+    (Pair Free (AtMostMarks m)) ts negated_of
 negated_along m ts = record {
   intro = λ q us d. (refl, d);
   cases = λ y us r d h. negated_cases y us d;
@@ -391,7 +469,8 @@ negated_along m ts = record {
   from = λ q us d l v. (tt, λ e. omega (arith, v e));
 }
 
-minus_along : (m : ℕ) (ts : Tokens) → Along minus_operand (prefixed sign.Minus) (AtMostMarks (m + 1)) (Pair Free (AtMostMarks m)) ts minus_of
+minus_along : (m : ℕ) (ts : Tokens) → Along minus_operand (prefixed sign.Minus) (AtMostMarks (m + 1))
+    (Pair Free (AtMostMarks m)) ts minus_of
 minus_along m ts = record {
   intro = λ q us d. (refl, d);
   cases = λ y us r d h. minus_cases y us d;
@@ -400,41 +479,68 @@ minus_along m ts = record {
 }
 
 -- along any form that is a sign before an operand
-prefixed_took : (D : Lang Expression) (g : Sign) (n m : ℕ) (build : Spot × Expression → Expression) (ts middle rest : Tokens) (at : Spot) (x : Expression) → m + 1 ≡ n →
-    Along D (prefixed g) (AtMostMarks (m + 1)) (Pair Free (AtMostMarks m)) ts build → Took (Token (tok.Sign g)) Free Always ts at middle → Took (at_level 5) (AtMostMarks m) (Ends 5) middle x rest → Took D (AtMostMarks n) (Ends 5) ts (build (at, x)) rest
+prefixed_took : (D : Lang Expression) (g : Sign) (n m : ℕ) (build : Spot × Expression → Expression)
+    (ts middle rest : Tokens) (at : Spot) (x : Expression) → m + 1 ≡ n →
+    Along D (prefixed g) (AtMostMarks (m + 1)) (Pair Free (AtMostMarks m)) ts build
+    → Took (Token (tok.Sign g)) Free Always ts at middle
+    → Took (at_level 5) (AtMostMarks m) (Ends 5) middle x rest
+    → Took D (AtMostMarks n) (Ends 5) ts (build (at, x)) rest
 prefixed_took D g n m build ts middle rest at x e a t u =
     let P : ℕ → Type 0 = λ k. Took D (AtMostMarks k) (Ends 5) ts (build (at, x)) rest in
     subst P e (took_as D (prefixed g) build a (both (free (at_level 5) (Ends 5)) t u))
 
-prefixed_failed_sign : (D : Lang Expression) (g : Sign) (n m : ℕ) (build : Spot × Expression → Expression) (ts : Tokens) (e : Fail) → m + 1 ≡ n →
-    Along D (prefixed g) (AtMostMarks (m + 1)) (Pair Free (AtMostMarks m)) ts build → Failed (Token (tok.Sign g)) Free Always ts e → Failed D (AtMostMarks n) (Ends 5) ts e
+prefixed_failed_sign : (D : Lang Expression) (g : Sign) (n m : ℕ) (build : Spot × Expression → Expression)
+    (ts : Tokens) (e : Fail) → m + 1 ≡ n →
+    Along D (prefixed g) (AtMostMarks (m + 1)) (Pair Free (AtMostMarks m)) ts build
+    → Failed (Token (tok.Sign g)) Free Always ts e → Failed D (AtMostMarks n) (Ends 5) ts e
 prefixed_failed_sign D g n m build ts e same a f =
     let P : ℕ → Type 0 = λ k. Failed D (AtMostMarks k) (Ends 5) ts e in
     subst P same (failed_as D (prefixed g) build a (first (free (at_level 5) (Ends 5)) (has_at_level 5 m) f))
 
-prefixed_failed_operand : (D : Lang Expression) (g : Sign) (n m : ℕ) (build : Spot × Expression → Expression) (ts middle : Tokens) (at : Spot) (e : Fail) → m + 1 ≡ n →
-    Along D (prefixed g) (AtMostMarks (m + 1)) (Pair Free (AtMostMarks m)) ts build → Took (Token (tok.Sign g)) Free Always ts at middle → Failed (at_level 5) (AtMostMarks m) (Ends 5) middle e → Failed D (AtMostMarks n) (Ends 5) ts e
+prefixed_failed_operand : (D : Lang Expression) (g : Sign) (n m : ℕ) (build : Spot × Expression → Expression)
+    (ts middle : Tokens) (at : Spot) (e : Fail) → m + 1 ≡ n →
+    Along D (prefixed g) (AtMostMarks (m + 1)) (Pair Free (AtMostMarks m)) ts build
+    → Took (Token (tok.Sign g)) Free Always ts at middle → Failed (at_level 5) (AtMostMarks m) (Ends 5) middle e
+    → Failed D (AtMostMarks n) (Ends 5) ts e
 prefixed_failed_operand D g n m build ts middle at e same a t f =
     let P : ℕ → Type 0 = λ k. Failed D (AtMostMarks k) (Ends 5) ts e in
     subst P same (failed_as D (prefixed g) build a (second (free (at_level 5) (Ends 5)) t f))
 
-pub negated_took : (n m : ℕ) (ts middle rest : Tokens) (at : Spot) (x : Expression) → m + 1 ≡ n → Took (Token (tok.Sign sign.Not)) Free Always ts at middle → Took (at_level 5) (AtMostMarks m) (Ends 5) middle x rest → Took not_operand (AtMostMarks n) (Ends 5) ts (Negated x at) rest
-negated_took n m ts middle rest at x e t u = prefixed_took not_operand sign.Not n m negated_of ts middle rest at x e (negated_along m ts) t u
+pub negated_took : (n m : ℕ) (ts middle rest : Tokens) (at : Spot) (x : Expression) → m + 1 ≡ n
+    → Took (Token (tok.Sign sign.Not)) Free Always ts at middle
+    → Took (at_level 5) (AtMostMarks m) (Ends 5) middle x rest
+    → Took not_operand (AtMostMarks n) (Ends 5) ts (Negated x at) rest
+negated_took n m ts middle rest at x e t u = prefixed_took not_operand sign.Not n m negated_of ts middle rest at x e
+    (negated_along m ts) t u
 
-pub negated_failed_sign : (n m : ℕ) (ts : Tokens) (e : Fail) → m + 1 ≡ n → Failed (Token (tok.Sign sign.Not)) Free Always ts e → Failed not_operand (AtMostMarks n) (Ends 5) ts e
-negated_failed_sign n m ts e same f = prefixed_failed_sign not_operand sign.Not n m negated_of ts e same (negated_along m ts) f
+pub negated_failed_sign : (n m : ℕ) (ts : Tokens) (e : Fail) → m + 1 ≡ n
+    → Failed (Token (tok.Sign sign.Not)) Free Always ts e → Failed not_operand (AtMostMarks n) (Ends 5) ts e
+negated_failed_sign n m ts e same f = prefixed_failed_sign not_operand sign.Not n m negated_of ts e same
+    (negated_along m ts) f
 
-pub negated_failed_operand : (n m : ℕ) (ts middle : Tokens) (at : Spot) (e : Fail) → m + 1 ≡ n → Took (Token (tok.Sign sign.Not)) Free Always ts at middle → Failed (at_level 5) (AtMostMarks m) (Ends 5) middle e → Failed not_operand (AtMostMarks n) (Ends 5) ts e
-negated_failed_operand n m ts middle at e same t f = prefixed_failed_operand not_operand sign.Not n m negated_of ts middle at e same (negated_along m ts) t f
+pub negated_failed_operand : (n m : ℕ) (ts middle : Tokens) (at : Spot) (e : Fail) → m + 1 ≡ n
+    → Took (Token (tok.Sign sign.Not)) Free Always ts at middle
+    → Failed (at_level 5) (AtMostMarks m) (Ends 5) middle e → Failed not_operand (AtMostMarks n) (Ends 5) ts e
+negated_failed_operand n m ts middle at e same t f = prefixed_failed_operand not_operand sign.Not n m negated_of ts
+    middle at e same (negated_along m ts) t f
 
-pub minus_took : (n m : ℕ) (ts middle rest : Tokens) (at : Spot) (x : Expression) → m + 1 ≡ n → Took (Token (tok.Sign sign.Minus)) Free Always ts at middle → Took (at_level 5) (AtMostMarks m) (Ends 5) middle x rest → Took minus_operand (AtMostMarks n) (Ends 5) ts (Minus x at) rest
-minus_took n m ts middle rest at x e t u = prefixed_took minus_operand sign.Minus n m minus_of ts middle rest at x e (minus_along m ts) t u
+pub minus_took : (n m : ℕ) (ts middle rest : Tokens) (at : Spot) (x : Expression) → m + 1 ≡ n
+    → Took (Token (tok.Sign sign.Minus)) Free Always ts at middle
+    → Took (at_level 5) (AtMostMarks m) (Ends 5) middle x rest
+    → Took minus_operand (AtMostMarks n) (Ends 5) ts (Minus x at) rest
+minus_took n m ts middle rest at x e t u = prefixed_took minus_operand sign.Minus n m minus_of ts middle rest at x e
+    (minus_along m ts) t u
 
-pub minus_failed_sign : (n m : ℕ) (ts : Tokens) (e : Fail) → m + 1 ≡ n → Failed (Token (tok.Sign sign.Minus)) Free Always ts e → Failed minus_operand (AtMostMarks n) (Ends 5) ts e
-minus_failed_sign n m ts e same f = prefixed_failed_sign minus_operand sign.Minus n m minus_of ts e same (minus_along m ts) f
+pub minus_failed_sign : (n m : ℕ) (ts : Tokens) (e : Fail) → m + 1 ≡ n
+    → Failed (Token (tok.Sign sign.Minus)) Free Always ts e → Failed minus_operand (AtMostMarks n) (Ends 5) ts e
+minus_failed_sign n m ts e same f = prefixed_failed_sign minus_operand sign.Minus n m minus_of ts e same
+    (minus_along m ts) f
 
-pub minus_failed_operand : (n m : ℕ) (ts middle : Tokens) (at : Spot) (e : Fail) → m + 1 ≡ n → Took (Token (tok.Sign sign.Minus)) Free Always ts at middle → Failed (at_level 5) (AtMostMarks m) (Ends 5) middle e → Failed minus_operand (AtMostMarks n) (Ends 5) ts e
-minus_failed_operand n m ts middle at e same t f = prefixed_failed_operand minus_operand sign.Minus n m minus_of ts middle at e same (minus_along m ts) t f
+pub minus_failed_operand : (n m : ℕ) (ts middle : Tokens) (at : Spot) (e : Fail) → m + 1 ≡ n
+    → Took (Token (tok.Sign sign.Minus)) Free Always ts at middle
+    → Failed (at_level 5) (AtMostMarks m) (Ends 5) middle e → Failed minus_operand (AtMostMarks n) (Ends 5) ts e
+minus_failed_operand n m ts middle at e same t f = prefixed_failed_operand minus_operand sign.Minus n m minus_of ts
+    middle at e same (minus_along m ts) t f
 
 -- ---- paths, and an index behind them
 
@@ -461,14 +567,24 @@ abbrev place_of : Path × Option Expression → Expression
 place_of q = placed q.0 q.1
 
 place_is : (p : Path) (o : Option Expression) (us : Tokens) → place_parts (p, o) us → place_operand (placed p o) us
-place_is p None us d = (refl, (let P : Tokens → Type 0 = path p in subst P (sym (append-nil d.front) ∙ ap (λ l. d.front ++ l) (sym d.second) ∙ sym d.parts) d.first))
+place_is p None us d = (
+  refl,
+  (let P : Tokens
+      → Type 0 = path p in subst P (sym (append-nil d.front) ∙ ap (λ l. d.front ++ l) (sym d.second) ∙ sym d.parts)
+      d.first),
+)
 place_is p (Some e) us d = (refl, d)
 
-place_cases : (y : Expression) (us : Tokens) → place_operand y us → (q : Path × Option Expression) × (y ≡ place_of q) × place_parts q us
+place_cases : (y : Expression) (us : Tokens) → place_operand y us → (q : Path × Option Expression) × (y ≡ place_of q)
+    × place_parts q us
 place_cases (Number n at) us d = let z : start.Literal ≡ start.Place = d.0 in cc
 place_cases (Truth b at) us d = let z : start.Literal ≡ start.Place = d.0 in cc
 place_cases (Nothing at) us d = let z : start.Literal ≡ start.Place = d.0 in cc
-place_cases (Read p) us d = ((p, None), refl, record { front = us; back = []; parts = sym (append-nil us); first = d.1; second = refl })
+place_cases (Read p) us d = (
+  (p, None),
+  refl,
+  record { front = us; back = []; parts = sym (append-nil us); first = d.1; second = refl },
+)
 place_cases (Item p a) us d = ((p, Some a), refl, d.1)
 place_cases (Length p at) us d = let z : (start.Counted mark.Len) ≡ start.Place = d.0 in cc
 place_cases (Grouped a at) us d = let z : (start.Counted mark.Paren) ≡ start.Place = d.0 in cc
@@ -480,7 +596,8 @@ place_more : (p : Path) (o : Option Expression) → length p.steps ≤ marks (pl
 place_more p None = omega arith
 place_more p (Some e) = omega arith
 
-place_along : (n : ℕ) (ts : Tokens) → Along place_operand place_parts (AtMostMarks n) (Limits (IsShortPath n) (PlacedAtMost n)) ts place_of
+place_along : (n : ℕ) (ts : Tokens)
+    → Along place_operand place_parts (AtMostMarks n) (Limits (IsShortPath n) (PlacedAtMost n)) ts place_of
 place_along n ts = record {
   intro = λ q us d. place_is q.0 q.1 us d;
   cases = λ y us r d h. place_cases y us d;
@@ -492,20 +609,28 @@ bracket_first : (y : Expression) (us r : Tokens) → index y us → Is (tok.Sign
 bracket_first y us r d = opens_so us r (opens_mark us r d)
 
 place_links : Links (optional index) (Ends 5) (Isnt (tok.Sign sign.Dot))
-place_links None us r d f = let P : Tokens → Type 0 = λ v. Isnt (tok.Sign sign.Dot) (head (v ++ r)) in subst P (sym d) (no_dot (head r) f)
-place_links (Some e) us r d f = of_other (tok.Sign sign.OpenBracket) (tok.Sign sign.Dot) (λ e. cc) (head (us ++ r)) (bracket_first e us r d)
+place_links None us r d f = let P : Tokens → Type 0 = λ v. Isnt (tok.Sign sign.Dot) (head (v ++ r)) in subst P (sym d)
+    (no_dot (head r) f)
+place_links (Some e) us r d f = of_other (tok.Sign sign.OpenBracket) (tok.Sign sign.Dot) (λ e. cc) (head (us ++ r))
+    (bracket_first e us r d)
 
 abbrev PathTook : ℕ → Tokens → Path → Tokens → Type 0
 PathTook n ts p rest = Took path (IsShortPath n) (Isnt (tok.Sign sign.Dot)) ts p rest
 
-pub place_failed_path : (n : ℕ) (ts : Tokens) (e : Fail) → Failed path (IsShortPath n) (Isnt (tok.Sign sign.Dot)) ts e → Failed place_operand (AtMostMarks n) (Ends 5) ts e
-place_failed_path n ts e f = failed_as place_operand place_parts place_of (place_along n ts) (failed_by (λ why left s. stopped_first_with (PlacedAtMost n) place_links None [] refl tt (λ l x w. w) s) f)
+pub place_failed_path : (n : ℕ) (ts : Tokens) (e : Fail) → Failed path (IsShortPath n) (Isnt (tok.Sign sign.Dot)) ts e
+    → Failed place_operand (AtMostMarks n) (Ends 5) ts e
+place_failed_path n ts e f = failed_as place_operand place_parts place_of (place_along n ts)
+    (failed_by (λ why left s. stopped_first_with (PlacedAtMost n) place_links None [] refl tt (λ l x w. w) s) f)
 
-pub place_alone : (n : ℕ) (ts rest : Tokens) (p : Path) → PathTook n ts p rest → (Is (tok.Sign sign.OpenBracket) (head rest) → ⊥) → Took place_operand (AtMostMarks n) (Ends 5) ts (Read p) rest
+pub place_alone : (n : ℕ) (ts rest : Tokens) (p : Path) → PathTook n ts p rest
+    → (Is (tok.Sign sign.OpenBracket) (head rest) → ⊥) → Took place_operand (AtMostMarks n) (Ends 5) ts (Read p) rest
 place_alone n ts rest p t none = took_as place_operand place_parts place_of (place_along n ts)
-    (took_then (PlacedAtMost n) place_links t (left_out (λ y us r d h. none (let P : Option Lexeme → Type 0 = Is (tok.Sign sign.OpenBracket) in subst P h (bracket_first y us r d))) t.within))
+    (took_then (PlacedAtMost n) place_links t
+    (left_out (λ y us r d h. none (let P : Option Lexeme → Type 0 = Is (tok.Sign sign.OpenBracket) in subst P h
+    (bracket_first y us r d))) t.within))
 
-bracket_goes_on : (W : Bound Expression) → ((m : Limit) → rank m < 1 → W m zero_expression) → (rest : Tokens) → Is (tok.Sign sign.OpenBracket) (head rest) → Larger Depth index W [] rest
+bracket_goes_on : (W : Bound Expression) → ((m : Limit) → rank m < 1 → W m zero_expression) → (rest : Tokens)
+    → Is (tok.Sign sign.OpenBracket) (head rest) → Larger Depth index W [] rest
 bracket_goes_on W others rest i =
     let b = begun (tok.Sign sign.OpenBracket) rest i in
     let t : Lexeme = record { kind = tok.Sign sign.OpenBracket; at = b.0.at } in
@@ -513,19 +638,60 @@ bracket_goes_on W others rest i =
     let zero : Tokens = at_once (tok.Int (pos 0)) in
     let close : Tokens = at_once (tok.Sign sign.CloseBracket) in
     let P : Lexeme → Type 0 = λ t. index zero_expression (t ∷ (zero ++ close)) in
-    let one_more : P t = record { front = t ∷ []; back = zero ++ close; parts = refl; first = (b.0.at, refl); second = record { front = zero; back = close; parts = refl; first = refl; second = (nowhere, refl) } } in
-    record { next = b.0; later = b.1; rest_is = b.2; tree = zero_expression; after = zero ++ close; known = (tt, (tt, tt)); goes_on = subst P (sym token_is) one_more; passes = tt; others = others }
+    let one_more : P t = record {
+      front = t ∷ [];
+      back = zero ++ close;
+      parts = refl;
+      first =
+          (b.0.at, refl);
+      second = record {
+        front = zero;
+        back = close;
+        parts = refl;
+        first = refl;
+        second =
+            (nowhere, refl);
+      };
+    } in
+    record {
+      next = b.0;
+      later = b.1;
+      rest_is = b.2;
+      tree = zero_expression;
+      after = zero ++ close;
+      known =
+          (tt, (tt, tt));
+      goes_on = subst P (sym token_is) one_more;
+      passes = tt;
+      others = others;
+    }
 
 -- an index is one token too many
-pub place_over : (n : ℕ) (ts rest : Tokens) (p : Path) → PathTook n ts p rest → Is (tok.Sign sign.OpenBracket) (head rest) → n ≤ length p.steps → Stopped place_operand (AtMostMarks n) (Ends 5) ts (Over Depth) (length rest)
+pub place_over : (n : ℕ) (ts rest : Tokens) (p : Path) → PathTook n ts p rest
+    → Is (tok.Sign sign.OpenBracket) (head rest) → n ≤ length p.steps
+    → Stopped place_operand (AtMostMarks n) (Ends 5) ts (Over Depth) (length rest)
 place_over n ts rest p t i many = stopped_as place_operand place_parts place_of (place_along n ts)
     (stopped_second (PlacedAtMost n) place_links t
-    (full {V = λ l. PlacedAtMost n l p} (Over Depth) (λ f. is_isnt (tok.Sign sign.OpenBracket) (head rest) i (no_bracket (head rest) f)) (λ z us r d h under. omega (arith, many, under refl)) (bracket_goes_on (λ l z. PlacedAtMost n l p (Some z)) (λ m k e. none_before m k e) rest i) t.within))
+    (full {V = λ l. PlacedAtMost n l p} (Over Depth)
+    (λ f. is_isnt (tok.Sign sign.OpenBracket) (head rest) i (no_bracket (head rest) f))
+    (λ z us r d h under. omega (arith, many, under refl))
+    (bracket_goes_on (λ l z. PlacedAtMost n l p (Some z)) (λ m k e. none_before m k e) rest i) t.within))
 
 index_along : (m : ℕ) (ts : Tokens) → Along index in_brackets (AtMostMarks m) (AtMostInside m) ts (λ q. q.1)
 index_along m ts = record {
-  intro = λ q us d. record { front = d.front; back = d.back; parts = d.parts; first = (q.0, d.first); second = d.second };
-  cases = λ y us r d h. ((d.first.0, y), refl, record { front = d.front; back = d.back; parts = d.parts; first = d.first.1; second = d.second });
+  intro = λ q us d. record {
+    front = d.front;
+    back = d.back;
+    parts = d.parts;
+    first =
+        (q.0, d.first);
+    second = d.second;
+  };
+  cases = λ y us r d h. (
+    (d.first.0, y),
+    refl,
+    record { front = d.front; back = d.back; parts = d.parts; first = d.first.1; second = d.second },
+  );
   to = λ q us d l v. v;
   from = λ q us d l v. v;
 }
@@ -536,18 +702,26 @@ index_fits n m p z all w = omega (arith, w, all)
 index_back : (n m : ℕ) (p : Path) (z : Expression) → m + length p.steps + 1 ≡ n → marks (Item p z) ≤ n → marks z ≤ m
 index_back n m p z all w = omega (arith, w, all)
 
-pub place_failed_index : (n m : ℕ) (ts rest : Tokens) (p : Path) (e : Fail) → PathTook n ts p rest → Is (tok.Sign sign.OpenBracket) (head rest) → m + length p.steps + 1 ≡ n → Failed in_brackets (AtMostInside m) Always rest e → Failed place_operand (AtMostMarks n) (Ends 5) ts e
+pub place_failed_index : (n m : ℕ) (ts rest : Tokens) (p : Path) (e : Fail) → PathTook n ts p rest
+    → Is (tok.Sign sign.OpenBracket) (head rest) → m + length p.steps + 1 ≡ n
+    → Failed in_brackets (AtMostInside m) Always rest e → Failed place_operand (AtMostMarks n) (Ends 5) ts e
 place_failed_index n m ts rest p e t i all f = failed_as place_operand place_parts place_of (place_along n ts)
     (failed_by (λ why left s. stopped_second (PlacedAtMost n) place_links t
-    (stopped_optional {V = λ l. PlacedAtMost n l p} {W = AtMostMarks m} (λ g. is_isnt (tok.Sign sign.OpenBracket) (head rest) i (no_bracket (head rest) g)) (λ o g. tt)
-    (λ l z w q. index_fits n m p z all (w q)) (λ l z w q. index_back n m p z all (w q)) (stopped_as index in_brackets (λ q. q.1) (index_along m rest) s))) f)
+    (stopped_optional {V = λ l. PlacedAtMost n l p} {W = AtMostMarks m}
+    (λ g. is_isnt (tok.Sign sign.OpenBracket) (head rest) i (no_bracket (head rest) g)) (λ o g. tt)
+    (λ l z w q. index_fits n m p z all (w q)) (λ l z w q. index_back n m p z all (w q))
+    (stopped_as index in_brackets (λ q. q.1) (index_along m rest) s))) f)
 
-pub place_indexed : (n m : ℕ) (ts rest after : Tokens) (p : Path) (q : Spot × Expression) → PathTook n ts p rest → Is (tok.Sign sign.OpenBracket) (head rest) → m + length p.steps + 1 ≡ n → Took in_brackets (AtMostInside m) Always rest q after →
+pub place_indexed : (n m : ℕ) (ts rest after : Tokens) (p : Path) (q : Spot × Expression) → PathTook n ts p rest
+    → Is (tok.Sign sign.OpenBracket) (head rest) → m + length p.steps + 1 ≡ n
+    → Took in_brackets (AtMostInside m) Always rest q after →
     Took place_operand (AtMostMarks n) (Ends 5) ts (Item p q.1) after
 place_indexed n m ts rest after p q t i all u = took_as place_operand place_parts place_of (place_along n ts)
     (took_then (PlacedAtMost n) place_links t
-    (took_optional {V = λ l. PlacedAtMost n l p} {W = AtMostMarks m} (λ g. is_isnt (tok.Sign sign.OpenBracket) (head rest) i (no_bracket (head rest) g)) (λ o g. tt)
-    (λ l z w q. index_fits n m p z all (w q)) (λ l z w q. index_back n m p z all (w q)) (took_as index in_brackets (λ q. q.1) (index_along m rest) u)))
+    (took_optional {V = λ l. PlacedAtMost n l p} {W = AtMostMarks m}
+    (λ g. is_isnt (tok.Sign sign.OpenBracket) (head rest) i (no_bracket (head rest) g)) (λ o g. tt)
+    (λ l z w q. index_fits n m p z all (w q)) (λ l z w q. index_back n m p z all (w q))
+    (took_as index in_brackets (λ q. q.1) (index_along m rest) u)))
 
 -- ---- a form whose first token counts, where none may
 
@@ -574,10 +748,39 @@ abbrev mark_token : Marked → Spot → Lexeme
 mark_token m at = record { kind = mark_kind m; at = at }
 
 mark_goes_on : (m : Marked) (at : Spot) → at_level 5 (mark_tree m at) (mark_token m at ∷ mark_after m)
-mark_goes_on mark.Len at = record { front = mark_token mark.Len at ∷ []; back = mark_after mark.Len; parts = refl; first = refl; second = record { front = at_once (tok.Name 0); back = []; parts = refl; first = inl refl; second = refl } }
-mark_goes_on mark.Paren at = record { front = mark_token mark.Paren at ∷ []; back = mark_after mark.Paren; parts = refl; first = refl; second = record { front = at_once (tok.Int (pos 0)); back = at_once (tok.Sign sign.CloseParen); parts = refl; first = refl; second = (nowhere, refl) } }
-mark_goes_on mark.Not at = record { front = mark_token mark.Not at ∷ []; back = mark_after mark.Not; parts = refl; first = refl; second = refl }
-mark_goes_on mark.Minus at = record { front = mark_token mark.Minus at ∷ []; back = mark_after mark.Minus; parts = refl; first = refl; second = refl }
+mark_goes_on mark.Len at = record {
+  front = mark_token mark.Len at ∷ [];
+  back = mark_after mark.Len;
+  parts = refl;
+  first = refl;
+  second =
+      record { front = at_once (tok.Name 0); back = []; parts = refl; first = inl refl; second = refl };
+}
+mark_goes_on mark.Paren at = record {
+  front = mark_token mark.Paren at ∷ [];
+  back = mark_after mark.Paren;
+  parts =
+      refl;
+  first = refl;
+  second = record {
+    front = at_once (tok.Int (pos 0));
+    back = at_once (tok.Sign sign.CloseParen);
+    parts = refl;
+    first = refl;
+    second
+        = (nowhere, refl);
+  };
+}
+mark_goes_on mark.Not at = record
+    { front = mark_token mark.Not at ∷ []; back = mark_after mark.Not; parts = refl; first = refl; second = refl }
+mark_goes_on mark.Minus at = record {
+  front = mark_token mark.Minus at ∷ [];
+  back = mark_after mark.Minus;
+  parts =
+      refl;
+  first = refl;
+  second = refl;
+}
 
 start_of_mark : (m : Marked) → start_of (mark_kind m) ≡ start.Counted m
 start_of_mark mark.Len = refl
@@ -602,22 +805,46 @@ next_is : (k : Lexical) (ts : Tokens) → Next k ts → (t : Lexeme) × (later :
 next_is k [] i = absurd i
 next_is k (t ∷ ts) i = (t, ts, refl, i)
 
-pub starts_mark : (m : Marked) (ts : Tokens) → Next (mark_kind m) ts → (t : Lexeme) × (later : Tokens) × (ts ≡ t ∷ later) × (start_of t.kind ≡ start.Counted m)
+pub starts_mark : (m : Marked) (ts : Tokens) → Next (mark_kind m) ts → (t : Lexeme) × (later : Tokens)
+    × (ts ≡ t ∷ later) × (start_of t.kind ≡ start.Counted m)
 starts_mark m ts i = let b = next_is (mark_kind m) ts i in (b.0, b.1, b.2, ap start_of b.3 ∙ start_of_mark m)
 
 -- one token too many
-pub mark_over : (m : Marked) (n : ℕ) (ts : Tokens) → n ≡ 0 → Next (mark_kind m) ts → Stopped (at_level 5) (AtMostMarks n) (Ends 5) ts (Over Depth) (length ts)
+pub mark_over : (m : Marked) (n : ℕ) (ts : Tokens) → n ≡ 0 → Next (mark_kind m) ts
+    → Stopped (at_level 5) (AtMostMarks n) (Ends 5) ts (Over Depth) (length ts)
 mark_over m n ts none i =
     let b = next_is (mark_kind m) ts i in
     let is : start_of b.0.kind ≡ start.Counted m = ap start_of b.3 ∙ start_of_mark m in
     let token_is : b.0 ≡ mark_token m b.0.at = ap (λ k. record { kind = k; at = b.0.at }) b.3 in
     let P : Lexeme → Type 0 = λ t. at_level 5 (mark_tree m b.0.at) (t ∷ mark_after m) in
     over_here (Over Depth) (has_at_level 5 n)
-    (λ y us r d h w. omega (arith, mark_counts y m (form_is (start.Counted m) y us r ts b.1 b.0 is b.2 d h), none, w refl))
-    (record { next = b.0; later = b.1; rest_is = b.2; tree = mark_tree m b.0.at; after = mark_after m; known = mark_known m; goes_on = subst P (sym token_is) (mark_goes_on m b.0.at); passes = tt; others = λ l k e. none_before l k e })
+    (λ y us r d h w. omega (
+      arith,
+      mark_counts y m (form_is (start.Counted m) y us r ts b.1 b.0 is b.2 d h),
+      none,
+      w refl,
+    ))
+    (record {
+      next = b.0;
+      later = b.1;
+      rest_is = b.2;
+      tree = mark_tree m b.0.at;
+      after = mark_after m;
+      known
+          = mark_known m;
+      goes_on = subst P (sym token_is) (mark_goes_on m b.0.at);
+      passes = tt;
+      others =
+          λ l k e. none_before l k e;
+    })
 
-pub marked_took : (m : Marked) (n : ℕ) (ts rest : Tokens) (x : Expression) → Next (mark_kind m) ts → Took (operand (start.Counted m)) (AtMostMarks n) (Ends 5) ts x rest → Took (at_level 5) (AtMostMarks n) (Ends 5) ts x rest
-marked_took m n ts rest x i t = let b = starts_mark m ts i in operand_took (start.Counted m) n ts b.1 rest b.0 x b.3 b.2 t
+pub marked_took : (m : Marked) (n : ℕ) (ts rest : Tokens) (x : Expression) → Next (mark_kind m) ts
+    → Took (operand (start.Counted m)) (AtMostMarks n) (Ends 5) ts x rest
+    → Took (at_level 5) (AtMostMarks n) (Ends 5) ts x rest
+marked_took m n ts rest x i t = let b = starts_mark m ts i in operand_took (start.Counted m) n ts b.1 rest b.0 x b.3
+    b.2 t
 
-pub marked_failed : (m : Marked) (n : ℕ) (ts : Tokens) (e : Fail) → Next (mark_kind m) ts → Failed (operand (start.Counted m)) (AtMostMarks n) (Ends 5) ts e → Failed (at_level 5) (AtMostMarks n) (Ends 5) ts e
+pub marked_failed : (m : Marked) (n : ℕ) (ts : Tokens) (e : Fail) → Next (mark_kind m) ts
+    → Failed (operand (start.Counted m)) (AtMostMarks n) (Ends 5) ts e
+    → Failed (at_level 5) (AtMostMarks n) (Ends 5) ts e
 marked_failed m n ts e i f = let b = starts_mark m ts i in operand_failed (start.Counted m) n ts b.1 b.0 e b.3 b.2 f

@@ -88,23 +88,30 @@ over_two op.Rem e = absurd (omega (arith, e))
 
 -- ---- the tokens that may follow
 
-pub first_sign : (g : Sign) (p : Tokens → Type 0) (us r : Tokens) → (a_sign g ⨾ p) us → (at : Spot) × (head (us ++ r) ≡ Some (record { kind = tok.Sign g; at = at }))
+pub first_sign : (g : Sign) (p : Tokens → Type 0) (us r : Tokens) → (a_sign g ⨾ p) us
+    → (at : Spot) × (head (us ++ r) ≡ Some (record { kind = tok.Sign g; at = at }))
 first_sign g p us r d = (d.first.0, ap (λ l. head (l ++ r)) (d.parts ∙ ap (λ l. l ++ d.back) d.first.1))
 
 pub ends_later : (l : ℕ) (o : Option Lexeme) → Ends l o → Ends (l + 1) o
 ends_later l None e = tt
 ends_later l (Some t) e = ((λ o k. let h : level o < l = e.0 o k in omega (arith, h)), e.1, e.2)
 
-pub ends_at : (l : ℕ) (o : Op) (at : Spot) → level o < l → Ends l (Some (record { kind = tok.Sign (sign_of o); at = at }))
+pub ends_at : (l : ℕ) (o : Op) (at : Spot) → level o < l
+    → Ends l (Some (record { kind = tok.Sign (sign_of o); at = at }))
 ends_at l o at less = (
-  (λ p k. let same : o ≡ p = same_operator o p k in let h : level p ≡ level o = ap level (sym same) in omega (arith, h, less)),
+  (λ p k. let same : o ≡ p = same_operator o p k in let h : level p ≡ level o = ap level (sym same) in omega
+      (arith, h, less)),
   (λ k. no_operator sign.Dot refl o (sym k)),
   (λ k. no_operator sign.OpenBracket refl o (sym k)),
 )
 
 -- a sign that goes on no expression
 pub ends_closing : (l : ℕ) (g : Sign) (at : Spot) → IsClosing g → Ends l (Some (record { kind = tok.Sign g; at = at }))
-ends_closing l g at c = ((λ p k. absurd (no_operator g c.0 p k)), (λ k. c.1 (let same : g ≡ sign.Dot = cc in same)), (λ k. c.2 (let same : g ≡ sign.OpenBracket = cc in same)))
+ends_closing l g at c = (
+  (λ p k. absurd (no_operator g c.0 p k)),
+  (λ k. c.1 (let same : g ≡ sign.Dot = cc in same)),
+  (λ k. c.2 (let same : g ≡ sign.OpenBracket = cc in same)),
+)
 
 pub operator_ends : (l : ℕ) (o : Op) → level o < l → (f : Option Lexeme) → Is (tok.Sign (sign_of o)) f → Ends l f
 operator_ends l o less = of_kind (tok.Sign (sign_of o)) (Ends l) (λ at. ends_at l o at less)

@@ -11,19 +11,26 @@ use Rattle.ae_reading.specs.Reads.{head, Is, IsWithinAll, Stopped, Counts, Beyon
 use Rattle.ae_expressions.proofs.from_reading.ReadsLemmas.{Lang, Bound, Follow, lead_here, beyond_as}
 use Rattle.ae_expressions.proofs.from_reading.Parts.{optional}
 
-pub begun : (k : Lexical) (ts : Tokens) → Is k (head ts) → (t : Lexeme) × (later : Tokens) × (ts ≡ t ∷ later) × (t.kind ≡ k)
+pub begun : (k : Lexical) (ts : Tokens) → Is k (head ts) → (t : Lexeme) × (later : Tokens) × (ts ≡ t ∷ later)
+    × (t.kind ≡ k)
 begun k [] i = absurd i
 begun k (t ∷ ts) i = (t, ts, refl, i)
 
-full_only : {A : Type 0} {D : Lang A} (V : Bound (Option A)) (F : Follow) (rest : Tokens) (why : Why) → (F (head rest) → ⊥) →
+full_only : {A : Type 0} {D : Lang A} (V : Bound (Option A)) (F : Follow) (rest : Tokens) (why : Why)
+    → (F (head rest) → ⊥) →
     ((z : A) (us r : Tokens) → D z us → head (us ++ r) ≡ head rest → Counts why (λ l. V l (Some z)) → ⊥) →
-    (y : Option A) (us r other : Tokens) → optional D y us → us ++ r ≡ other → head other ≡ head rest → F (head r) → Counts why (λ l. V l y) → ⊥
-full_only V F rest why goes_on none None us r other d e h f w = let P : Option Lexeme → Type 0 = F in goes_on (subst P (ap head (ap (λ l. l ++ r) (sym d) ∙ e) ∙ h) f)
+    (y : Option A) (us r other : Tokens) → optional D y us → us ++ r ≡ other → head other ≡ head rest → F (head r)
+    → Counts why (λ l. V l y) → ⊥
+full_only V F rest why goes_on none None us r other d e h f w = let P : Option Lexeme
+    → Type 0 = F in goes_on (subst P (ap head (ap (λ l. l ++ r) (sym d) ∙ e) ∙ h) f)
 full_only V F rest why goes_on none (Some z) us r other d e h f w = none z us r d (ap head e ∙ h) w
 
 -- the part is wanted, and each that begins here is over the limit
-pub full : {A : Type 0} {D : Lang A} {V : Bound (Option A)} {F : Follow} {rest : Tokens} (why : Why) → (F (head rest) → ⊥) →
-    ((z : A) (us r : Tokens) → D z us → head (us ++ r) ≡ head rest → Counts why (λ l. V l (Some z)) → ⊥) → Beyond D (λ l z. V l (Some z)) [] rest why → IsWithinAll V None → Stopped (optional D) V F rest why (length rest)
+pub full : {A : Type 0} {D : Lang A} {V : Bound (Option A)} {F : Follow} {rest : Tokens} (why : Why)
+    → (F (head rest) → ⊥) →
+    ((z : A) (us r : Tokens) → D z us → head (us ++ r) ≡ head rest → Counts why (λ l. V l (Some z)) → ⊥)
+    → Beyond D (λ l z. V l (Some z)) [] rest why → IsWithinAll V None
+    → Stopped (optional D) V F rest why (length rest)
 full {A} {D} {V} {F} {rest} why goes_on none beyond v = record {
   before = [];
   rest = rest;

@@ -24,10 +24,18 @@ at_most Levels e k = λ q. cc
 at_most Params e k = λ q. cc
 
 whole_along : (ts : Tokens) → Along whole_expression (at_level 0) KeepsDepth (AtMostMarks 256) ts (λ e. e)
-whole_along ts = record { intro = λ e us d. d; cases = λ y us r d h. (y, refl, d); to = λ e us d l v. keeps l e v; from = λ e us d l k. at_most l e k }
+whole_along ts = record {
+  intro = λ e us d. d;
+  cases = λ y us r d h. (y, refl, d);
+  to =
+      λ e us d l v. keeps l e v;
+  from = λ e us d l k. at_most l e k;
+}
 
-pub whole_took : (ts rest : Tokens) (e : Expression) → Took (at_level 0) (AtMostMarks 256) (Ends 0) ts e rest → Took whole_expression KeepsDepth (Ends 0) ts e rest
+pub whole_took : (ts rest : Tokens) (e : Expression) → Took (at_level 0) (AtMostMarks 256) (Ends 0) ts e rest
+    → Took whole_expression KeepsDepth (Ends 0) ts e rest
 whole_took ts rest e t = took_as whole_expression (at_level 0) (λ e. e) (whole_along ts) t
 
-pub whole_failed : (ts : Tokens) (e : Fail) → Failed (at_level 0) (AtMostMarks 256) (Ends 0) ts e → Failed whole_expression KeepsDepth (Ends 0) ts e
+pub whole_failed : (ts : Tokens) (e : Fail) → Failed (at_level 0) (AtMostMarks 256) (Ends 0) ts e
+    → Failed whole_expression KeepsDepth (Ends 0) ts e
 whole_failed ts e f = failed_as whole_expression (at_level 0) (λ e. e) (whole_along ts) f

@@ -9,4 +9,5 @@ use Rattle.ae_tree.specs.Grammar.{level, sign_of}
 -- no operator of level l or above, no `.` and no `[`
 abbrev pub Ends : ℕ → Option Lexeme → Type 0
 Ends l None = Unit {0}
-Ends l (Some t) = ((o : Op) → t.kind ≡ tok.Sign (sign_of o) → level o < l) × (t.kind ≢ tok.Sign sign.Dot) × (t.kind ≢ tok.Sign sign.OpenBracket)
+Ends l (Some t) = ((o : Op) → t.kind ≡ tok.Sign (sign_of o) → level o < l) × (t.kind ≢ tok.Sign sign.Dot)
+    × (t.kind ≢ tok.Sign sign.OpenBracket)

@@ -6,14 +6,15 @@ ghost use Rattle.ae_tree.specs.Grammar as grammar;
 ghost use Rattle.ae_tree.specs.Limits.{KeepsDepth, marks};
 ghost use Rattle.ae_reading.specs.Reads.{Reads, Always, Free};
 ghost use Rattle.ae_expressions.specs.Ends.{Ends};
-ghost use Rattle.ae_expressions.specs.Productions.{AtMostMarks, AtMostInside, Next, IsClosing, at_level, counted, enclosed, enclosed_shown, mark_kind, literal, operand};
+ghost use Rattle.ae_expressions.specs.Productions.{AtMostMarks, AtMostInside, Next, IsClosing, at_level, counted};
+ghost use Rattle.ae_expressions.specs.Productions.{enclosed, enclosed_shown, mark_kind, literal, operand};
 
 use crate::operators::operator;
 use crate::paths::{over, path};
 use crate::starts::{Mark, Start, start_of};
-use ae_tree::{Expr, Lexeme, Lexical, Op};
 use ae_reading::{Fail, expect_sign, expect_word, is_sign_next, next, unexpected};
 use ae_text::{Boxed, Keyword, Sign, Spot};
+use ae_tree::{Expr, Lexeme, Lexical, Op};
 use std::alloc::{AllocError, Global};
 
 /// How many tokens of a whole expression may count.
@@ -35,7 +36,8 @@ fn leaf(tree: Expr) -> Counted
 
 /// The expression of one token that this one is.
 fn literal_of(token: &Lexeme) -> Option<Expr>
-    ensures { MatchOption result ((y : Expression) → literal y (token.now ∷ []) → ⊥) (λ e. literal (shown.expression e) (token.now ∷ [])) }
+    ensures { MatchOption result ((y : Expression) → literal y (token.now ∷ []) → ⊥)
+        (λ e. literal (shown.expression e) (token.now ∷ [])) }
 {
     let at = token.at;
     match &token.kind {

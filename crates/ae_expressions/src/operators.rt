@@ -4,9 +4,9 @@ ghost use Rattle.ae_tree.specs.Grammar as grammar;
 ghost use Rattle.ae_expressions.specs.Productions as productions;
 ghost use Rattle.ae_expressions.specs.Productions.{NoOperator, IsOperator};
 
-use ae_tree::{Lexeme, Lexical, Op};
 use ae_reading::next;
 use ae_text::Sign;
+use ae_tree::{Lexeme, Lexical, Op};
 
 /// The operator that a sign is.
 fn operator_of(sign: Sign) -> Option<Op>

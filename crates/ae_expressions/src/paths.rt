@@ -4,9 +4,9 @@ ghost use Rattle.ae_tree.specs.Grammar as grammar;
 ghost use Rattle.ae_reading.specs.Reads.{Reads, itself, Always, Free, Isnt};
 ghost use Rattle.ae_expressions.specs.Productions.{IsShortPath};
 
-use ae_tree::{Lexeme, Lexical, Limit, NameAt, Path};
 use ae_reading::{Fail, Why, expect_sign, expect_word, is_sign_next, is_word_next, name};
 use ae_text::{Items, Keyword, Sign};
+use ae_tree::{Lexeme, Lexical, Limit, NameAt, Path};
 use std::alloc::Global;
 
 /// The number of `this` among the names.

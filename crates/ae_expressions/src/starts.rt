@@ -3,8 +3,8 @@ ghost use Rattle.std.specs.Prelude.{◌≡◌};
 ghost use Rattle.ae_expressions.specs.Productions as productions;
 ghost use Rattle.ae_expressions.specs.Productions.{StartIs};
 
-use ae_tree::Lexical;
 use ae_text::{Keyword, Sign};
+use ae_tree::Lexical;
 
 /// The forms whose first token counts.
 #[derive(Clone, Copy)]

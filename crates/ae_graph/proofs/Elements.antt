@@ -1,5 +1,6 @@
 -- Elements of lists.
-use Rattle.std.proofs.Common.{◌≡◌, ℕ, zero, suc, ◌+◌, ◌<◌, ◌⊎◌, inl, inr, Bool, true, false, ◌||◌, nat_eq, List, [], ◌∷◌, length, get_or, map, refl, sym, ap, ◌∙◌, subst, arith}
+use Rattle.std.proofs.Common.{◌≡◌, ℕ, zero, suc, ◌+◌, ◌<◌, ◌⊎◌, inl, inr, Bool, true, false, ◌||◌, nat_eq, List, []}
+use Rattle.std.proofs.Common.{◌∷◌, length, get_or, map, refl, sym, ap, ◌∙◌, subst, arith}
 use Rattle.std.proofs.Common.{cond}
 use Rattle.std.proofs.lemmas.List.Elements.{Contains-append_left, Contains-append_right, Contains-append_cases}
 use Rattle.std.specs.List.{Contains, filter, flat_map, list_any}
@@ -15,7 +16,8 @@ here x xs = (0, omega arith, refl)
 pub there : {X : Type 0} (x : X) (xs : List X) (y : X) → Contains xs y → Contains (x ∷ xs) y
 there x xs y h = (suc h.0, omega (arith, h.1), h.2)
 
-uncons_at : {X : Type 0} (x : X) (xs : List X) (y : X) (k : ℕ) → k < length (x ∷ xs) → get_or (x ∷ xs) k y ≡ y → (x ≡ y) ⊎ Contains xs y
+uncons_at : {X : Type 0} (x : X) (xs : List X) (y : X) (k : ℕ) → k < length (x ∷ xs) → get_or (x ∷ xs) k y ≡ y
+    → (x ≡ y) ⊎ Contains xs y
 uncons_at x xs y zero h e = inl e
 uncons_at x xs y (suc k) h e = inr (k, omega (arith, h), e)
 
@@ -31,7 +33,8 @@ in_map f (z ∷ xs) x h =
       | inr k ↦ there (f z) (map f xs) (f x) (in_map f xs x k)
     ]
 
-pub from_map : {X Y : Type 0} (f : X → Y) (xs : List X) (y : Y) → Contains (map f xs) y → (x : X) × Contains xs x × (f x ≡ y)
+pub from_map : {X Y : Type 0} (f : X → Y) (xs : List X) (y : Y) → Contains (map f xs) y → (x : X) × Contains xs x
+    × (f x ≡ y)
 from_map f [] y h = absurd (empty_has_nothing y h)
 from_map f (z ∷ xs) y h =
     elim (uncons (f z) (map f xs) y h) [
@@ -79,7 +82,8 @@ later_kept true z xs x h = there z xs x h
 later_kept false z xs x h = h
 
 -- an element that passes the test is kept
-pub in_filter : {X : Type 0} (t : X → Bool) (xs : List X) (x : X) → Contains xs x → t x ≡ true → Contains (filter t xs) x
+pub in_filter : {X : Type 0} (t : X → Bool) (xs : List X) (x : X) → Contains xs x → t x ≡ true
+    → Contains (filter t xs) x
 in_filter t [] x h e = absurd (empty_has_nothing x h)
 in_filter t (z ∷ xs) x h e =
     elim (uncons z xs x h) [
@@ -87,12 +91,14 @@ in_filter t (z ∷ xs) x h e =
       | inr k ↦ later_kept (t z) z (filter t xs) x (in_filter t xs x k e)
     ]
 
-first_or_later : {X : Type 0} (b : Bool) (z : X) (xs : List X) (x : X) → Contains (cond b (z ∷ xs) xs) x → ((b ≡ true) × (z ≡ x)) ⊎ Contains xs x
+first_or_later : {X : Type 0} (b : Bool) (z : X) (xs : List X) (x : X) → Contains (cond b (z ∷ xs) xs) x
+    → ((b ≡ true) × (z ≡ x)) ⊎ Contains xs x
 first_or_later true z xs x h = elim (uncons z xs x h) [ inl q ↦ inl (refl, q) | inr k ↦ inr k ]
 first_or_later false z xs x h = inr h
 
 -- what is kept was there, and passes the test
-pub from_filter : {X : Type 0} (t : X → Bool) (xs : List X) (x : X) → Contains (filter t xs) x → Contains xs x × (t x ≡ true)
+pub from_filter : {X : Type 0} (t : X → Bool) (xs : List X) (x : X) → Contains (filter t xs) x
+    → Contains xs x × (t x ≡ true)
 from_filter t [] x h = absurd (empty_has_nothing x h)
 from_filter t (z ∷ xs) x h =
     elim (first_or_later (t z) z (filter t xs) x h) [
@@ -100,7 +106,8 @@ from_filter t (z ∷ xs) x h =
       | inr k ↦ let r = from_filter t xs x k in (there z xs x r.0, r.1)
     ]
 
-pub in_flat_map : {X Y : Type 0} (f : X → List Y) (xs : List X) (x : X) (y : Y) → Contains xs x → Contains (f x) y → Contains (flat_map f xs) y
+pub in_flat_map : {X Y : Type 0} (f : X → List Y) (xs : List X) (x : X) (y : Y) → Contains xs x → Contains (f x) y
+    → Contains (flat_map f xs) y
 in_flat_map f [] x y h k = absurd (empty_has_nothing x h)
 in_flat_map f (z ∷ xs) x y h k =
     elim (uncons z xs x h) [
@@ -108,7 +115,8 @@ in_flat_map f (z ∷ xs) x y h k =
       | inr r ↦ Contains-append_right (f z) (flat_map f xs) y (in_flat_map f xs x y r k)
     ]
 
-pub from_flat_map : {X Y : Type 0} (f : X → List Y) (xs : List X) (y : Y) → Contains (flat_map f xs) y → (x : X) × Contains xs x × Contains (f x) y
+pub from_flat_map : {X Y : Type 0} (f : X → List Y) (xs : List X) (y : Y) → Contains (flat_map f xs) y
+    → (x : X) × Contains xs x × Contains (f x) y
 from_flat_map f [] y h = absurd (empty_has_nothing y h)
 from_flat_map f (z ∷ xs) y h =
     elim (Contains-append_cases (f z) (flat_map f xs) y h) [

@@ -1,5 +1,6 @@
 -- Blocks and statements by their numbers.
-use Rattle.std.proofs.Common.{◌≡◌, ◌≢◌, ℕ, zero, suc, nat_eq, if◌then◌else◌, List, [], ◌∷◌, map, Option, None, Some, refl, sym, ap, ◌∙◌, arith}
+use Rattle.std.proofs.Common.{◌≡◌, ◌≢◌, ℕ, zero, suc, nat_eq, if◌then◌else◌, List, [], ◌∷◌, map, Option, None, Some}
+use Rattle.std.proofs.Common.{refl, sym, ap, ◌∙◌, arith}
 use Rattle.std.proofs.Common.{Bor}
 use Rattle.std.specs.List.{slice_get}
 use Rattle.std.specs.Option.{option_copied, MatchOption}
@@ -28,10 +29,12 @@ same_number x y n b e f = grind (arith, nat_tests)
 other_number : (x y n : ℕ) (b : Lines) → x ≡ y → y ≢ n → (if nat_eq x n then Some b else None) ≡ None
 other_number x y n b e f = grind (arith, nat_tests)
 
-pub block_found : (ms : List Method) (m n : ℕ) (d : Method) → Some d ≡ slice_get ms m → (out-Block d.body).no ≡ n → block_in (map definition ms) m n ≡ Some (braced d.body).lines
+pub block_found : (ms : List Method) (m n : ℕ) (d : Method) → Some d ≡ slice_get ms m → (out-Block d.body).no ≡ n
+    → block_in (map definition ms) m n ≡ Some (braced d.body).lines
 block_found ms m n d e f = block_in-get ms m n ∙ ap (λ o. body_if o n) (sym e) ∙ same_number _ _ n _ (no-out d.body) f
 
-pub block_other : (ms : List Method) (m n : ℕ) (d : Method) → Some d ≡ slice_get ms m → (out-Block d.body).no ≢ n → block_in (map definition ms) m n ≡ None
+pub block_other : (ms : List Method) (m n : ℕ) (d : Method) → Some d ≡ slice_get ms m → (out-Block d.body).no ≢ n
+    → block_in (map definition ms) m n ≡ None
 block_other ms m n d e f = block_in-get ms m n ∙ ap (λ o. body_if o n) (sym e) ∙ other_number _ _ n _ (no-out d.body) f
 
 pub block_lost : (ms : List Method) (m n : ℕ) → None ≡ slice_get ms m → block_in (map definition ms) m n ≡ None
@@ -48,10 +51,13 @@ statement_at-get [] i = refl
 statement_at-get (x ∷ xs) zero = refl
 statement_at-get (x ∷ xs) (suc i) = statement_at-get xs i
 
-pub statement_found : (b : Block) (i : ℕ) (o : Option Stmt) → o ≡ slice_get (out-Block b).stmts i → statement_at (braced b).lines i ≡ action_if o
-statement_found b i o e = ap (λ l. statement_at l i) (lines-out b) ∙ statement_at-get (out-Block b).stmts i ∙ ap action_if (sym e)
+pub statement_found : (b : Block) (i : ℕ) (o : Option Stmt) → o ≡ slice_get (out-Block b).stmts i
+    → statement_at (braced b).lines i ≡ action_if o
+statement_found b i o e = ap (λ l. statement_at l i) (lines-out b) ∙ statement_at-get (out-Block b).stmts i
+    ∙ ap action_if (sym e)
 
 pub statement_told : (b : Block) (i : ℕ) (r : Option (Bor Stmt)) → option_copied r ≡ slice_get (out-Block b).stmts i
-    → MatchOption r (statement_at (braced b).lines i ≡ None) (λ s. statement_at (braced b).lines i ≡ Some (action s.now.kind))
+    → MatchOption r (statement_at (braced b).lines i ≡ None)
+    (λ s. statement_at (braced b).lines i ≡ Some (action s.now.kind))
 statement_told b i None e = statement_found b i None e
 statement_told b i (Some s) e = statement_found b i (Some s.now) e

@@ -3,7 +3,8 @@ use Rattle.std.proofs.Common.{◌≡◌, ℕ, Bool, true, false, ◌||◌, nat_e
 use Rattle.std.proofs.lemmas.List.Folds.{list_any-append}
 use Rattle.ae_rules.specs.declared.uses.Mode.{Mode}
 use Rattle.ae_rules.specs.declared.uses.Mode.TheVariants as mode
-use Rattle.ae_tree.specs.Plain.{Expression, Number, Truth, Nothing, Read, Item, Length, Grouped, Negated, Minus, Binary, RightSide, Value, Taken, Zeros, Made, Returned}
+use Rattle.ae_tree.specs.Plain.{Expression, Number, Truth, Nothing, Read, Item, Length, Grouped, Negated, Minus}
+use Rattle.ae_tree.specs.Plain.{Binary, RightSide, Value, Taken, Zeros, Made, Returned}
 use Rattle.ae_tree.specs.Plain.{Action, Declares, Assigns, Prints}
 use Rattle.ae_rules.specs.BuiltUses.{reads_local, reads_right, read_if, local_mode}
 use Rattle.ae_graph.specs.Footprint.{names_in, names_right, read_by, written_by, is_written}

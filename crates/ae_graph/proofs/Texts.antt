@@ -1,5 +1,6 @@
 -- The texts of graphs, one after another.
-use Rattle.std.proofs.Common.{◌≡◌, ℕ, suc, ◌+◌, ◌<◌, List, [], ◌∷◌, ◌++◌, length, get_or, take, map, refl, sym, ap, ◌∙◌, subst, arith, append_assoc, add-zero, zero-add}
+use Rattle.std.proofs.Common.{◌≡◌, ℕ, suc, ◌+◌, ◌<◌, List, [], ◌∷◌, ◌++◌, length, get_or, take, map, refl, sym, ap}
+use Rattle.std.proofs.Common.{◌∙◌, subst, arith, append_assoc, add-zero, zero-add}
 use Rattle.std.proofs.lemmas.List.{append-nil, take_more, map-append}
 use Rattle.std.proofs.lemmas.Grind.{common_steps}
 use Rattle.std.specs.Fmt.{decimal}
@@ -12,9 +13,11 @@ use Rattle.ae_graph.proofs.Rows.{length_taken}
 
 spaced-push : (xs : List ℕ) (x : ℕ) → spaced (xs ++ x ∷ []) ≡ spaced xs ++ 32 ∷ decimal x
 spaced-push [] x = append-nil (32 ∷ decimal x)
-spaced-push (y ∷ xs) x = ap (λ t. 32 ∷ decimal y ++ t) (spaced-push xs x) ∙ sym (append_assoc (32 ∷ decimal y) (spaced xs) (32 ∷ decimal x))
+spaced-push (y ∷ xs) x = ap (λ t. 32 ∷ decimal y ++ t) (spaced-push xs x)
+    ∙ sym (append_assoc (32 ∷ decimal y) (spaced xs) (32 ∷ decimal x))
 
-pub spaced_more : (old now new xs : List ℕ) (i : ℕ) → i < length xs → now ≡ old ++ spaced (take i xs) → new ≡ now ++ 32 ∷ decimal (get_or xs i 0) → new ≡ old ++ spaced (take (i + 1) xs)
+pub spaced_more : (old now new xs : List ℕ) (i : ℕ) → i < length xs → now ≡ old ++ spaced (take i xs)
+    → new ≡ now ++ 32 ∷ decimal (get_or xs i 0) → new ≡ old ++ spaced (take (i + 1) xs)
 spaced_more old now new xs i h e f =
     let x = get_or xs i 0 in
     f ∙ ap (λ (t : List ℕ). t ++ 32 ∷ decimal (get_or xs i 0)) e
@@ -22,7 +25,8 @@ spaced_more old now new xs i h e f =
     ∙ ap (λ t. old ++ t) (sym (spaced-push (take i xs) (get_or xs i 0)))
     ∙ ap (λ (l : List ℕ). old ++ spaced l) (sym (take_more xs i 0 h))
 
-lines_text-push : (j : ℕ) (g : Graph) (row : List ℕ) → lines_text j (g ++ row ∷ []) ≡ lines_text j g ++ line_text (j + length g) row
+lines_text-push : (j : ℕ) (g : Graph) (row : List ℕ) → lines_text j (g ++ row ∷ []) ≡ lines_text j g
+    ++ line_text (j + length g) row
 lines_text-push j [] row = append-nil (line_text j row) ∙ ap (λ n. line_text n row) (sym (add-zero j))
 lines_text-push j (p ∷ g) row =
     ap (λ t. line_text j p ++ t) (lines_text-push (j + 1) g row)
@@ -32,7 +36,8 @@ lines_text-push j (p ∷ g) row =
     next_length : (j n : ℕ) → j + 1 + n ≡ j + suc n
     next_length j n = omega arith
 
-pub lines_more : (old now new : List ℕ) (g : Graph) (i : ℕ) (row : List ℕ) → i < length g → row ≡ get_or g i row → now ≡ old ++ lines_text 0 (take i g) → new ≡ now ++ line_text i row
+pub lines_more : (old now new : List ℕ) (g : Graph) (i : ℕ) (row : List ℕ) → i < length g → row ≡ get_or g i row
+    → now ≡ old ++ lines_text 0 (take i g) → new ≡ now ++ line_text i row
     → new ≡ old ++ lines_text 0 (take (i + 1) g)
 lines_more old now new g i row h r e f =
     let n : 0 + length (take i g) ≡ i = zero-add (length (take i g)) ∙ length_taken g i h in
@@ -43,16 +48,32 @@ lines_more old now new g i row h r e f =
     ∙ ap (λ (x : List ℕ). old ++ lines_text 0 (take i g ++ x ∷ [])) r
     ∙ ap (λ (x : Graph). old ++ lines_text 0 x) (sym (take_more g i row h))
 
-texts_push : (names : List (List ℕ)) (ms : List Definition) (m : Definition) (now new : List ℕ) → AreMethodTexts names ms now → PutsMethod names m now new → AreMethodTexts names (ms ++ m ∷ []) new
-texts_push names [] m now new e p =
-    (p.0, [], p.1, refl, p.2 ∙ ap (λ (t : List ℕ). t ++ method_text names m p.0) e ∙ sym (append-nil (method_text names m p.0)))
+texts_push : (names : List (List ℕ)) (ms : List Definition) (m : Definition) (now new : List ℕ)
+    → AreMethodTexts names ms now → PutsMethod names m now new → AreMethodTexts names (ms ++ m ∷ []) new
+texts_push names [] m now new e p = (
+  p.0,
+  [],
+  p.1,
+  refl,
+  p.2 ∙ ap (λ (t : List ℕ). t ++ method_text names m p.0) e
+      ∙ sym (append-nil (method_text names m p.0)),
+)
 texts_push names (d ∷ ms) m now new (g, rest, is, more, e) p =
-    let r = texts_push names ms m rest (rest ++ method_text names m p.0) more (p.0, p.1, refl) in
-    (g, rest ++ method_text names m p.0, is, r, p.2 ∙ ap (λ (t : List ℕ). t ++ method_text names m p.0) e ∙ append_assoc (method_text names d g) rest (method_text names m p.0))
+    let r = texts_push names ms m rest (rest ++ method_text names m p.0) more (p.0, p.1, refl) in (
+      g,
+      rest ++ method_text names m p.0,
+      is,
+      r,
+      p.2 ∙ ap (λ (t : List ℕ). t ++ method_text names m p.0) e
+          ∙ append_assoc (method_text names d g) rest (method_text names m p.0),
+    )
 
-pub texts_more : (names : List (List ℕ)) (ms : List Method) (i : ℕ) (m : Method) (now new : List ℕ) → i < length ms → m ≡ get_or ms i m → AreMethodTexts names (map definition (take i ms)) now
+pub texts_more : (names : List (List ℕ)) (ms : List Method) (i : ℕ) (m : Method) (now new : List ℕ) → i < length ms
+    → m ≡ get_or ms i m → AreMethodTexts names (map definition (take i ms)) now
     → PutsMethod names (definition m) now new → AreMethodTexts names (map definition (take (i + 1) ms)) new
 texts_more names ms i m now new h r a p =
     let e : map definition (take i ms) ++ definition m ∷ [] ≡ map definition (take (i + 1) ms) =
-    sym (map-append definition (take i ms) (m ∷ [])) ∙ ap (λ (x : Method). map definition (take i ms ++ x ∷ [])) r ∙ ap (map definition) (sym (take_more ms i m h)) in
-    subst (λ (ds : List Definition). AreMethodTexts names ds new) e (texts_push names (map definition (take i ms)) (definition m) now new a p)
+    sym (map-append definition (take i ms) (m ∷ [])) ∙ ap (λ (x : Method). map definition (take i ms ++ x ∷ [])) r
+    ∙ ap (map definition) (sym (take_more ms i m h)) in
+    subst (λ (ds : List Definition). AreMethodTexts names ds new) e
+    (texts_push names (map definition (take i ms)) (definition m) now new a p)

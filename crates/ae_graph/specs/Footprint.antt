@@ -1,12 +1,14 @@
 -- What a statement uses, as a list.
-use Rattle.std.specs.Prelude.{◌≡◌, ◌<◌, ◌↔◌, ℕ, nat_eq, Bool, false, ◌++◌, if◌then◌else◌, List, [], ◌∷◌, Option, None, Some, Contains, map}
+use Rattle.std.specs.Prelude.{◌≡◌, ◌<◌, ◌↔◌, ℕ, nat_eq, Bool, false, ◌++◌, if◌then◌else◌, List, [], ◌∷◌, Option}
+use Rattle.std.specs.Prelude.{None, Some, Contains, map}
 use Rattle.std.specs.Option.{option_to_list}
 use Rattle.ae_tree.specs.declared.tree.StmtAt.{StmtAt}
 use Rattle.ae_rules.specs.declared.uses.Resource.{Resource}
 use Rattle.ae_rules.specs.declared.uses.Resource.TheVariants.{Local, Group}
 use Rattle.ae_rules.specs.declared.uses.Mode.TheVariants as mode
 use Rattle.ae_rules.specs.declared.uses.Use.{Use}
-use Rattle.ae_tree.specs.Plain.{Expression, Number, Truth, Nothing, Read, Item, Length, Grouped, Negated, Minus, Binary, RightSide, Value, Taken, Zeros, Made, Returned, Lines, Code}
+use Rattle.ae_tree.specs.Plain.{Expression, Number, Truth, Nothing, Read, Item, Length, Grouped, Negated, Minus}
+use Rattle.ae_tree.specs.Plain.{Binary, RightSide, Value, Taken, Zeros, Made, Returned, Lines, Code}
 use Rattle.ae_tree.specs.Plain.{Action, Declares, Assigns, Prints}
 use Rattle.ae_tree.specs.Names.{io}
 use Rattle.ae_rules.specs.BuiltUses.{use_of, statement_at, block_of}

@@ -1,5 +1,6 @@
 -- The graph of a block as a list: for each statement, the numbers of those for which it waits.
-use Rattle.std.specs.Prelude.{◌≡◌, ◌<◌, ◌+◌, ◌++◌, ◌↔◌, ℕ, nat_eq, Bool, List, [], ◌∷◌, length, slice_index_or, Option, None, Some, Contains, map}
+use Rattle.std.specs.Prelude.{◌≡◌, ◌<◌, ◌+◌, ◌++◌, ◌↔◌, ℕ, nat_eq, Bool, List, [], ◌∷◌, length, slice_index_or}
+use Rattle.std.specs.Prelude.{Option, None, Some, Contains, map}
 use Rattle.ae_text.specs.declared.refusal.Edge.{Edge}
 use Rattle.ae_tree.specs.Plain.{Lines}
 use Rattle.ae_tree.specs.Limits.{statement_count}

@@ -23,7 +23,8 @@ lines_text j [] = []
 lines_text j (preds ∷ g) = line_text j preds ++ lines_text (j + 1) g
 
 abbrev pub block_text : ℕ → Graph → List ℕ
-block_text number g = codes "block " ++ decimal number ++ codes " has " ++ decimal (length g) ++ codes "\n" ++ lines_text 0 g
+block_text number g = codes "block " ++ decimal number ++ codes " has " ++ decimal (length g) ++ codes "\n"
+    ++ lines_text 0 g
 
 abbrev pub method_text : List (List ℕ) → Definition → Graph → List ℕ
 method_text names m g = codes "method " ++ written_name names m.name.name ++ codes "\n" ++ block_text m.no g
@@ -31,7 +32,8 @@ method_text names m g = codes "method " ++ written_name names m.name.name ++ cod
 -- the texts of methods, one after another, each with the graph of its body
 abbrev pub AreMethodTexts : List (List ℕ) → List Definition → List ℕ → Type 0
 AreMethodTexts names [] text = text ≡ []
-AreMethodTexts names (m ∷ ms) text = (g : Graph) × (rest : List ℕ) × IsGraph (Some m.body) g × AreMethodTexts names ms rest × (text ≡ method_text names m g ++ rest)
+AreMethodTexts names (m ∷ ms) text = (g : Graph) × (rest : List ℕ) × IsGraph (Some m.body) g
+    × AreMethodTexts names ms rest × (text ≡ method_text names m g ++ rest)
 
 -- the text of the graphs of a program whose methods have one block each
 abbrev pub IsGraphText : Code → List ℕ → Type 0

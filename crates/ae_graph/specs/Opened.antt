@@ -1,5 +1,6 @@
 -- The uses of a resource for which a later use may wait: the last one that shuts out every other, and those after it.
-use Rattle.std.specs.Prelude.{ℕ, zero, suc, nat_eq, Bool, false, not, if◌then◌else◌, List, [], ◌∷◌, ◌++◌, Option, None, Some, map}
+use Rattle.std.specs.Prelude.{ℕ, zero, suc, nat_eq, Bool, false, not, if◌then◌else◌, List, [], ◌∷◌, ◌++◌, Option}
+use Rattle.std.specs.Prelude.{None, Some, map}
 use Rattle.std.specs.List.{filter, flat_map}
 use Rattle.std.specs.HashMap.{HashMap, get}
 use Rattle.ae_rules.specs.declared.uses.Resource.{Resource}
@@ -47,7 +48,8 @@ is_same (Group g) (Group h) = nat_eq g h
 -- what is kept of a resource after the uses of statement j
 abbrev pub after_uses : ℕ → Resource → List Past → List Use → List Past
 after_uses j r ps [] = ps
-after_uses j r ps (u ∷ us) = after_uses j r (if is_same u.what r then added ps (record { stmt = j; mode = u.mode }) else ps) us
+after_uses j r ps (u ∷ us) = after_uses j r
+    (if is_same u.what r then added ps (record { stmt = j; mode = u.mode }) else ps) us
 
 -- the statements for which a use in this mode waits
 abbrev pub waited : Mode → List Past → List ℕ

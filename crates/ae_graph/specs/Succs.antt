@@ -1,5 +1,6 @@
 -- How those that wait for a statement are gathered.
-use Rattle.std.specs.Prelude.{◌≡◌, ◌<◌, ◌++◌, ℕ, nat_eq, Bool, if◌then◌else◌, List, [], ◌∷◌, length, slice_index_or, All}
+use Rattle.std.specs.Prelude.{◌≡◌, ◌<◌, ◌++◌, ℕ, nat_eq, Bool, if◌then◌else◌, List, [], ◌∷◌, length, slice_index_or}
+use Rattle.std.specs.Prelude.{All}
 use Rattle.std.specs.List.{list_any}
 use Rattle.ae_rules.specs.Edges.{IsRising}
 use Rattle.ae_graph.specs.Graph.{Graph, preds_in}

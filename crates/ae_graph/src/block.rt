@@ -9,8 +9,8 @@ ghost use Rattle.ae_graph.specs.Graph.{IsGraph, AreSuccs, preds_in, edges_from, 
 use crate::preds::preds_of;
 use crate::succs::{edges_of, succs_of};
 use crate::uses::block_at;
-use ae_tree::{Block, Program, Stmt};
 use ae_text::{Edge, Items, Memory};
+use ae_tree::{Block, Program, Stmt};
 use std::alloc::{AllocError, Global};
 use std::marker::Model;
 

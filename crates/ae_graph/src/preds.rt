@@ -5,8 +5,8 @@ ghost use Rattle.ae_graph.specs.Graph.{IsGraph};
 
 use crate::uses::statement_uses;
 use crate::waits::OpenUses;
-use ae_tree::Stmt;
 use ae_text::Items;
+use ae_tree::Stmt;
 use std::alloc::{AllocError, Global};
 
 // For each statement those for which it waits, in rising order.

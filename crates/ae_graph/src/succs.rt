@@ -1,5 +1,6 @@
 // The edges of a block the other way round, and as a list.
-ghost use Rattle.std.specs.Prelude.{◌≡◌, ◌<◌, ◌^◌, ◌++◌, [], ◌∷◌, ℕ, List, length, slice_index_or, vec_len, IfOk, OnOk, All};
+ghost use Rattle.std.specs.Prelude.{◌≡◌, ◌<◌, ◌^◌, ◌++◌, [], ◌∷◌, ℕ, List, length, slice_index_or, vec_len, IfOk};
+ghost use Rattle.std.specs.Prelude.{OnOk, All};
 ghost use Rattle.ae_rules.specs.Edges.{IsRising};
 ghost use Rattle.ae_graph.specs.Graph.{AreAllSuccs, edges_to, edges_from};
 ghost use Rattle.ae_graph.specs.Succs.{AreEarlier, JoinsWaiters};

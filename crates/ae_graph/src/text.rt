@@ -5,11 +5,12 @@ ghost use Rattle.ae_tree.specs.Shown.{definition, code};
 ghost use Rattle.ae_tree.specs.Limits.{statement_count, Within};
 ghost use Rattle.ae_tree.specs.Judgement.{Accepted};
 ghost use Rattle.ae_graph.specs.Graph.{Graph, IsGraph};
-ghost use Rattle.ae_graph.specs.GraphText.{written_name, spaced, line_text, lines_text, block_text, method_text, IsGraphText, PutsMethod};
+ghost use Rattle.ae_graph.specs.GraphText.{written_name, spaced, line_text, lines_text, block_text, method_text};
+ghost use Rattle.ae_graph.specs.GraphText.{IsGraphText, PutsMethod};
 
 use crate::block::{BlockGraph, block_graph};
-use ae_tree::{Method, Name, Program};
 use ae_text::{Items, Memory};
+use ae_tree::{Method, Name, Program};
 use std::alloc::{AllocError, Global};
 
 fn spelling_of(names: &[Items<u8>], name: Name) -> &[u8]
@@ -75,7 +76,8 @@ fn put_block_head(
     number: u32,
     count: usize,
 ) -> Result<(), AllocError>
-    ensures { OnOk result (text.new.items ≡ text.old.items ++ (codes "block " ++ decimal number ++ codes " has " ++ decimal statement_count ++ codes "\n")) }
+    ensures { OnOk result (text.new.items ≡ text.old.items
+        ++ (codes "block " ++ decimal number ++ codes " has " ++ decimal statement_count ++ codes "\n")) }
 {
     let head = format!(in alloc; "block {number} has {count}\n")?;
     text.extend_from_slice(head.as_bytes())
@@ -97,7 +99,8 @@ fn put_block(
 
 #[tactic(auto, using(crate::proofs::Rules::forms))]
 fn put_name(text: &mut Vec<u8>, names: &[Items<u8>], name: Name) -> Result<(), AllocError>
-    ensures { OnOk result (text.new.items ≡ text.old.items ++ (codes "method " ++ written_name names.now name ++ codes "\n")) }
+    ensures { OnOk result (text.new.items ≡ text.old.items
+        ++ (codes "method " ++ written_name names.now name ++ codes "\n")) }
 {
     text.extend_from_slice(b"method ")?;
     text.extend_from_slice(spelling_of(names, name))?;

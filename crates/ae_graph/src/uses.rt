@@ -5,12 +5,13 @@ ghost use Rattle.ae_tree.specs.Shown.{expression, right_side, action, braced, co
 ghost use Rattle.ae_tree.specs.Judgement.{Accepted};
 ghost use Rattle.ae_rules.specs.BuiltUses.{block_of, statement_at};
 ghost use Rattle.ae_rules.specs.Edges.{are_compatible};
-ghost use Rattle.ae_graph.specs.Footprint.{HasFootprint, IsFootprint, statement_of, names_in, names_right, read_by, written_by, is_written, local_use, AreLocalUses, group_uses};
+ghost use Rattle.ae_graph.specs.Footprint.{HasFootprint, IsFootprint, statement_of, names_in, names_right, read_by};
+ghost use Rattle.ae_graph.specs.Footprint.{written_by, is_written, local_use, AreLocalUses, group_uses};
 
 use crate::rising::rising;
 use ae_rules::{Footprint, Mode, Resource, Use};
-use ae_tree::{Block, Expr, Name, Program, Rhs, Stmt, StmtAt, StmtKind};
 use ae_text::{Items, Memory};
+use ae_tree::{Block, Expr, Name, Program, Rhs, Stmt, StmtAt, StmtKind};
 use std::alloc::{AllocError, Global};
 
 const IO: Name = 0;
@@ -153,7 +154,8 @@ pub fn statement_uses(alloc: Global, stmt: &Stmt) -> Result<Footprint, AllocErro
 // The block with this number in the method with this number.
 #[tactic(auto, using(crate::proofs::Rules::forms))]
 pub fn block_at(program: &Program, method: u32, block: u32) -> Option<&Block>
-    ensures { MatchOption result (block_of (code program.now) method block ≡ None) (λ b. block_of (code program.now) method block ≡ Some (braced b.now).lines) }
+    ensures { MatchOption result (block_of (code program.now) method block ≡ None)
+        (λ b. block_of (code program.now) method block ≡ Some (braced b.now).lines) }
 {
     match program.methods.get(method as usize) {
         Some(method) if method.body.no == block => Some(&method.body),
@@ -163,7 +165,8 @@ pub fn block_at(program: &Program, method: u32, block: u32) -> Option<&Block>
 
 // The statement with this number in a block.
 fn statement_in(block: &Block, at: u32) -> Option<&Stmt>
-    ensures { MatchOption result (statement_at (braced block.now).lines at ≡ None) (λ s. statement_at (braced block.now).lines at ≡ Some (action s.now.kind)) }
+    ensures { MatchOption result (statement_at (braced block.now).lines at ≡ None)
+        (λ s. statement_at (braced block.now).lines at ≡ Some (action s.now.kind)) }
 {
     block.stmts.get(at as usize)
 }

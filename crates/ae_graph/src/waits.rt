@@ -8,8 +8,8 @@ ghost use Rattle.ae_graph.specs.Opened.{kept, kept_of, added, is_same, after_use
 use crate::rising::rising;
 use crate::uses::compatible;
 use ae_rules::{Mode, Resource, Use};
-use ae_tree::Name;
 use ae_text::Items;
+use ae_tree::Name;
 use std::alloc::{AllocError, Global};
 use std::collections::HashMap;
 
@@ -53,7 +53,8 @@ fn put_name(
     name: Name,
     one: Past,
 ) -> Result<(), AllocError>
-    ensures { OnOk result ((y : ℕ) → kept names.new y ≡ (if nat_eq name y then added (kept names.old y) one else kept names.old y)) }
+    ensures { OnOk result ((y : ℕ)
+        → kept names.new y ≡ (if nat_eq name y then added (kept names.old y) one else kept names.old y)) }
 {
     let past = match names.remove(&name) {
         Some(past) => past,
@@ -111,7 +112,8 @@ impl OpenUses {
     }
 
     fn put(&mut self, alloc: Global, what: Resource, one: Past) -> Result<(), AllocError>
-        ensures { OnOk result ((r : Resource) → kept_of self.new r ≡ (if is_same what r then added (kept_of self.old r) one else kept_of self.old r)) }
+        ensures { OnOk result ((r : Resource)
+            → kept_of self.new r ≡ (if is_same what r then added (kept_of self.old r) one else kept_of self.old r)) }
     {
         match what {
             Resource::Local(name) => put_name(alloc, &mut self.locals, name, one),

@@ -39,17 +39,21 @@ all_not_this (k ∷ ks) c = (can_not_this k c.0, all_not_this ks c.1)
 text_not_this : (text : Text) (tokens : List Token) → Lexes text tokens → Every NotThis (map (λ x. x.kind) tokens)
 text_not_this text tokens l =
     let same : map (λ (x : Token). x.kind) tokens ≡ kinds_in l.pieces ++ t.End ∷ [] =
-    ap (map (λ (x : Token). x.kind)) l.are ∙ map-append (λ (x : Token). x.kind) (tokens_from text 0 l.pieces) (end_token text ∷ [])
+    ap (map (λ (x : Token). x.kind)) l.are ∙ map-append (λ (x : Token). x.kind) (tokens_from text 0 l.pieces)
+    (end_token text ∷ [])
     ∙ ap (λ ks. ks ++ t.End ∷ []) (tokens_kinds text 0 l.pieces) in
     let P : List TokenKind → Type 0 = Every NotThis in
     subst P (sym same) (all_not_this (kinds_in l.pieces) (source_can text (kinds_in l.pieces) (tokens, l, same)))
 
 -- the tokens of a program are those of its layout, and the end
-pub tokens_of_layout : (text : Text) (tokens : List Token) (p : Code) → Lexes text tokens → Derives tokens p → map (λ x. x.kind) tokens ≡ kinds_of (program_rows p) ++ t.End ∷ []
+pub tokens_of_layout : (text : Text) (tokens : List Token) (p : Code) → Lexes text tokens → Derives tokens p
+    → map (λ x. x.kind) tokens ≡ kinds_of (program_rows p) ++ t.End ∷ []
 tokens_of_layout text tokens p l d =
     let P : Spellings → Type 0 = λ names. Clean (numbered names tokens) in
-    let clean : Clean (numbered p.names tokens) = subst P (sym d.names) (clean_names tokens (text_not_this text tokens l)) in
-    sym (shown_again tokens) ∙ ap (λ names. shown names (numbered names tokens)) (sym d.names) ∙ program_puts tokens p d clean
+    let clean : Clean (numbered p.names tokens) = subst P (sym d.names)
+    (clean_names tokens (text_not_this text tokens l)) in
+    sym (shown_again tokens) ∙ ap (λ names. shown names (numbered names tokens)) (sym d.names)
+    ∙ program_puts tokens p d clean
 
 -- the layout of a program is read as the program
 pub read_again : (text : Text) (tokens : List Token) (p : Code) → Lexes text tokens → Derives tokens p → ReadAgain p
@@ -57,4 +61,12 @@ read_again text tokens p l d =
     let kinds_are = tokens_of_layout text tokens p l d in
     let (again, lexes, same) = layout_again text p (tokens, l, kinds_are) in
     let q = moved_program tokens again p (kinds_are ∙ sym same) d in
-    record { tokens = again; program = q.program; lexes = lexes; derives = q.derives; same = q.same; within = within_same p q.program q.same }
+    record {
+      tokens = again;
+      program = q.program;
+      lexes = lexes;
+      derives = q.derives;
+      same = q.same;
+      within =
+          within_same p q.program q.same;
+    }

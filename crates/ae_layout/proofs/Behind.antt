@@ -1,15 +1,19 @@
 -- What may stand behind a token: it is then the longest spelling that begins where it begins, and no comment begins there.
-use Rattle.std.proofs.Common.{◌≡◌, ℕ, ◌<◌, Bool, true, false, not, ◌||◌, ◌==◌, IsTrue, ◌⊎◌, inl, inr, [], ◌∷◌, ◌++◌, refl, sym, ap, ◌∙◌, subst, lit<, arith, rules, tests}
+use Rattle.std.proofs.Common.{◌≡◌, ℕ, ◌<◌, Bool, true, false, not, ◌||◌, ◌==◌, IsTrue, ◌⊎◌, inl, inr, [], ◌∷◌, ◌++◌}
+use Rattle.std.proofs.Common.{refl, sym, ap, ◌∙◌, subst, lit<, arith, rules, tests}
 use Rattle.std.specs.Char.{is_ascii_alphabetic, is_ascii_alphanumeric}
 use Rattle.unicode_ident.proofs.IdentLemmas.{is_xid_continue-ascii}
 use Rattle.ae_text.specs.declared.token.Sign.{Sign}
 use Rattle.ae_text.specs.declared.token.Sign.TheVariants as sign
 use Rattle.ae_text.specs.declared.token.TokenKind.{TokenKind}
 use Rattle.ae_text.specs.declared.token.TokenKind.TheVariants as t
-use Rattle.ae_text.specs.Tokens.{Text, Stops, is_digit, begins_word, goes_on, sign_text, IsWord, IsNumber, IsQuoted, Spells, IsLongest, NoComment, IsInRange, IsToken}
-use Rattle.ae_layout.proofs.from_text.SpellingLemmas.{keyword_is_word, sign_first, signs_start, begins_ascii, NoDouble, single_longest, double_longest}
+use Rattle.ae_text.specs.Tokens.{Text, Stops, is_digit, begins_word, goes_on, sign_text, IsWord, IsNumber, IsQuoted}
+use Rattle.ae_text.specs.Tokens.{Spells, IsLongest, NoComment, IsInRange, IsToken}
+use Rattle.ae_layout.proofs.from_text.SpellingLemmas.{keyword_is_word, sign_first, signs_start, begins_ascii}
+use Rattle.ae_layout.proofs.from_text.SpellingLemmas.{NoDouble, single_longest, double_longest}
 use Rattle.ae_layout.proofs.from_text.QuoteLemmas.{quoted_longest, tail_is}
-use Rattle.ae_layout.proofs.from_text.LexLemmas.{spells_sign, spells_quote, longest_word, longest_number, longest_quoted}
+use Rattle.ae_layout.proofs.from_text.LexLemmas.{spells_sign, spells_quote, longest_word, longest_number}
+use Rattle.ae_layout.proofs.from_text.LexLemmas.{longest_quoted}
 use Rattle.ae_layout.specs.Rows.{goes_on_with, stay_apart}
 use Rattle.ae_layout.proofs.from_text.TextLemmas.{first_is, no_truth, not_both}
 
@@ -101,7 +105,8 @@ sign_lengthens sign.AndAnd = refl
 sign_lengthens sign.OrOr = refl
 
 abbrev Shape : Text → Type 0
-Shape s = ((b : ℕ) × (s ≡ b ∷ [])) ⊎ ((b : ℕ) × (c : ℕ) × (s ≡ b ∷ c ∷ []) × IsTrue (c == 61 || c == 62 || c == 38 || c == 124))
+Shape s = ((b : ℕ) × (s ≡ b ∷ []))
+    ⊎ ((b : ℕ) × (c : ℕ) × (s ≡ b ∷ c ∷ []) × IsTrue (c == 61 || c == 62 || c == 38 || c == 124))
 
 shape_of : (s : Text) → form s ≡ true → Shape s
 shape_of [] e = absurd (no_truth e)
@@ -113,7 +118,8 @@ second_lengthens : (c : ℕ) → IsTrue (c == 61 || c == 62 || c == 38 || c == 1
 second_lengthens c h = search (rules, tests)
 
 second_no_slash : (c : ℕ) → c ≡ 47 → IsTrue (c == 61 || c == 62 || c == 38 || c == 124) → ⊥
-second_no_slash c e h = let P : ℕ → Type 0 = λ x. IsTrue (x == 61 || x == 62 || x == 38 || x == 124) in no_truth (subst P e h)
+second_no_slash c e h = let P : ℕ → Type 0 = λ x. IsTrue (x == 61 || x == 62 || x == 38 || x == 124) in no_truth
+    (subst P e h)
 
 no_double : (first : ℕ) (rest : Text) → Stops lengthens rest → NoDouble first rest
 no_double first rest n = λ second r e g w.
@@ -128,7 +134,8 @@ sign_longest g rest n = λ k more after e h.
     let q = spells_sign k f.0 (f.1 ++ more) f.3 (subst P f.2 h) in
     by_shape q.0 more after e (ap (λ x. x ++ more) f.2 ∙ q.2) (shape_of (sign_text g) (sign_form g))
   where
-    by_shape : (h : Sign) (more after : Text) → rest ≡ more ++ after → sign_text g ++ more ≡ sign_text h → Shape (sign_text g) → more ≡ []
+    by_shape : (h : Sign) (more after : Text) → rest ≡ more ++ after → sign_text g ++ more ≡ sign_text h
+        → Shape (sign_text g) → more ≡ []
     by_shape h more after e w (inl p) = single_longest g p.0 rest p.1 (no_double p.0 rest n) h more after e w
     by_shape h more after e w (inr p) = double_longest g p.0 p.1 p.2 h more w
 
@@ -139,10 +146,11 @@ sign_no_comment g rest n = λ c e. by_shape c e (shape_of (sign_text g) (sign_fo
     by_shape c e (inl p) =
         let S : Text → Type 0 = Stops lengthens in
         let all : p.0 ∷ rest ≡ 47 ∷ 47 ∷ c = ap (λ x. x ++ rest) (sym p.1) ∙ e in
-        let slash : lengthens 47 ≡ false = subst S (tail_is p.0 47 rest (47 ∷ c) all) n in not_both (lengthens 47) refl slash
+        let slash : lengthens 47 ≡ false = subst S (tail_is p.0 47 rest (47 ∷ c) all) n in not_both
+        (lengthens 47) refl slash
     by_shape c e (inr p) =
-        let all : p.0 ∷ p.1 ∷ rest ≡ 47 ∷ 47 ∷ c = ap (λ x. x ++ rest) (sym p.2) ∙ e in
-        second_no_slash p.1 (second_is p.0 47 p.1 47 rest c all) p.3
+        let all : p.0 ∷ p.1 ∷ rest ≡ 47 ∷ 47 ∷ c = ap (λ x. x ++ rest) (sym p.2) ∙ e
+        in second_no_slash p.1 (second_is p.0 47 p.1 47 rest c all) p.3
 
 -- ---- words, numbers and texts
 
@@ -159,20 +167,36 @@ number_no_comment (b ∷ s) rest w = λ c e.
     no_truth (subst P (first_is b 47 (s ++ rest) (47 ∷ c) e) w.0)
 
 quote_no_comment : (bytes s rest : Text) → IsQuoted bytes s → NoComment (s ++ rest)
-quote_no_comment bytes s rest q = λ c e. let quote : 34 ≡ 47 = first_is 34 47 _ (47 ∷ c) (ap (λ x. x ++ rest) (sym q.whole) ∙ e) in omega (arith, quote)
+quote_no_comment bytes s rest q = λ c e. let quote : 34 ≡ 47 = first_is 34 47 _ (47 ∷ c)
+    (ap (λ x. x ++ rest) (sym q.whole) ∙ e) in omega (arith, quote)
 
 -- a spelling with the right text behind it is a token
 pub token_is : (k : TokenKind) (s rest : Text) → Spells k s → IsInRange k s → Ends k rest → IsToken k s rest
-token_is (t.Name b) s rest h r n = record { spells = h; longest = longest_word s rest h.1 n; no_comment = word_no_comment s rest h.1; in_range = r }
-token_is (t.Int m) s rest h r n = record { spells = h; longest = longest_number s rest h.0 n; no_comment = number_no_comment s rest h.0; in_range = r }
-token_is (t.Text b) s rest h r n = record { spells = h; longest = longest_quoted b s rest h; no_comment = quote_no_comment b s rest h; in_range = r }
+token_is (t.Name b) s rest h r n =
+    record { spells = h; longest = longest_word s rest h.1 n; no_comment = word_no_comment s rest h.1; in_range = r }
+token_is (t.Int m) s rest h r n =
+    record {
+      spells = h;
+      longest = longest_number s rest h.0 n;
+      no_comment = number_no_comment s rest h.0;
+      in_range =
+          r;
+    }
+token_is (t.Text b) s rest h r n =
+    record { spells = h; longest = longest_quoted b s rest h; no_comment = quote_no_comment b s rest h; in_range = r }
 token_is (t.Word w) s rest h r n =
     let P : Text → Type 0 = IsWord in
     let is : IsWord s = subst P (sym h) (keyword_is_word w) in
     record { spells = h; longest = longest_word s rest is n; no_comment = word_no_comment s rest is; in_range = r }
 token_is (t.Sign g) s rest h r n =
     let P : Text → Type 0 = λ x. IsToken (t.Sign g) x rest in
-    subst P (sym h) (record { spells = refl; longest = sign_longest g rest n; no_comment = sign_no_comment g rest n; in_range = tt })
+    subst P (sym h) (record {
+      spells = refl;
+      longest = sign_longest g rest n;
+      no_comment
+          = sign_no_comment g rest n;
+      in_range = tt;
+    })
 token_is t.End s rest h r n = absurd h
 
 -- ---- white space behind a token
@@ -226,10 +250,13 @@ digit_lengthens_none c h = false_by (lengthens c) (no_digit c h)
     no_digit c h w = search (rules, tests)
 
 -- a sign behind what stops at signs
-sign_stops : (p : ℕ → Bool) → ((c : ℕ) → IsTrue (signs_start c) → p c ≡ false) → (g : Sign) (s rest : Text) → s ≡ sign_text g → Stops p (s ++ rest)
-sign_stops p h g s rest e = let f = sign_first g in let P : Text → Type 0 = λ x. Stops p (x ++ rest) in subst P (sym (e ∙ f.2)) (h f.0 f.3)
+sign_stops : (p : ℕ → Bool) → ((c : ℕ) → IsTrue (signs_start c) → p c ≡ false) → (g : Sign) (s rest : Text)
+    → s ≡ sign_text g → Stops p (s ++ rest)
+sign_stops p h g s rest e = let f = sign_first g in let P : Text → Type 0 =
+    λ x. Stops p (x ++ rest) in subst P (sym (e ∙ f.2)) (h f.0 f.3)
 
-sign_behind_sign : (g : Sign) (s rest : Text) → IsTrue (not (goes_on_with g)) → s ≡ sign_text g → Stops lengthens (s ++ rest)
+sign_behind_sign : (g : Sign) (s rest : Text) → IsTrue (not (goes_on_with g)) → s ≡ sign_text g
+    → Stops lengthens (s ++ rest)
 sign_behind_sign g s rest n e =
     let f = sign_first g in
     let P : Text → Type 0 = λ x. Stops lengthens (x ++ rest) in
@@ -247,11 +274,14 @@ number_behind_sign : (s rest : Text) → IsNumber s → Stops lengthens (s ++ re
 number_behind_sign [] rest w = absurd w
 number_behind_sign (b ∷ s) rest w = digit_lengthens_none b w.0
 
-behind_sign : (h : TokenKind) (g : Sign) (s rest : Text) → IsTrue (stay_apart (t.Sign g) h) → Spells h s → Stops lengthens (s ++ rest)
+behind_sign : (h : TokenKind) (g : Sign) (s rest : Text) → IsTrue (stay_apart (t.Sign g) h) → Spells h s
+    → Stops lengthens (s ++ rest)
 behind_sign (t.Name b) g s rest p w = word_behind_sign s rest w.1
 behind_sign (t.Int n) g s rest p w = number_behind_sign s rest w.0
-behind_sign (t.Text b) g s rest p w = let P : Text → Type 0 = λ x. Stops lengthens (x ++ rest) in subst P (sym w.whole) refl
-behind_sign (t.Word k) g s rest p w = let P : Text → Type 0 = IsWord in word_behind_sign s rest (subst P (sym w) (keyword_is_word k))
+behind_sign (t.Text b) g s rest p w = let P : Text → Type 0 = λ x. Stops lengthens (x ++ rest) in subst P
+    (sym w.whole) refl
+behind_sign (t.Word k) g s rest p w = let P : Text
+    → Type 0 = IsWord in word_behind_sign s rest (subst P (sym w) (keyword_is_word k))
 behind_sign (t.Sign h) g s rest p w = sign_behind_sign h s rest p w
 behind_sign t.End g s rest p w = absurd w
 

@@ -6,10 +6,15 @@ use Rattle.ae_text.specs.declared.token.Sign.TheVariants as sign
 use Rattle.ae_tree.specs.declared.lexeme.Lexical.TheVariants as tok
 use Rattle.ae_tree.specs.declared.tree.Path.{Path}
 use Rattle.ae_tree.specs.Plain.{Expression, Lines, End, Next}
-use Rattle.ae_tree.specs.Plain.{Action, Declares, Assigns, Stores, StoresAt, Calls, Chooses, ChoosesElse, Repeats, Groups, Splits, Locks, Freezes, Shares, Prints, PrintsText, Asserts, Returns}
-use Rattle.ae_tree.specs.Grammar.{Tokens, ◌⨾◌, blocks_opened, opened_in, call_spot, in_braces, statement, statements, return_end, with_return, method_body}
-use Rattle.ae_layout.specs.Places.{nowhere, unplaced_name, unplaced_path, unplaced_expression, unplaced_action, unplaced_lines}
-use Rattle.ae_layout.proofs.Moved.{ap2, ap3, Lang, Moves, Moved, moves_then, moves_at, moves_mark, moves_sign, moves_word, no_tokens, not_empty, moved_name, moved_names, moved_path, moved_type, moved_whole, moved_call, moved_right}
+use Rattle.ae_tree.specs.Plain.{Action, Declares, Assigns, Stores, StoresAt, Calls, Chooses, ChoosesElse, Repeats}
+use Rattle.ae_tree.specs.Plain.{Groups, Splits, Locks, Freezes, Shares, Prints, PrintsText, Asserts, Returns}
+use Rattle.ae_tree.specs.Grammar.{Tokens, ◌⨾◌, blocks_opened, opened_in, call_spot, in_braces, statement, statements}
+use Rattle.ae_tree.specs.Grammar.{return_end, with_return, method_body}
+use Rattle.ae_layout.specs.Places.{nowhere, unplaced_name, unplaced_path, unplaced_expression, unplaced_action}
+use Rattle.ae_layout.specs.Places.{unplaced_lines}
+use Rattle.ae_layout.proofs.Moved.{ap2, ap3, Lang, Moves, Moved, moves_then, moves_at, moves_mark, moves_sign}
+use Rattle.ae_layout.proofs.Moved.{moves_word, no_tokens, not_empty, moved_name, moved_names, moved_path, moved_type}
+use Rattle.ae_layout.proofs.Moved.{moved_whole, moved_call, moved_right}
 
 -- ---- the numbers of blocks
 
@@ -46,7 +51,8 @@ same_opened_in a b e = sym (bare_opened_in a) ∙ ap opened_in (sym e) ∙ bare_
 
 -- ---- statements
 
-moves_braced : {A : Type 0} {p : Tokens → Type 0} {E : Lang A} {S : A → Type 0} → Moves p E S → Moves (in_braces p) (λ y. in_braces (E y)) S
+moves_braced : {A : Type 0} {p : Tokens → Type 0} {E : Lang A} {S : A → Type 0} → Moves p E S
+    → Moves (in_braces p) (λ y. in_braces (E y)) S
 moves_braced m us vs e d =
     let a = moves_then (moves_sign sign.OpenBrace) (moves_then m (moves_sign sign.CloseBrace)) us vs e d in
     record { y = a.y.1.0; is = a.is; same = a.same.1.0 }
@@ -70,52 +76,117 @@ still_steps p q e n = not_empty unplaced_name p.steps q.steps (ap (λ (r : Path)
 mutual
   pub moved_statement : (n : ℕ) (at : Spot) (x : Action) → MovesTo n (statement n at x) x
   moved_statement n at (Declares t x r) us vs e d =
-      let a = moves_then (moves_at (tok.Word word.Let) at) (moves_then (moved_type t) (moves_then (moved_name x) (moves_then (moves_sign sign.Assign) (moves_then (moved_right r) (moves_sign sign.Semicolon))))) us vs e d in
-      record { y = (a.y.0, Declares a.y.1.0 a.y.1.1.0 a.y.1.1.1.1.0); is = a.is; same = ap3 Declares a.same.1.0 a.same.1.1.0 a.same.1.1.1.1.0 }
+      let a = moves_then (moves_at (tok.Word word.Let) at)
+      (moves_then (moved_type t) (moves_then (moved_name x)
+      (moves_then (moves_sign sign.Assign) (moves_then (moved_right r) (moves_sign sign.Semicolon))))) us vs e
+      d in
+      record {
+        y = (a.y.0, Declares a.y.1.0 a.y.1.1.0 a.y.1.1.1.1.0);
+        is = a.is;
+        same =
+            ap3 Declares a.same.1.0 a.same.1.1.0 a.same.1.1.1.1.0;
+      }
   moved_statement n at (Assigns x r) us vs e d =
-      let a = moves_then (moved_name x) (moves_then (moves_sign sign.Assign) (moves_then (moved_right r) (moves_sign sign.Semicolon))) us vs e d.1 in
+      let a = moves_then (moved_name x)
+      (moves_then (moves_sign sign.Assign) (moves_then (moved_right r) (moves_sign sign.Semicolon))) us vs e
+      d.1 in
       record { y = (a.y.0.at, Assigns a.y.0 a.y.1.1.0); is = (refl, a.is); same = ap2 Assigns a.same.0 a.same.1.1.0 }
   moved_statement n at (Stores p x) us vs e d =
-      let a = moves_then (moved_path p) (moves_then (moves_sign sign.Assign) (moves_then (moved_whole x) (moves_sign sign.Semicolon))) us vs e d.2 in
-      record { y = (a.y.0.root.at, Stores a.y.0 a.y.1.1.0); is = (refl, still_steps p a.y.0 a.same.0 d.1, a.is); same = ap2 Stores a.same.0 a.same.1.1.0 }
+      let a = moves_then (moved_path p)
+      (moves_then (moves_sign sign.Assign) (moves_then (moved_whole x) (moves_sign sign.Semicolon))) us vs e
+      d.2 in
+      record {
+        y = (a.y.0.root.at, Stores a.y.0 a.y.1.1.0);
+        is = (refl, still_steps p a.y.0 a.same.0 d.1, a.is);
+        same
+            = ap2 Stores a.same.0 a.same.1.1.0;
+      }
   moved_statement n at (StoresAt p i x) us vs e d =
-      let a = moves_then (moved_path p) (moves_then (moves_sign sign.OpenBracket) (moves_then (moved_whole i) (moves_then (moves_sign sign.CloseBracket) (moves_then (moves_sign sign.Assign) (moves_then (moved_whole x) (moves_sign sign.Semicolon)))))) us vs e d.1 in
-      record { y = (a.y.0.root.at, StoresAt a.y.0 a.y.1.1.0 a.y.1.1.1.1.1.0); is = (refl, a.is); same = ap3 StoresAt a.same.0 a.same.1.1.0 a.same.1.1.1.1.1.0 }
+      let a = moves_then (moved_path p)
+      (moves_then (moves_sign sign.OpenBracket)
+      (moves_then (moved_whole i) (moves_then (moves_sign sign.CloseBracket)
+      (moves_then (moves_sign sign.Assign) (moves_then (moved_whole x) (moves_sign sign.Semicolon)))))) us vs e
+      d.1 in
+      record {
+        y = (a.y.0.root.at, StoresAt a.y.0 a.y.1.1.0 a.y.1.1.1.1.1.0);
+        is =
+            (refl, a.is);
+        same = ap3 StoresAt a.same.0 a.same.1.1.0 a.same.1.1.1.1.1.0;
+      }
   moved_statement n at (Calls c) us vs e d =
       let a = moves_then (moved_call c) (moves_sign sign.Semicolon) us vs e d.1 in
       record { y = (call_spot a.y.0, Calls a.y.0); is = (refl, a.is); same = ap Calls a.same.0 }
   moved_statement n at (Chooses x k b) us vs e d =
-      let a = moves_then (moves_at (tok.Word word.If) at) (moves_then (moved_whole x) (moves_braced (moved_statements (n + 1) b))) us vs e d.1 in
-      record { y = (a.y.0, Chooses a.y.1.0 k a.y.1.1); is = (d.0, a.is); same = ap2 (λ z c. Chooses z k c) a.same.1.0 a.same.1.1 }
+      let a = moves_then (moves_at (tok.Word word.If) at)
+      (moves_then (moved_whole x) (moves_braced (moved_statements (n + 1) b))) us vs e d.1 in
+      record {
+        y = (a.y.0, Chooses a.y.1.0 k a.y.1.1);
+        is =
+            (d.0, a.is);
+        same = ap2 (λ z c. Chooses z k c) a.same.1.0 a.same.1.1;
+      }
   moved_statement n at (ChoosesElse x k b m c) us vs e d =
-      let a = moves_then (moves_at (tok.Word word.If) at) (moves_then (moved_whole x) (moves_then (moves_braced (moved_statements (n + 1) b)) (moves_then (moves_word word.Else) (moves_braced (moved_statements (m + 1) c))))) us vs e d.2 in
-      record { y = (a.y.0, ChoosesElse a.y.1.0 k a.y.1.1.0 m a.y.1.1.1.1); is = (d.0, d.1 ∙ ap (λ j. n + 1 + j) (same_opened_in b a.y.1.1.0 a.same.1.1.0), a.is); same = ap3 (λ z f g. ChoosesElse z k f m g) a.same.1.0 a.same.1.1.0 a.same.1.1.1.1 }
+      let a = moves_then (moves_at (tok.Word word.If) at)
+      (moves_then (moved_whole x) (moves_then (moves_braced (moved_statements (n + 1) b))
+      (moves_then (moves_word word.Else) (moves_braced (moved_statements (m + 1) c))))) us vs e d.2 in
+      record {
+        y = (a.y.0, ChoosesElse a.y.1.0 k a.y.1.1.0 m a.y.1.1.1.1);
+        is =
+            (d.0, d.1 ∙ ap (λ j. n + 1 + j) (same_opened_in b a.y.1.1.0 a.same.1.1.0), a.is);
+        same =
+            ap3 (λ z f g. ChoosesElse z k f m g) a.same.1.0 a.same.1.1.0 a.same.1.1.1.1;
+      }
   moved_statement n at (Repeats x k b) us vs e d =
-      let a = moves_then (moves_at (tok.Word word.While) at) (moves_then (moved_whole x) (moves_braced (moved_statements (n + 1) b))) us vs e d.1 in
-      record { y = (a.y.0, Repeats a.y.1.0 k a.y.1.1); is = (d.0, a.is); same = ap2 (λ z c. Repeats z k c) a.same.1.0 a.same.1.1 }
+      let a = moves_then (moves_at (tok.Word word.While) at)
+      (moves_then (moved_whole x) (moves_braced (moved_statements (n + 1) b))) us vs e d.1 in
+      record {
+        y = (a.y.0, Repeats a.y.1.0 k a.y.1.1);
+        is =
+            (d.0, a.is);
+        same = ap2 (λ z c. Repeats z k c) a.same.1.0 a.same.1.1;
+      }
   moved_statement n at (Groups g) us vs e d =
-      let a = moves_then (moves_at (tok.Word word.Group) at) (moves_then (moved_name g) (moves_sign sign.Semicolon)) us vs e d in
+      let a = moves_then (moves_at (tok.Word word.Group) at) (moves_then (moved_name g) (moves_sign sign.Semicolon))
+      us vs e d in
       record { y = (a.y.0, Groups a.y.1.0); is = a.is; same = ap Groups a.same.1.0 }
   moved_statement n at (Splits gs k b) us vs e d =
-      let a = moves_then (moves_at (tok.Word word.Split) at) (moves_then (moved_names gs) (moves_braced (moved_statements (n + 1) b))) us vs e d.1 in
-      record { y = (a.y.0, Splits a.y.1.0 k a.y.1.1); is = (d.0, a.is); same = ap2 (λ z c. Splits z k c) a.same.1.0 a.same.1.1 }
+      let a = moves_then (moves_at (tok.Word word.Split) at)
+      (moves_then (moved_names gs) (moves_braced (moved_statements (n + 1) b))) us vs e d.1 in
+      record {
+        y = (a.y.0, Splits a.y.1.0 k a.y.1.1);
+        is =
+            (d.0, a.is);
+        same = ap2 (λ z c. Splits z k c) a.same.1.0 a.same.1.1;
+      }
   moved_statement n at (Locks g k b) us vs e d =
-      let a = moves_then (moves_at (tok.Word word.Atomic) at) (moves_then (moved_name g) (moves_braced (moved_statements (n + 1) b))) us vs e d.1 in
-      record { y = (a.y.0, Locks a.y.1.0 k a.y.1.1); is = (d.0, a.is); same = ap2 (λ z c. Locks z k c) a.same.1.0 a.same.1.1 }
+      let a = moves_then (moves_at (tok.Word word.Atomic) at)
+      (moves_then (moved_name g) (moves_braced (moved_statements (n + 1) b))) us vs e d.1 in
+      record {
+        y = (a.y.0, Locks a.y.1.0 k a.y.1.1);
+        is =
+            (d.0, a.is);
+        same = ap2 (λ z c. Locks z k c) a.same.1.0 a.same.1.1;
+      }
   moved_statement n at (Freezes x) us vs e d =
-      let a = moves_then (moves_at (tok.Word word.Freeze) at) (moves_then (moved_name x) (moves_sign sign.Semicolon)) us vs e d in
+      let a = moves_then (moves_at (tok.Word word.Freeze) at) (moves_then (moved_name x) (moves_sign sign.Semicolon))
+      us vs e d in
       record { y = (a.y.0, Freezes a.y.1.0); is = a.is; same = ap Freezes a.same.1.0 }
   moved_statement n at (Shares x g) us vs e d =
-      let a = moves_then (moves_at (tok.Word word.Share) at) (moves_then (moved_name x) (moves_then (moves_word word.Into) (moves_then (moved_name g) (moves_sign sign.Semicolon)))) us vs e d in
+      let a = moves_then (moves_at (tok.Word word.Share) at)
+      (moves_then (moved_name x) (moves_then (moves_word word.Into)
+      (moves_then (moved_name g) (moves_sign sign.Semicolon)))) us vs e d in
       record { y = (a.y.0, Shares a.y.1.0 a.y.1.1.1.0); is = a.is; same = ap2 Shares a.same.1.0 a.same.1.1.1.0 }
   moved_statement n at (Prints x) us vs e d =
-      let a = moves_then (moves_at (tok.Word word.Print) at) (moves_then (moved_whole x) (moves_sign sign.Semicolon)) us vs e d in
+      let a = moves_then (moves_at (tok.Word word.Print) at) (moves_then (moved_whole x) (moves_sign sign.Semicolon))
+      us vs e d in
       record { y = (a.y.0, Prints a.y.1.0); is = a.is; same = ap Prints a.same.1.0 }
   moved_statement n at (PrintsText s) us vs e d =
-      let a = moves_then (moves_at (tok.Word word.Print) at) (moves_then (moves_mark (tok.Text s)) (moves_sign sign.Semicolon)) us vs e d in
+      let a = moves_then (moves_at (tok.Word word.Print) at)
+      (moves_then (moves_mark (tok.Text s)) (moves_sign sign.Semicolon)) us vs e d in
       record { y = (a.y.0, PrintsText s); is = a.is; same = refl }
   moved_statement n at (Asserts x) us vs e d =
-      let a = moves_then (moves_at (tok.Word word.Assert) at) (moves_then (moved_whole x) (moves_sign sign.Semicolon)) us vs e d in
+      let a = moves_then (moves_at (tok.Word word.Assert) at) (moves_then (moved_whole x) (moves_sign sign.Semicolon))
+      us vs e d in
       record { y = (a.y.0, Asserts a.y.1.0); is = a.is; same = ap Asserts a.same.1.0 }
   moved_statement n at (Returns x) us vs e d = absurd d
 
@@ -124,7 +195,12 @@ mutual
   moved_statements n (Next at x rest) us vs e d =
       let a = moves_then (moved_statement n at x) (moved_statements (n + blocks_opened x) rest) us vs e d in
       let P : ℕ → Type 0 = λ k. (statement n a.y.0.0 a.y.0.1 ⨾ statements (n + k) a.y.1) vs in
-      record { y = Next a.y.0.0 a.y.0.1 a.y.1; is = subst P (same_opened x a.y.0.1 a.same.0) a.is; same = ap2 (Next nowhere) a.same.0 a.same.1 }
+      record {
+        y = Next a.y.0.0 a.y.0.1 a.y.1;
+        is = subst P (same_opened x a.y.0.1 a.same.0) a.is;
+        same =
+            ap2 (Next nowhere) a.same.0 a.same.1;
+      }
 
 -- ---- bodies
 
@@ -136,10 +212,12 @@ moved_returning : (r : Option (Spot × Expression)) → Moved return_end unplace
 unfolding unplaced_return
 moved_returning None us vs e d = record { y = None; is = no_tokens us vs e d; same = refl }
 moved_returning (Some r) us vs e d =
-    let a = moves_then (moves_at (tok.Word word.Return) r.0) (moves_then (moved_whole r.1) (moves_sign sign.Semicolon)) us vs e d in
+    let a = moves_then (moves_at (tok.Word word.Return) r.0)
+    (moves_then (moved_whole r.1) (moves_sign sign.Semicolon)) us vs e d in
     record { y = Some (a.y.0, a.y.1.0); is = a.is; same = ap (λ z. Some (nowhere, z)) a.same.1.0 }
 
-bare_with_return : (b : Lines) (r : Option (Spot × Expression)) → unplaced_lines (with_return b r) ≡ with_return (unplaced_lines b) (unplaced_return r)
+bare_with_return : (b : Lines) (r : Option (Spot × Expression)) → unplaced_lines (with_return b r)
+    ≡ with_return (unplaced_lines b) (unplaced_return r)
 unfolding unplaced_return
 bare_with_return End None = refl
 bare_with_return End (Some r) = refl
@@ -150,5 +228,6 @@ moved_body b us vs e d =
     let front : Lines = d.0 in
     let r : Option (Spot × Expression) = d.1 in
     let a = moves_braced (moves_then (moved_statements 1 front) (moved_returning r)) us vs e d.3 in
-    let same : unplaced_lines (with_return a.y.0 a.y.1) ≡ unplaced_lines b = bare_with_return a.y.0 a.y.1 ∙ ap2 with_return a.same.0 a.same.1 ∙ sym (bare_with_return front r) ∙ ap unplaced_lines (sym d.2) in
+    let same : unplaced_lines (with_return a.y.0 a.y.1) ≡ unplaced_lines b = bare_with_return a.y.0 a.y.1
+    ∙ ap2 with_return a.same.0 a.same.1 ∙ sym (bare_with_return front r) ∙ ap unplaced_lines (sym d.2) in
     record { y = with_return a.y.0 a.y.1; is = (a.y.0, a.y.1, refl, a.is); same = same }

@@ -21,7 +21,8 @@ scalars_parts (c ∷ s) r h =
     let q = scalars_parts s r p.1 in
     (rw p.0 q.0, q.1)
 
-pieces_can : (ps : List TextPiece) (rest : Text) → ArePieces ps rest → all_scalars (text_of ps) ≡ true → Every CanSpell (kinds_in ps)
+pieces_can : (ps : List TextPiece) (rest : Text) → ArePieces ps rest → all_scalars (text_of ps) ≡ true
+    → Every CanSpell (kinds_in ps)
 pieces_can [] rest e h = tt
 pieces_can (White c ∷ ps) rest e h = pieces_can ps rest e.1 (scalars_parts (c ∷ []) (text_of ps) h).1
 pieces_can (Comment s ∷ ps) rest e h = pieces_can ps rest e.1 (scalars_parts (47 ∷ 47 ∷ s) (text_of ps) h).1
@@ -30,7 +31,8 @@ pieces_can (Tok k s ∷ ps) rest e h =
     (record { characters = s; scalars = p.0; spells = e.0.spells; in_range = e.0.in_range }, pieces_can ps rest e.1 p.1)
 
 utf8_scalars : (bytes cs : Text) → IsUtf8 bytes → bytes ≡ encode_utf8_all cs → all_scalars cs ≡ true
-utf8_scalars bytes cs u e = let P : Text → Type 0 = λ x. all_scalars x ≡ true in subst P (encodes_same u.0 cs (u.1.1 ∙ e)) u.1.0
+utf8_scalars bytes cs u e = let P : Text → Type 0 = λ x. all_scalars x
+    ≡ true in subst P (encodes_same u.0 cs (u.1.1 ∙ e)) u.1.0
 
 -- lists with one more element at the end
 fronts_same : {A : Type 0} (xs ys : List A) (z : A) → xs ++ z ∷ [] ≡ ys ++ z ∷ [] → xs ≡ ys
@@ -49,7 +51,9 @@ pub source_can : (bytes : Text) (ks : List TokenKind) → LexesAs bytes ks → E
 source_can bytes ks (tokens, l, e) =
     let same : kinds_in l.pieces ≡ ks =
     fronts_same (kinds_in l.pieces) ks t.End
-    (ap (λ x. x ++ t.End ∷ []) (sym (tokens_kinds bytes 0 l.pieces)) ∙ sym (map-append (λ x. x.kind) (tokens_from bytes 0 l.pieces) (end_token bytes ∷ [])) ∙ ap (map (λ x. x.kind)) (sym l.are) ∙ e) in
+    (ap (λ x. x ++ t.End ∷ []) (sym (tokens_kinds bytes 0 l.pieces))
+    ∙ sym (map-append (λ x. x.kind) (tokens_from bytes 0 l.pieces) (end_token bytes ∷ []))
+    ∙ ap (map (λ x. x.kind)) (sym l.are) ∙ e) in
     let P : List TokenKind → Type 0 = Every CanSpell in
     subst P same (pieces_can l.pieces [] l.each (utf8_scalars bytes (text_of l.pieces) l.utf8 l.whole))
 
@@ -59,5 +63,6 @@ unfolding layout
 layout_lexes p s = rows_lex (program_rows p) (program_spelled p s)
 
 -- and so is that of a program whose tokens some text has
-pub layout_again : (bytes : Text) (p : Code) → LexesAs bytes (kinds_of (program_rows p)) → LexesAs (layout p) (kinds_of (program_rows p))
+pub layout_again : (bytes : Text) (p : Code) → LexesAs bytes (kinds_of (program_rows p))
+    → LexesAs (layout p) (kinds_of (program_rows p))
 layout_again bytes p l = layout_lexes p (source_can bytes (kinds_of (program_rows p)) l)

@@ -1,5 +1,6 @@
 -- Each token that a source can have is read from its canonical spelling.
-use Rattle.std.proofs.Common.{◌≡◌, ℕ, ◌^◌, ◌<◌, ◌≤◌, pos, Bool, true, false, ◌&&◌, nat_lt, IsTrue, [], ◌∷◌, ◌++◌, length, refl, sym, ap, ◌∙◌, subst, arith, rules, tests}
+use Rattle.std.proofs.Common.{◌≡◌, ℕ, ◌^◌, ◌<◌, ◌≤◌, pos, Bool, true, false, ◌&&◌, nat_lt, IsTrue, [], ◌∷◌, ◌++◌}
+use Rattle.std.proofs.Common.{length, refl, sym, ap, ◌∙◌, subst, arith, rules, tests}
 use Rattle.std.specs.Fmt.{decimal}
 use Rattle.std.specs.Str.{encode_utf8_all, all_scalars, IsAscii}
 use Rattle.std.proofs.lemmas.Str.{encode_ascii, encodes-IsAscii, chars-IsAscii, IsUtf8-from_ascii, scalars-chars}
@@ -9,7 +10,8 @@ use Rattle.ae_text.specs.declared.token.Sign.{Sign}
 use Rattle.ae_text.specs.declared.token.Sign.TheVariants as sign
 use Rattle.ae_text.specs.declared.token.TokenKind.{TokenKind}
 use Rattle.ae_text.specs.declared.token.TokenKind.TheVariants as t
-use Rattle.ae_text.specs.Tokens.{Text, Each, is_digit, sign_text, IsNumber, digits_value, value_from, parts_meaning, IsQuoted, Spells, IsInRange}
+use Rattle.ae_text.specs.Tokens.{Text, Each, is_digit, sign_text, IsNumber, digits_value, value_from, parts_meaning}
+use Rattle.ae_text.specs.Tokens.{IsQuoted, Spells, IsInRange}
 use Rattle.ae_layout.proofs.from_text.SpellingLemmas.{keyword_same}
 use Rattle.ae_layout.specs.Spelling.{token_text}
 use Rattle.ae_layout.specs.Rows.{CanSpell}
@@ -46,7 +48,8 @@ some_digits [] h d = absurd (omega arith)
 some_digits (c ∷ ds) h d = d
 
 decimal_scalars : (n : ℕ) → n < 2 ^ 64 → all_scalars (decimal n) ≡ true
-decimal_scalars n h = let a : IsAscii (decimal n) = IsAscii-decimal n h in ap all_scalars (sym (chars-IsAscii (decimal n) a)) ∙ scalars-chars (decimal n) (IsUtf8-from_ascii (decimal n) a)
+decimal_scalars n h = let a : IsAscii (decimal n) = IsAscii-decimal n h in ap all_scalars
+    (sym (chars-IsAscii (decimal n) a)) ∙ scalars-chars (decimal n) (IsUtf8-from_ascii (decimal n) a)
 
 written_int : (n : ℕ) → n < 2 ^ 63 → Written (t.Int (pos n))
 written_int n h =
@@ -56,7 +59,11 @@ written_int n h =
       characters = decimal n;
       bytes = encodes-IsAscii (decimal n) (IsAscii-decimal n fits);
       scalars = decimal_scalars n fits;
-      spells = (some_digits (decimal n) (decimal_nonempty n fits) (digits_decimal model n fits), ap (λ m. pos m) (sym same));
+      spells = (
+        some_digits (decimal n) (decimal_nonempty n fits) (digits_decimal model n fits),
+        ap (λ m. pos m)
+            (sym same),
+      );
       in_range = omega (arith, same);
     }
 
@@ -118,9 +125,31 @@ written_text bytes s q h =
     }
 
 pub written : (k : TokenKind) → CanSpell k → Written k
-written (t.Name b) c = record { characters = c.characters; bytes = sym c.spells.0; scalars = c.scalars; spells = c.spells; in_range = tt }
-written (t.Int n) c = let P : _ → Type 0 = λ m. Written (t.Int m) in subst P (sym c.spells.1) (written_int (digits_value c.characters) c.in_range)
+written (t.Name b) c = record {
+  characters = c.characters;
+  bytes = sym c.spells.0;
+  scalars = c.scalars;
+  spells =
+      c.spells;
+  in_range = tt;
+}
+written (t.Int n) c = let P : _ → Type 0 = λ m. Written (t.Int m) in subst P (sym c.spells.1)
+    (written_int (digits_value c.characters) c.in_range)
 written (t.Text b) c = written_text b c.characters c.spells c.scalars
-written (t.Word w) c = record { characters = c.characters; bytes = ap encode_utf8_all c.spells ∙ keyword_same w; scalars = c.scalars; spells = c.spells; in_range = tt }
-written (t.Sign g) c = record { characters = c.characters; bytes = ap encode_utf8_all c.spells ∙ ascii_same (sign_text g) (sign_ascii g); scalars = c.scalars; spells = c.spells; in_range = tt }
+written (t.Word w) c = record {
+  characters = c.characters;
+  bytes = ap encode_utf8_all c.spells
+      ∙ keyword_same w;
+  scalars = c.scalars;
+  spells = c.spells;
+  in_range = tt;
+}
+written (t.Sign g) c = record {
+  characters = c.characters;
+  bytes = ap encode_utf8_all c.spells
+      ∙ ascii_same (sign_text g) (sign_ascii g);
+  scalars = c.scalars;
+  spells = c.spells;
+  in_range = tt;
+}
 written t.End c = absurd c.spells

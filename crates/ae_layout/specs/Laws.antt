@@ -11,7 +11,8 @@ use Rattle.ae_layout.specs.Places.{unplaced}
 
 -- where some text has the tokens of a program's lines, the layout of the program has them too
 abbrev pub IsCutAgain : Type 0
-IsCutAgain = (text : Text) (p : Code) → LexesAs text (kinds_of (program_rows p)) → LexesAs (layout p) (kinds_of (program_rows p))
+IsCutAgain = (text : Text) (p : Code) → LexesAs text (kinds_of (program_rows p))
+    → LexesAs (layout p) (kinds_of (program_rows p))
 
 -- the layout of a program has tokens, and they stand for a program that is the same but for places, and within the limits where that one is
 pub record ReadAgain (p : Code) : Type 0 where

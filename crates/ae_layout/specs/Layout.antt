@@ -1,5 +1,6 @@
 -- The canonical layout: the lines of a program, each with its indentation and its tokens.
-use Rattle.std.specs.Prelude.{ℕ, Bool, true, false, if◌then◌else◌, ◌==◌, List, [], ◌∷◌, ◌++◌, Option, None, Some, codes, slice_get}
+use Rattle.std.specs.Prelude.{ℕ, Bool, true, false, if◌then◌else◌, ◌==◌, List, [], ◌∷◌, ◌++◌, Option, None, Some}
+use Rattle.std.specs.Prelude.{codes, slice_get}
 use Rattle.ae_text.specs.declared.token.Keyword.{Keyword}
 use Rattle.ae_text.specs.declared.token.Keyword.TheVariants as word
 use Rattle.ae_text.specs.declared.token.Sign.TheVariants as sign
@@ -24,8 +25,11 @@ use Rattle.ae_tree.specs.declared.tree.Field.{Field}
 use Rattle.ae_tree.specs.declared.tree.Class.{Class}
 use Rattle.ae_tree.specs.declared.tree.Decl.{Decl}
 use Rattle.ae_tree.specs.declared.tree.Decl.TheVariants as decl
-use Rattle.ae_tree.specs.Plain.{Expression, Number, Truth, Nothing, Read, Item, Length, Grouped, Negated, Minus, Binary, Invocation, RightSide, Value, Taken, Zeros, Made, Returned, Lines, End, Next, Definition, Code}
-use Rattle.ae_tree.specs.Plain.{Action, Declares, Assigns, Stores, StoresAt, Calls, Chooses, ChoosesElse, Repeats, Groups, Splits, Locks, Freezes, Shares, Prints, PrintsText, Asserts, Returns}
+use Rattle.ae_tree.specs.Plain.{Expression, Number, Truth, Nothing, Read, Item, Length, Grouped, Negated, Minus}
+use Rattle.ae_tree.specs.Plain.{Binary, Invocation, RightSide, Value, Taken, Zeros, Made, Returned, Lines, End, Next}
+use Rattle.ae_tree.specs.Plain.{Definition, Code}
+use Rattle.ae_tree.specs.Plain.{Action, Declares, Assigns, Stores, StoresAt, Calls, Chooses, ChoosesElse, Repeats}
+use Rattle.ae_tree.specs.Plain.{Groups, Splits, Locks, Freezes, Shares, Prints, PrintsText, Asserts, Returns}
 use Rattle.ae_tree.specs.Grammar.{sign_of, need_word, truth_word}
 use Rattle.ae_layout.specs.Spelling.{name_text, Printed, tokens_text}
 use Rattle.ae_tree.specs.Names.{this}
@@ -67,7 +71,8 @@ with_commas f close (x ∷ xs) = f close x ++ after_commas (f false) xs
 -- group names between < and >, if there are any
 abbrev pub groups_tokens : Spellings → List NameAt → List Printed
 groups_tokens names [] = []
-groups_tokens names (x ∷ xs) = near (t.Sign sign.Less) ∷ with_commas (name_tokens names) true (x ∷ xs) ++ near (t.Sign sign.Greater) ∷ []
+groups_tokens names (x ∷ xs) = near (t.Sign sign.Less) ∷ with_commas (name_tokens names) true (x ∷ xs)
+    ++ near (t.Sign sign.Greater) ∷ []
 
 -- ---- paths and types
 
@@ -86,7 +91,8 @@ abbrev pub perm_tokens : Spellings → Bool → PermAt → List Printed
 perm_tokens names close (perm.Unique at) = token close (t.Word word.Unique) ∷ []
 perm_tokens names close (perm.Immutable at) = token close (t.Word word.Immutable) ∷ []
 perm_tokens names close (perm.Lent at) = token close (t.Word word.Lent) ∷ []
-perm_tokens names close (perm.Shared at g) = token close (t.Word word.Shared) ∷ near (t.Sign sign.Less) ∷ near (name_kind names g.name) ∷ near (t.Sign sign.Greater) ∷ []
+perm_tokens names close (perm.Shared at g) = token close (t.Word word.Shared) ∷ near (t.Sign sign.Less)
+    ∷ near (name_kind names g.name) ∷ near (t.Sign sign.Greater) ∷ []
 
 abbrev pub kind_tokens : Spellings → KindAt → List Printed
 kind_tokens names (kind.Ints at) = far (t.Word word.Ints) ∷ []
@@ -105,31 +111,39 @@ expression_tokens names close (Number n at) = token close (t.Int n) ∷ []
 expression_tokens names close (Truth b at) = token close (t.Word (truth_word b)) ∷ []
 expression_tokens names close (Nothing at) = token close (t.Word word.Null) ∷ []
 expression_tokens names close (Read p) = path_tokens names close p
-expression_tokens names close (Item p e) = path_tokens names close p ++ near (t.Sign sign.OpenBracket) ∷ expression_tokens names true e ++ near (t.Sign sign.CloseBracket) ∷ []
+expression_tokens names close (Item p e) = path_tokens names close p ++ near (t.Sign sign.OpenBracket)
+    ∷ expression_tokens names true e ++ near (t.Sign sign.CloseBracket) ∷ []
 expression_tokens names close (Length p at) = token close (t.Word word.Len) ∷ path_tokens names false p
-expression_tokens names close (Grouped e at) = token close (t.Sign sign.OpenParen) ∷ expression_tokens names true e ++ near (t.Sign sign.CloseParen) ∷ []
+expression_tokens names close (Grouped e at) = token close (t.Sign sign.OpenParen) ∷ expression_tokens names true e
+    ++ near (t.Sign sign.CloseParen) ∷ []
 expression_tokens names close (Negated e at) = token close (t.Sign sign.Not) ∷ expression_tokens names true e
 expression_tokens names close (Minus e at) = token close (t.Sign sign.Minus) ∷ expression_tokens names true e
-expression_tokens names close (Binary o a b) = expression_tokens names close a ++ far (t.Sign (sign_of o)) ∷ expression_tokens names false b
+expression_tokens names close (Binary o a b) = expression_tokens names close a ++ far (t.Sign (sign_of o))
+    ∷ expression_tokens names false b
 
 -- arguments in parentheses, close to what is called
 abbrev pub arguments_tokens : Spellings → List Expression → List Printed
-arguments_tokens names args = near (t.Sign sign.OpenParen) ∷ with_commas (expression_tokens names) true args ++ near (t.Sign sign.CloseParen) ∷ []
+arguments_tokens names args = near (t.Sign sign.OpenParen) ∷ with_commas (expression_tokens names) true args
+    ++ near (t.Sign sign.CloseParen) ∷ []
 
 -- the method of a call, behind its receiver
 abbrev pub method_tokens : Spellings → Bool → Option Path → NameAt → List Printed
 method_tokens names close None x = token close (name_kind names x.name) ∷ []
-method_tokens names close (Some p) x = path_tokens names close p ++ near (t.Sign sign.Dot) ∷ near (name_kind names x.name) ∷ []
+method_tokens names close (Some p) x = path_tokens names close p ++ near (t.Sign sign.Dot)
+    ∷ near (name_kind names x.name) ∷ []
 
 abbrev pub call_tokens : Spellings → Bool → Invocation → List Printed
-call_tokens names close c = method_tokens names close c.on c.method ++ groups_tokens names c.groups ++ arguments_tokens names c.args
+call_tokens names close c = method_tokens names close c.on c.method ++ groups_tokens names c.groups
+    ++ arguments_tokens names c.args
 
 -- what stands right of a =
 abbrev pub right_tokens : Spellings → RightSide → List Printed
 right_tokens names (Value e) = expression_tokens names false e
 right_tokens names (Taken p at) = far (t.Word word.Take) ∷ path_tokens names false p
-right_tokens names (Zeros e at) = far (t.Word word.New) ∷ far (t.Word word.Ints) ∷ near (t.Sign sign.OpenParen) ∷ expression_tokens names true e ++ near (t.Sign sign.CloseParen) ∷ []
-right_tokens names (Made c groups args at) = far (t.Word word.New) ∷ far (name_kind names c.name) ∷ groups_tokens names groups ++ arguments_tokens names args
+right_tokens names (Zeros e at) = far (t.Word word.New) ∷ far (t.Word word.Ints) ∷ near (t.Sign sign.OpenParen)
+    ∷ expression_tokens names true e ++ near (t.Sign sign.CloseParen) ∷ []
+right_tokens names (Made c groups args at) = far (t.Word word.New) ∷ far (name_kind names c.name)
+    ∷ groups_tokens names groups ++ arguments_tokens names args
 right_tokens names (Returned c) = call_tokens names false c
 
 -- ---- statements
@@ -146,10 +160,13 @@ equals_value names e = far (t.Sign sign.Assign) ∷ expression_tokens names fals
 
 -- the line that a statement begins with: the whole of it, or all up to its first {
 abbrev pub first_line : Spellings → Action → List Printed
-first_line names (Declares y x r) = near (t.Word word.Let) ∷ type_tokens names false y ++ far (name_kind names x.name) ∷ far (t.Sign sign.Assign) ∷ right_tokens names r ++ semicolon
-first_line names (Assigns x r) = near (name_kind names x.name) ∷ far (t.Sign sign.Assign) ∷ right_tokens names r ++ semicolon
+first_line names (Declares y x r) = near (t.Word word.Let) ∷ type_tokens names false y ++ far (name_kind names x.name)
+    ∷ far (t.Sign sign.Assign) ∷ right_tokens names r ++ semicolon
+first_line names (Assigns x r) = near (name_kind names x.name) ∷ far (t.Sign sign.Assign) ∷ right_tokens names r
+    ++ semicolon
 first_line names (Stores p e) = path_tokens names true p ++ equals_value names e
-first_line names (StoresAt p i e) = path_tokens names true p ++ near (t.Sign sign.OpenBracket) ∷ expression_tokens names true i ++ near (t.Sign sign.CloseBracket) ∷ equals_value names e
+first_line names (StoresAt p i e) = path_tokens names true p ++ near (t.Sign sign.OpenBracket)
+    ∷ expression_tokens names true i ++ near (t.Sign sign.CloseBracket) ∷ equals_value names e
 first_line names (Calls c) = call_tokens names true c ++ semicolon
 first_line names (Chooses e n b) = near (t.Word word.If) ∷ expression_tokens names false e ++ open_brace
 first_line names (ChoosesElse e n b m c) = near (t.Word word.If) ∷ expression_tokens names false e ++ open_brace
@@ -158,7 +175,8 @@ first_line names (Groups g) = near (t.Word word.Group) ∷ far (name_kind names 
 first_line names (Splits gs n b) = near (t.Word word.Split) ∷ with_commas (name_tokens names) false gs ++ open_brace
 first_line names (Locks g n b) = near (t.Word word.Atomic) ∷ far (name_kind names g.name) ∷ open_brace
 first_line names (Freezes x) = near (t.Word word.Freeze) ∷ far (name_kind names x.name) ∷ semicolon
-first_line names (Shares x g) = near (t.Word word.Share) ∷ far (name_kind names x.name) ∷ far (t.Word word.Into) ∷ far (name_kind names g.name) ∷ semicolon
+first_line names (Shares x g) = near (t.Word word.Share) ∷ far (name_kind names x.name) ∷ far (t.Word word.Into)
+    ∷ far (name_kind names g.name) ∷ semicolon
 first_line names (Prints e) = near (t.Word word.Print) ∷ expression_tokens names false e ++ semicolon
 first_line names (PrintsText s) = near (t.Word word.Print) ∷ far (t.Text s) ∷ semicolon
 first_line names (Asserts e) = near (t.Word word.Assert) ∷ expression_tokens names false e ++ semicolon
@@ -186,7 +204,8 @@ abbrev mutual
   -- the lines of a statement behind its first: its blocks, each up to its }
   pub block_rows : Spellings → Text → Action → List Row
   block_rows names indent (Chooses e n b) = rows names (indented_more indent) b ++ close_row indent ∷ []
-  block_rows names indent (ChoosesElse e n b m c) = rows names (indented_more indent) b ++ else_row indent ∷ rows names (indented_more indent) c ++ close_row indent ∷ []
+  block_rows names indent (ChoosesElse e n b m c) = rows names (indented_more indent) b ++ else_row indent
+      ∷ rows names (indented_more indent) c ++ close_row indent ∷ []
   block_rows names indent (Repeats e n b) = rows names (indented_more indent) b ++ close_row indent ∷ []
   block_rows names indent (Splits gs n b) = rows names (indented_more indent) b ++ close_row indent ∷ []
   block_rows names indent (Locks g n b) = rows names (indented_more indent) b ++ close_row indent ∷ []
@@ -195,7 +214,8 @@ abbrev mutual
   -- the lines of statements
   pub rows : Spellings → Text → Lines → List Row
   rows names indent End = []
-  rows names indent (Next at a rest) = row indent (first_line names a) ∷ block_rows names indent a ++ rows names indent rest
+  rows names indent (Next at a rest) = row indent (first_line names a) ∷ block_rows names indent a
+      ++ rows names indent rest
 
 -- ---- methods and classes
 
@@ -229,10 +249,13 @@ result_tokens names (Some y) = type_tokens names false y
 
 -- a method up to its {
 abbrev pub head_tokens : Spellings → Definition → List Printed
-head_tokens names m = near (t.Word word.Method) ∷ result_tokens names m.result ++ far (name_kind names m.name.name) ∷ groups_tokens names m.groups ++ near (t.Sign sign.OpenParen) ∷ params_tokens names m.me m.params ++ near (t.Sign sign.CloseParen) ∷ needs_tokens names m.needs ++ open_brace
+head_tokens names m = near (t.Word word.Method) ∷ result_tokens names m.result ++ far (name_kind names m.name.name)
+    ∷ groups_tokens names m.groups ++ near (t.Sign sign.OpenParen) ∷ params_tokens names m.me m.params
+    ++ near (t.Sign sign.CloseParen) ∷ needs_tokens names m.needs ++ open_brace
 
 abbrev pub method_rows : Spellings → Text → Definition → List Row
-method_rows names indent m = row indent (head_tokens names m) ∷ rows names (indented_more indent) m.body ++ close_row indent ∷ []
+method_rows names indent m = row indent (head_tokens names m) ∷ rows names (indented_more indent) m.body
+    ++ close_row indent ∷ []
 
 -- the method with a number, if there is one
 abbrev pub found_method_rows : Spellings → Text → Option Definition → List Row
@@ -241,7 +264,8 @@ found_method_rows names indent (Some m) = method_rows names indent m
 
 abbrev pub methods_rows : Spellings → Text → List Definition → List ℕ → List Row
 methods_rows names indent methods [] = []
-methods_rows names indent methods (n ∷ ns) = found_method_rows names indent (slice_get methods n) ++ methods_rows names indent methods ns
+methods_rows names indent methods (n ∷ ns) = found_method_rows names indent (slice_get methods n)
+    ++ methods_rows names indent methods ns
 
 abbrev pub field_tokens : Spellings → Field → List Printed
 field_tokens names f = type_tokens names true f.ty ++ far (name_kind names f.name.name) ∷ semicolon
@@ -251,11 +275,13 @@ fields_rows names indent [] = []
 fields_rows names indent (f ∷ fs) = row indent (field_tokens names f) ∷ fields_rows names indent fs
 
 abbrev pub class_tokens : Spellings → Class → List Printed
-class_tokens names c = near (t.Word word.Class) ∷ far (name_kind names c.name.name) ∷ groups_tokens names c.groups ++ open_brace
+class_tokens names c = near (t.Word word.Class) ∷ far (name_kind names c.name.name) ∷ groups_tokens names c.groups
+    ++ open_brace
 
 -- a class: its fields, and then its methods
 abbrev pub class_rows : Spellings → List Definition → Class → List Row
-class_rows names methods c = row [] (class_tokens names c) ∷ fields_rows names (indented_more []) c.fields ++ methods_rows names (indented_more []) methods c.methods ++ close_row [] ∷ []
+class_rows names methods c = row [] (class_tokens names c) ∷ fields_rows names (indented_more []) c.fields
+    ++ methods_rows names (indented_more []) methods c.methods ++ close_row [] ∷ []
 
 abbrev pub found_class_rows : Spellings → List Definition → Option Class → List Row
 found_class_rows names methods None = []

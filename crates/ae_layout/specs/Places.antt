@@ -14,8 +14,11 @@ use Rattle.ae_tree.specs.declared.tree.Param.{Param}
 use Rattle.ae_tree.specs.declared.tree.GroupNeed.{GroupNeed}
 use Rattle.ae_tree.specs.declared.tree.Field.{Field}
 use Rattle.ae_tree.specs.declared.tree.Class.{Class}
-use Rattle.ae_tree.specs.Plain.{Expression, Number, Truth, Nothing, Read, Item, Length, Grouped, Negated, Minus, Binary, Invocation, RightSide, Value, Taken, Zeros, Made, Returned, Lines, End, Next, Definition, Code}
-use Rattle.ae_tree.specs.Plain.{Action, Declares, Assigns, Stores, StoresAt, Calls, Chooses, ChoosesElse, Repeats, Groups, Splits, Locks, Freezes, Shares, Prints, PrintsText, Asserts, Returns}
+use Rattle.ae_tree.specs.Plain.{Expression, Number, Truth, Nothing, Read, Item, Length, Grouped, Negated, Minus}
+use Rattle.ae_tree.specs.Plain.{Binary, Invocation, RightSide, Value, Taken, Zeros, Made, Returned, Lines, End, Next}
+use Rattle.ae_tree.specs.Plain.{Definition, Code}
+use Rattle.ae_tree.specs.Plain.{Action, Declares, Assigns, Stores, StoresAt, Calls, Chooses, ChoosesElse, Repeats}
+use Rattle.ae_tree.specs.Plain.{Groups, Splits, Locks, Freezes, Shares, Prints, PrintsText, Asserts, Returns}
 
 -- the one place that stands for all
 abbrev pub nowhere : Spot
@@ -70,7 +73,8 @@ abbrev pub unplaced_right : RightSide → RightSide
 unplaced_right (Value e) = Value (unplaced_expression e)
 unplaced_right (Taken p at) = Taken (unplaced_path p) nowhere
 unplaced_right (Zeros e at) = Zeros (unplaced_expression e) nowhere
-unplaced_right (Made c groups args at) = Made (unplaced_name c) (map unplaced_name groups) (map unplaced_expression args) nowhere
+unplaced_right (Made c groups args at) = Made (unplaced_name c) (map unplaced_name groups)
+    (map unplaced_expression args) nowhere
 unplaced_right (Returned c) = Returned (unplaced_call c)
 
 abbrev mutual
@@ -81,7 +85,8 @@ abbrev mutual
   unplaced_action (StoresAt p i e) = StoresAt (unplaced_path p) (unplaced_expression i) (unplaced_expression e)
   unplaced_action (Calls c) = Calls (unplaced_call c)
   unplaced_action (Chooses e n b) = Chooses (unplaced_expression e) n (unplaced_lines b)
-  unplaced_action (ChoosesElse e n b m c) = ChoosesElse (unplaced_expression e) n (unplaced_lines b) m (unplaced_lines c)
+  unplaced_action (ChoosesElse e n b m c) = ChoosesElse (unplaced_expression e) n (unplaced_lines b) m
+      (unplaced_lines c)
   unplaced_action (Repeats e n b) = Repeats (unplaced_expression e) n (unplaced_lines b)
   unplaced_action (Groups g) = Groups (unplaced_name g)
   unplaced_action (Splits gs n b) = Splits (map unplaced_name gs) n (unplaced_lines b)

@@ -11,7 +11,8 @@ name_text names n = slice_index_or names n []
 
 -- a byte between quotes: line feed, tab, quote and backslash stand behind a backslash, as `n`, `t` and themselves
 abbrev pub escaped_byte : ℕ → Text
-escaped_byte b = if b == 10 then 92 ∷ 110 ∷ [] else if b == 9 then 92 ∷ 116 ∷ [] else if b == 34 then 92 ∷ 34 ∷ [] else if b == 92 then 92 ∷ 92 ∷ [] else b ∷ []
+escaped_byte b = if b == 10 then 92 ∷ 110 ∷ [] else if b == 9 then 92 ∷ 116 ∷ [] else if b == 34 then 92 ∷ 34
+    ∷ [] else if b == 92 then 92 ∷ 92 ∷ [] else b ∷ []
 
 abbrev pub all_escaped : Text → Text
 all_escaped [] = []

@@ -2,14 +2,18 @@
 ghost use Rattle.std.specs.Prelude.{◌≡◌, ◌++◌, [], ◌∷◌, true, false, map, slice_get, IfOk, OnOk};
 ghost use Rattle.ae_layout.specs.Spelling.{tokens_text};
 ghost use Rattle.ae_tree.specs.Shown.{definition, code};
-ghost use Rattle.ae_layout.specs.Layout.{after_commas, with_commas, away_tokens, param_tokens, me_tokens, params_tokens, need_tokens, needs_tokens, result_tokens, head_tokens, row, row_text, rows_text, method_rows, found_method_rows, methods_rows, field_tokens, fields_rows, class_tokens, class_rows, found_class_rows, indented_more as deeper_text, decl_rows, decls_rows, layout};
+ghost use Rattle.ae_layout.specs.Layout.{after_commas, with_commas, away_tokens, param_tokens, me_tokens};
+ghost use Rattle.ae_layout.specs.Layout.{params_tokens, need_tokens, needs_tokens, result_tokens, head_tokens, row};
+ghost use Rattle.ae_layout.specs.Layout.{row_text, rows_text, method_rows, found_method_rows, methods_rows};
+ghost use Rattle.ae_layout.specs.Layout.{field_tokens, fields_rows, class_tokens, class_rows, found_class_rows};
+ghost use Rattle.ae_layout.specs.Layout.{indented_more as deeper_text, decl_rows, decls_rows, layout};
 ghost use Rattle.ae_tree.specs.Grammar.{need_word};
 
 use crate::print_expr::{groups, perm, type_name};
 use crate::print_stmt::{body, close, deeper, end, start};
 use crate::spell::{name, sign, word};
-use ae_tree::{Class, Decl, Field, GroupNeed, Me, Method, Need, Param, Program, Ty};
 use ae_text::{Items, Keyword, Memory, Sign, Spot};
+use ae_tree::{Class, Decl, Field, GroupNeed, Me, Method, Need, Param, Program, Ty};
 use std::alloc::{AllocError, Global};
 
 // `>> none`, where the caller gets nothing back.
@@ -42,7 +46,8 @@ fn param(
 
 #[tactic(auto, using(crate::proofs::Texts::texts))]
 fn more_params(names: &[Items<u8>], list: &[Param], out: &mut Vec<u8>) -> Result<(), AllocError>
-    ensures { OnOk result (out.new.items ≡ out.old.items ++ tokens_text (after_commas (param_tokens names.now false) list.now)) }
+    ensures { OnOk result (out.new.items ≡ out.old.items
+        ++ tokens_text (after_commas (param_tokens names.now false) list.now)) }
 {
     for item in list {
         sign(true, Sign::Comma, out)?;
@@ -62,7 +67,8 @@ fn receiver(names: &[Items<u8>], me: &Me, out: &mut Vec<u8>) -> Result<(), Alloc
 
 #[tactic(auto, using(crate::proofs::Texts::texts))]
 fn param_list(names: &[Items<u8>], list: &[Param], out: &mut Vec<u8>) -> Result<(), AllocError>
-    ensures { OnOk result (out.new.items ≡ out.old.items ++ tokens_text (with_commas (param_tokens names.now) true list.now)) }
+    ensures { OnOk result (out.new.items ≡ out.old.items
+        ++ tokens_text (with_commas (param_tokens names.now) true list.now)) }
 {
     match list.split_first() {
         Some((first, rest)) => {
@@ -113,7 +119,8 @@ fn need(names: &[Items<u8>], need: &GroupNeed, out: &mut Vec<u8>) -> Result<(), 
 
 #[tactic(auto, using(crate::proofs::Texts::texts))]
 fn more_needs(names: &[Items<u8>], list: &[GroupNeed], out: &mut Vec<u8>) -> Result<(), AllocError>
-    ensures { OnOk result (out.new.items ≡ out.old.items ++ tokens_text (after_commas (need_tokens names.now false) list.now)) }
+    ensures { OnOk result (out.new.items ≡ out.old.items
+        ++ tokens_text (after_commas (need_tokens names.now false) list.now)) }
 {
     for item in list {
         sign(true, Sign::Comma, out)?;
@@ -151,7 +158,8 @@ fn result_type(names: &[Items<u8>], ty: &Option<Ty>, out: &mut Vec<u8>) -> Resul
 // A method up to its open brace.
 #[tactic(auto, using(crate::proofs::Texts::texts))]
 fn head(names: &[Items<u8>], method: &Method, out: &mut Vec<u8>) -> Result<(), AllocError>
-    ensures { OnOk result (out.new.items ≡ out.old.items ++ tokens_text (head_tokens names.now (definition method.now))) }
+    ensures { OnOk result (out.new.items ≡ out.old.items
+        ++ tokens_text (head_tokens names.now (definition method.now))) }
 {
     word(true, Keyword::Method, out)?;
     result_type(names, &method.result, out)?;
@@ -172,7 +180,8 @@ fn method(
     method: &Method,
     out: &mut Vec<u8>,
 ) -> Result<(), AllocError>
-    ensures { OnOk result (out.new.items ≡ out.old.items ++ rows_text (method_rows names.now indent.now (definition method.now))) }
+    ensures { OnOk result (out.new.items ≡ out.old.items
+        ++ rows_text (method_rows names.now indent.now (definition method.now))) }
 {
     start(indent, out)?;
     head(names, method, out)?;
@@ -190,7 +199,8 @@ fn numbered_method(
     number: u32,
     out: &mut Vec<u8>,
 ) -> Result<(), AllocError>
-    ensures { OnOk result (out.new.items ≡ out.old.items ++ rows_text (found_method_rows names.now indent.now (slice_get (map definition list.now) number))) }
+    ensures { OnOk result (out.new.items ≡ out.old.items
+        ++ rows_text (found_method_rows names.now indent.now (slice_get (map definition list.now) number))) }
 {
     match list.get(number as usize) {
         Some(found) => method(alloc, names, indent, found, out),
@@ -207,7 +217,8 @@ fn numbered_methods(
     numbers: &[u32],
     out: &mut Vec<u8>,
 ) -> Result<(), AllocError>
-    ensures { OnOk result (out.new.items ≡ out.old.items ++ rows_text (methods_rows names.now indent.now (map definition list.now) numbers.now)) }
+    ensures { OnOk result (out.new.items ≡ out.old.items
+        ++ rows_text (methods_rows names.now indent.now (map definition list.now) numbers.now)) }
 {
     for number in numbers {
         numbered_method(alloc, names, indent, list, *number, out)?;
@@ -222,7 +233,8 @@ fn field(
     field: &Field,
     out: &mut Vec<u8>,
 ) -> Result<(), AllocError>
-    ensures { OnOk result (out.new.items ≡ out.old.items ++ row_text (row indent.now (field_tokens names.now field.now))) }
+    ensures { OnOk result (out.new.items ≡ out.old.items
+        ++ row_text (row indent.now (field_tokens names.now field.now))) }
 {
     start(indent, out)?;
     type_name(names, true, &field.ty, out)?;
@@ -266,7 +278,8 @@ fn class(
     class: &Class,
     out: &mut Vec<u8>,
 ) -> Result<(), AllocError>
-    ensures { OnOk result (out.new.items ≡ out.old.items ++ rows_text (class_rows names.now (map definition list.now) class.now)) }
+    ensures { OnOk result (out.new.items ≡ out.old.items
+        ++ rows_text (class_rows names.now (map definition list.now) class.now)) }
 {
     let indent = deeper(alloc, b"")?;
     class_head(names, class, out)?;
@@ -305,7 +318,8 @@ fn declaration(
 
 #[tactic(auto, using(crate::proofs::Texts::decls))]
 fn declarations(alloc: Global, program: &Program, out: &mut Vec<u8>) -> Result<(), AllocError>
-    ensures { OnOk result (out.new.items ≡ out.old.items ++ rows_text (decls_rows (code program.now) program.now.decls)) }
+    ensures { OnOk result (out.new.items ≡ out.old.items
+        ++ rows_text (decls_rows (code program.now) program.now.decls)) }
 {
     for decl in program.decls.as_slice() {
         declaration(alloc, program, *decl, out)?;

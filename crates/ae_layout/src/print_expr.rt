@@ -3,16 +3,19 @@ ghost use Rattle.std.specs.Prelude.{◌≡◌, ◌++◌, true, false, map, OnOk}
 ghost use Rattle.ae_layout.specs.Spelling.{tokens_text};
 ghost use Rattle.ae_tree.specs.Grammar.{sign_of as op_sign, truth_word};
 ghost use Rattle.ae_tree.specs.Shown.{expression, invocation, right_side};
-ghost use Rattle.ae_layout.specs.Layout.{after_commas, with_commas, name_tokens, groups_tokens, steps_tokens, path_tokens, perm_tokens, kind_tokens, type_tokens, expression_tokens, arguments_tokens, method_tokens, call_tokens, right_tokens};
+ghost use Rattle.ae_layout.specs.Layout.{after_commas, with_commas, name_tokens, groups_tokens, steps_tokens};
+ghost use Rattle.ae_layout.specs.Layout.{path_tokens, perm_tokens, kind_tokens, type_tokens, expression_tokens};
+ghost use Rattle.ae_layout.specs.Layout.{arguments_tokens, method_tokens, call_tokens, right_tokens};
 
 use crate::spell::{name, number, root, sign, word};
-use ae_tree::{Call, Expr, KindAt, NameAt, Op, Path, PermAt, Rhs, Ty};
 use ae_text::{Items, Keyword, Sign};
+use ae_tree::{Call, Expr, KindAt, NameAt, Op, Path, PermAt, Rhs, Ty};
 use std::alloc::{AllocError, Global};
 
 #[tactic(auto, using(crate::proofs::Texts::texts))]
 fn more_names(names: &[Items<u8>], list: &[NameAt], out: &mut Vec<u8>) -> Result<(), AllocError>
-    ensures { OnOk result (out.new.items ≡ out.old.items ++ tokens_text (after_commas (name_tokens names.now false) list.now)) }
+    ensures { OnOk result (out.new.items ≡ out.old.items
+        ++ tokens_text (after_commas (name_tokens names.now false) list.now)) }
 {
     for item in list {
         sign(true, Sign::Comma, out)?;
@@ -29,7 +32,8 @@ pub fn name_list(
     list: &[NameAt],
     out: &mut Vec<u8>,
 ) -> Result<(), AllocError>
-    ensures { OnOk result (out.new.items ≡ out.old.items ++ tokens_text (with_commas (name_tokens names.now) close list.now)) }
+    ensures { OnOk result (out.new.items ≡ out.old.items
+        ++ tokens_text (with_commas (name_tokens names.now) close list.now)) }
 {
     match list.split_first() {
         Some((first, rest)) => {
@@ -171,7 +175,8 @@ pub fn expr(
     tree: &Expr,
     out: &mut Vec<u8>,
 ) -> Result<(), AllocError>
-    ensures { OnOk result (out.new.items ≡ out.old.items ++ tokens_text (expression_tokens names.now close (expression tree.now))) }
+    ensures { OnOk result (out.new.items ≡ out.old.items
+        ++ tokens_text (expression_tokens names.now close (expression tree.now))) }
 {
     match tree {
         Expr::Int(value, _) => number(alloc, close, *value, out),
@@ -216,7 +221,8 @@ fn more_exprs(
     list: &[Expr],
     out: &mut Vec<u8>,
 ) -> Result<(), AllocError>
-    ensures { OnOk result (out.new.items ≡ out.old.items ++ tokens_text (after_commas (expression_tokens names.now false) (map expression list.now))) }
+    ensures { OnOk result (out.new.items ≡ out.old.items
+        ++ tokens_text (after_commas (expression_tokens names.now false) (map expression list.now))) }
 {
     for item in list {
         sign(true, Sign::Comma, out)?;
@@ -232,7 +238,8 @@ fn expr_list(
     list: &[Expr],
     out: &mut Vec<u8>,
 ) -> Result<(), AllocError>
-    ensures { OnOk result (out.new.items ≡ out.old.items ++ tokens_text (with_commas (expression_tokens names.now) true (map expression list.now))) }
+    ensures { OnOk result (out.new.items ≡ out.old.items
+        ++ tokens_text (with_commas (expression_tokens names.now) true (map expression list.now))) }
 {
     match list.split_first() {
         Some((first, rest)) => {
@@ -251,7 +258,8 @@ fn arguments(
     list: &[Expr],
     out: &mut Vec<u8>,
 ) -> Result<(), AllocError>
-    ensures { OnOk result (out.new.items ≡ out.old.items ++ tokens_text (arguments_tokens names.now (map expression list.now))) }
+    ensures { OnOk result (out.new.items ≡ out.old.items
+        ++ tokens_text (arguments_tokens names.now (map expression list.now))) }
 {
     sign(true, Sign::OpenParen, out)?;
     expr_list(alloc, names, list, out)?;
@@ -287,7 +295,8 @@ pub fn call(
     call: &Call,
     out: &mut Vec<u8>,
 ) -> Result<(), AllocError>
-    ensures { OnOk result (out.new.items ≡ out.old.items ++ tokens_text (call_tokens names.now close (invocation call.now))) }
+    ensures { OnOk result (out.new.items ≡ out.old.items
+        ++ tokens_text (call_tokens names.now close (invocation call.now))) }
 {
     method(names, close, &call.on, call.method, out)?;
     groups(names, call.groups.as_slice(), out)?;

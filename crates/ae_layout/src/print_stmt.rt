@@ -2,15 +2,19 @@
 ghost use Rattle.std.specs.Prelude.{◌≡◌, ◌++◌, [], ◌∷◌, true, false, IfOk, OnOk};
 ghost use Rattle.ae_layout.specs.Spelling.{tokens_text};
 ghost use Rattle.ae_tree.specs.Shown.{expression, invocation, right_side, action, braced};
-ghost use Rattle.ae_layout.specs.Layout.{with_commas, name_tokens, path_tokens, type_tokens, expression_tokens, call_tokens, right_tokens, name_kind, near, far, semicolon, open_brace, equals_value as assigned_tokens, first_line, row_text, rows_text, close_row as row_of_close, else_row as row_of_else, indented_more as deeper_text, block_rows, row, rows};
+ghost use Rattle.ae_layout.specs.Layout.{with_commas, name_tokens, path_tokens, type_tokens, expression_tokens};
+ghost use Rattle.ae_layout.specs.Layout.{call_tokens, right_tokens, name_kind, near, far, semicolon, open_brace};
+ghost use Rattle.ae_layout.specs.Layout.{equals_value as assigned_tokens, first_line, row_text, rows_text};
+ghost use Rattle.ae_layout.specs.Layout.{close_row as row_of_close, else_row as row_of_else};
+ghost use Rattle.ae_layout.specs.Layout.{indented_more as deeper_text, block_rows, row, rows};
 ghost use Rattle.ae_text.specs.declared.token.Keyword.TheVariants as word_of;
 ghost use Rattle.ae_text.specs.declared.token.Sign.TheVariants as sign_of;
 ghost use Rattle.ae_text.specs.declared.token.TokenKind.TheVariants as kind;
 
 use crate::print_expr::{call, expr, name_list, path, right, type_name};
 use crate::spell::{name, sign, text, word};
-use ae_tree::{Block, Call, Expr, Name, NameAt, Path, Rhs, StmtKind, Ty};
 use ae_text::{Items, Keyword, Sign};
+use ae_tree::{Block, Call, Expr, Name, NameAt, Path, Rhs, StmtKind, Ty};
 use std::alloc::{AllocError, Global};
 
 // An equals sign, an expression and a semicolon.
@@ -21,7 +25,8 @@ fn assigned(
     value: &Expr,
     out: &mut Vec<u8>,
 ) -> Result<(), AllocError>
-    ensures { OnOk result (out.new.items ≡ out.old.items ++ tokens_text (assigned_tokens names.now (expression value.now))) }
+    ensures { OnOk result (out.new.items ≡ out.old.items
+        ++ tokens_text (assigned_tokens names.now (expression value.now))) }
 {
     sign(false, Sign::Assign, out)?;
     expr(alloc, names, false, value, out)?;
@@ -36,7 +41,8 @@ fn assigned_right(
     rhs: &Rhs,
     out: &mut Vec<u8>,
 ) -> Result<(), AllocError>
-    ensures { OnOk result (out.new.items ≡ out.old.items ++ tokens_text (far (kind.Sign sign_of.Assign) ∷ right_tokens names.now (right_side rhs.now) ++ semicolon)) }
+    ensures { OnOk result (out.new.items ≡ out.old.items
+        ++ tokens_text (far (kind.Sign sign_of.Assign) ∷ right_tokens names.now (right_side rhs.now) ++ semicolon)) }
 {
     sign(false, Sign::Assign, out)?;
     right(alloc, names, rhs, out)?;
@@ -52,7 +58,10 @@ fn declaration(
     rhs: &Rhs,
     out: &mut Vec<u8>,
 ) -> Result<(), AllocError>
-    ensures { OnOk result (out.new.items ≡ out.old.items ++ tokens_text (near (kind.Word word_of.Let) ∷ type_tokens names.now false ty.now ++ far (name_kind names.now local) ∷ far (kind.Sign sign_of.Assign) ∷ right_tokens names.now (right_side rhs.now) ++ semicolon)) }
+    ensures { OnOk result (out.new.items ≡ out.old.items
+        ++ tokens_text (near (kind.Word word_of.Let) ∷ type_tokens names.now false ty.now
+        ++ far (name_kind names.now local) ∷ far (kind.Sign sign_of.Assign)
+        ∷ right_tokens names.now (right_side rhs.now) ++ semicolon)) }
 {
     word(true, Keyword::Let, out)?;
     type_name(names, false, ty, out)?;
@@ -68,7 +77,9 @@ fn assignment(
     rhs: &Rhs,
     out: &mut Vec<u8>,
 ) -> Result<(), AllocError>
-    ensures { OnOk result (out.new.items ≡ out.old.items ++ tokens_text (near (name_kind names.now local) ∷ far (kind.Sign sign_of.Assign) ∷ right_tokens names.now (right_side rhs.now) ++ semicolon)) }
+    ensures { OnOk result (out.new.items ≡ out.old.items
+        ++ tokens_text (near (name_kind names.now local) ∷ far (kind.Sign sign_of.Assign)
+        ∷ right_tokens names.now (right_side rhs.now) ++ semicolon)) }
 {
     name(names, true, local, out)?;
     assigned_right(alloc, names, rhs, out)
@@ -82,7 +93,8 @@ fn field_write(
     value: &Expr,
     out: &mut Vec<u8>,
 ) -> Result<(), AllocError>
-    ensures { OnOk result (out.new.items ≡ out.old.items ++ tokens_text (path_tokens names.now true field.now ++ assigned_tokens names.now (expression value.now))) }
+    ensures { OnOk result (out.new.items ≡ out.old.items
+        ++ tokens_text (path_tokens names.now true field.now ++ assigned_tokens names.now (expression value.now))) }
 {
     path(names, true, field, out)?;
     assigned(alloc, names, value, out)
@@ -97,7 +109,10 @@ fn index_write(
     value: &Expr,
     out: &mut Vec<u8>,
 ) -> Result<(), AllocError>
-    ensures { OnOk result (out.new.items ≡ out.old.items ++ tokens_text (path_tokens names.now true array.now ++ near (kind.Sign sign_of.OpenBracket) ∷ expression_tokens names.now true (expression index.now) ++ near (kind.Sign sign_of.CloseBracket) ∷ assigned_tokens names.now (expression value.now))) }
+    ensures { OnOk result (out.new.items ≡ out.old.items
+        ++ tokens_text (path_tokens names.now true array.now ++ near (kind.Sign sign_of.OpenBracket)
+        ∷ expression_tokens names.now true (expression index.now) ++ near (kind.Sign sign_of.CloseBracket)
+        ∷ assigned_tokens names.now (expression value.now))) }
 {
     path(names, true, array, out)?;
     sign(true, Sign::OpenBracket, out)?;
@@ -113,7 +128,8 @@ fn call_statement(
     made: &Call,
     out: &mut Vec<u8>,
 ) -> Result<(), AllocError>
-    ensures { OnOk result (out.new.items ≡ out.old.items ++ tokens_text (call_tokens names.now true (invocation made.now) ++ semicolon)) }
+    ensures { OnOk result (out.new.items ≡ out.old.items
+        ++ tokens_text (call_tokens names.now true (invocation made.now) ++ semicolon)) }
 {
     call(alloc, names, true, made, out)?;
     sign(true, Sign::Semicolon, out)
@@ -128,7 +144,9 @@ fn with_expr(
     value: &Expr,
     out: &mut Vec<u8>,
 ) -> Result<(), AllocError>
-    ensures { OnOk result (out.new.items ≡ out.old.items ++ tokens_text (near (kind.Word keyword) ∷ expression_tokens names.now false (expression value.now) ++ semicolon)) }
+    ensures { OnOk result (out.new.items ≡ out.old.items
+        ++ tokens_text (near (kind.Word keyword) ∷ expression_tokens names.now false (expression value.now)
+        ++ semicolon)) }
 {
     word(true, keyword, out)?;
     expr(alloc, names, false, value, out)?;
@@ -144,7 +162,9 @@ fn condition(
     test: &Expr,
     out: &mut Vec<u8>,
 ) -> Result<(), AllocError>
-    ensures { OnOk result (out.new.items ≡ out.old.items ++ tokens_text (near (kind.Word keyword) ∷ expression_tokens names.now false (expression test.now) ++ open_brace)) }
+    ensures { OnOk result (out.new.items ≡ out.old.items
+        ++ tokens_text (near (kind.Word keyword) ∷ expression_tokens names.now false (expression test.now)
+        ++ open_brace)) }
 {
     word(true, keyword, out)?;
     expr(alloc, names, false, test, out)?;
@@ -159,7 +179,8 @@ fn with_name(
     about: Name,
     out: &mut Vec<u8>,
 ) -> Result<(), AllocError>
-    ensures { OnOk result (out.new.items ≡ out.old.items ++ tokens_text (near (kind.Word keyword) ∷ far (name_kind names.now about) ∷ semicolon)) }
+    ensures { OnOk result (out.new.items ≡ out.old.items
+        ++ tokens_text (near (kind.Word keyword) ∷ far (name_kind names.now about) ∷ semicolon)) }
 {
     word(true, keyword, out)?;
     name(names, false, about, out)?;
@@ -168,7 +189,8 @@ fn with_name(
 
 #[tactic(auto, using(crate::proofs::Texts::texts))]
 fn atomic(names: &[Items<u8>], group: Name, out: &mut Vec<u8>) -> Result<(), AllocError>
-    ensures { OnOk result (out.new.items ≡ out.old.items ++ tokens_text (near (kind.Word word_of.Atomic) ∷ far (name_kind names.now group) ∷ open_brace)) }
+    ensures { OnOk result (out.new.items ≡ out.old.items
+        ++ tokens_text (near (kind.Word word_of.Atomic) ∷ far (name_kind names.now group) ∷ open_brace)) }
 {
     word(true, Keyword::Atomic, out)?;
     name(names, false, group, out)?;
@@ -177,7 +199,9 @@ fn atomic(names: &[Items<u8>], group: Name, out: &mut Vec<u8>) -> Result<(), All
 
 #[tactic(auto, using(crate::proofs::Texts::texts))]
 fn split(names: &[Items<u8>], list: &[NameAt], out: &mut Vec<u8>) -> Result<(), AllocError>
-    ensures { OnOk result (out.new.items ≡ out.old.items ++ tokens_text (near (kind.Word word_of.Split) ∷ with_commas (name_tokens names.now) false list.now ++ open_brace)) }
+    ensures { OnOk result (out.new.items ≡ out.old.items
+        ++ tokens_text (near (kind.Word word_of.Split) ∷ with_commas (name_tokens names.now) false list.now
+        ++ open_brace)) }
 {
     word(true, Keyword::Split, out)?;
     name_list(names, false, list, out)?;
@@ -191,7 +215,9 @@ fn share(
     group: Name,
     out: &mut Vec<u8>,
 ) -> Result<(), AllocError>
-    ensures { OnOk result (out.new.items ≡ out.old.items ++ tokens_text (near (kind.Word word_of.Share) ∷ far (name_kind names.now shared) ∷ far (kind.Word word_of.Into) ∷ far (name_kind names.now group) ∷ semicolon)) }
+    ensures { OnOk result (out.new.items ≡ out.old.items
+        ++ tokens_text (near (kind.Word word_of.Share) ∷ far (name_kind names.now shared)
+        ∷ far (kind.Word word_of.Into) ∷ far (name_kind names.now group) ∷ semicolon)) }
 {
     word(true, Keyword::Share, out)?;
     name(names, false, shared, out)?;
@@ -202,7 +228,8 @@ fn share(
 
 #[tactic(auto, using(crate::proofs::Texts::texts))]
 fn print_text(bytes: &[u8], out: &mut Vec<u8>) -> Result<(), AllocError>
-    ensures { OnOk result (out.new.items ≡ out.old.items ++ tokens_text (near (kind.Word word_of.Print) ∷ far (kind.Text bytes.now) ∷ semicolon)) }
+    ensures { OnOk result (out.new.items ≡ out.old.items
+        ++ tokens_text (near (kind.Word word_of.Print) ∷ far (kind.Text bytes.now) ∷ semicolon)) }
 {
     word(true, Keyword::Print, out)?;
     text(false, bytes, out)?;
@@ -293,7 +320,8 @@ fn first(
     stmt: &StmtKind,
     out: &mut Vec<u8>,
 ) -> Result<(), AllocError>
-    ensures { OnOk result (out.new.items ≡ out.old.items ++ row_text (row indent.now (first_line names.now (action stmt.now)))) }
+    ensures { OnOk result (out.new.items ≡ out.old.items
+        ++ row_text (row indent.now (first_line names.now (action stmt.now)))) }
 {
     start(indent, out)?;
     begin(alloc, names, stmt, out)?;
@@ -310,7 +338,8 @@ fn braces(
     block: &Block,
     out: &mut Vec<u8>,
 ) -> Result<(), AllocError>
-    ensures { OnOk result (out.new.items ≡ out.old.items ++ rows_text (rows names.now (deeper_text indent.now) (braced block.now).lines)) }
+    ensures { OnOk result (out.new.items ≡ out.old.items
+        ++ rows_text (rows names.now (deeper_text indent.now) (braced block.now).lines)) }
 {
     let inner = deeper(alloc, indent)?;
     for stmt in block.stmts.as_slice() {
@@ -330,7 +359,8 @@ fn blocks(
     stmt: &StmtKind,
     out: &mut Vec<u8>,
 ) -> Result<(), AllocError>
-    ensures { OnOk result (out.new.items ≡ out.old.items ++ rows_text (block_rows names.now indent.now (action stmt.now))) }
+    ensures { OnOk result (out.new.items ≡ out.old.items
+        ++ rows_text (block_rows names.now indent.now (action stmt.now))) }
 {
     match stmt {
         StmtKind::If(_, then, otherwise) => {
@@ -372,7 +402,9 @@ pub fn body(
     block: &Block,
     out: &mut Vec<u8>,
 ) -> Result<(), AllocError>
-    ensures { OnOk result (out.new.items ≡ out.old.items ++ rows_text (rows names.now (deeper_text indent.now) (braced block.now).lines ++ row_of_close indent.now ∷ [])) }
+    ensures { OnOk result (out.new.items ≡ out.old.items
+        ++ rows_text (rows names.now (deeper_text indent.now) (braced block.now).lines ++ row_of_close indent.now
+        ∷ [])) }
 {
     braces(alloc, names, indent, block, out)?;
     close(indent, out)

@@ -6,8 +6,8 @@ ghost use Rattle.ae_text.specs.declared.token.TokenKind.TheVariants as kind;
 ghost use Rattle.ae_layout.specs.Spelling.{escaped_byte, all_escaped, gap, printed_text};
 ghost use Rattle.ae_layout.specs.Layout.{token, name_kind, root_kind};
 
-use ae_tree::Name;
 use ae_text::{Items, Keyword, Sign};
+use ae_tree::Name;
 use std::alloc::{AllocError, Global};
 
 // `this` is the third name of every program.

@@ -56,18 +56,25 @@ names_differ : (x y : ℕ) → (x ≡ y → ⊥) → nat_eq x y ≡ false
 names_differ x y h = false_from_ne_true (nat_eq x y) (λ t. h (let e : x ≡ y = grind (arith, nat_tests) in e))
 
 -- two statements that are apart do not write the same local
-pub two_names : (a b : Action) → Apart a b → (x y : ℕ) → use_of a (Local x) ≡ Some Write → use_of b (Local y) ≡ Some Write → nat_eq x y ≡ false
+pub two_names : (a b : Action) → Apart a b → (x y : ℕ) → use_of a (Local x) ≡ Some Write
+    → use_of b (Local y) ≡ Some Write → nat_eq x y ≡ false
 two_names a b p x y h k =
-    names_differ x y (λ e. p (Local y) (conflict_of Write Write refl (use_of a (Local y)) (use_of b (Local y)) (subst (λ (z : ℕ). use_of a (Local z) ≡ Some Write) e h) k))
+    names_differ x y (λ e. p (Local y)
+    (conflict_of Write Write refl (use_of a (Local y)) (use_of b (Local y))
+    (subst (λ (z : ℕ). use_of a (Local z) ≡ Some Write) e h) k))
 
 -- they do not both print
-pub both_print : (a b : Action) → Apart a b → use_of a (Group io) ≡ Some GroupWhole → use_of b (Group io) ≡ Some GroupWhole → ⊥
-both_print a b p h k = p (Group io) (conflict_of GroupWhole GroupWhole refl (use_of a (Group io)) (use_of b (Group io)) h k)
+pub both_print : (a b : Action) → Apart a b → use_of a (Group io) ≡ Some GroupWhole
+    → use_of b (Group io) ≡ Some GroupWhole → ⊥
+both_print a b p h k = p (Group io)
+    (conflict_of GroupWhole GroupWhole refl (use_of a (Group io)) (use_of b (Group io)) h k)
 
 -- a use by Write or GroupWhole is not weak
 pub not_weak : (m : Mode) → is_strong m ≡ true → (o : Option Mode) → o ≡ Some m → IsWeak o → ⊥
 not_weak m s o h w = let f : is_strong m ≡ false = subst (λ (p : Option Mode). IsWeak p) h w in cc
 
 -- a local that is used weakly is none that is written
-pub weak_name : (a : Action) (x y : ℕ) → use_of a (Local x) ≡ Some Write → IsWeak (use_of a (Local y)) → nat_eq x y ≡ false
-weak_name a x y h w = names_differ x y (λ e. not_weak Write refl (use_of a (Local y)) (subst (λ (z : ℕ). use_of a (Local z) ≡ Some Write) e h) w)
+pub weak_name : (a : Action) (x y : ℕ) → use_of a (Local x) ≡ Some Write → IsWeak (use_of a (Local y))
+    → nat_eq x y ≡ false
+weak_name a x y h w = names_differ x y
+    (λ e. not_weak Write refl (use_of a (Local y)) (subst (λ (z : ℕ). use_of a (Local z) ≡ Some Write) e h) w)

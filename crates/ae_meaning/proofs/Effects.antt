@@ -1,5 +1,6 @@
 -- What a statement does, told by what it uses alone.
-use Rattle.std.proofs.Common.{◌≡◌, ℕ, ℤ, Bool, true, false, ◌||◌, if◌then◌else◌, nat_eq, List, [], ◌∷◌, ◌++◌, Some, is_some, refl, ap, ◌∙◌, arith}
+use Rattle.std.proofs.Common.{◌≡◌, ℕ, ℤ, Bool, true, false, ◌||◌, if◌then◌else◌, nat_eq, List, [], ◌∷◌, ◌++◌, Some}
+use Rattle.std.proofs.Common.{is_some, refl, ap, ◌∙◌, arith}
 use Rattle.std.specs.Prelude.{neg_ℤ}
 use Rattle.std.specs.Fmt.{signed_decimal}
 use Rattle.std.proofs.lemmas.Bool.Decides.{nat_tests}
@@ -7,12 +8,15 @@ use Rattle.ae_text.specs.declared.refusal.Spot.{Spot}
 use Rattle.ae_tree.specs.declared.tree.NameAt.{NameAt}
 use Rattle.ae_rules.specs.declared.uses.Resource.TheVariants.{Local, Group}
 use Rattle.ae_rules.specs.declared.uses.Mode.TheVariants.{Write, GroupWhole}
-use Rattle.ae_tree.specs.Plain.{Expression, Number, Truth, Nothing, Read, Item, Length, Grouped, Negated, Minus, Binary, RightSide, Value, Taken, Zeros, Made, Returned}
-use Rattle.ae_tree.specs.Plain.{Action, Declares, Assigns, Stores, StoresAt, Calls, Chooses, ChoosesElse, Repeats, Groups, Splits, Locks, Freezes, Shares, Prints, PrintsText, Asserts, Returns}
+use Rattle.ae_tree.specs.Plain.{Expression, Number, Truth, Nothing, Read, Item, Length, Grouped, Negated, Minus}
+use Rattle.ae_tree.specs.Plain.{Binary, RightSide, Value, Taken, Zeros, Made, Returned}
+use Rattle.ae_tree.specs.Plain.{Action, Declares, Assigns, Stores, StoresAt, Calls, Chooses, ChoosesElse, Repeats}
+use Rattle.ae_tree.specs.Plain.{Groups, Splits, Locks, Freezes, Shares, Prints, PrintsText, Asserts, Returns}
 use Rattle.ae_tree.specs.Names.{io}
 use Rattle.ae_rules.specs.BuiltUses.{reads_local, reads_right, read_if, local_mode, use_of}
 use Rattle.ae_meaning.specs.declared.report.Ending.TheVariants.{Trap}
-use Rattle.ae_meaning.specs.Values.{Env, TodayOutcome, Fine, Traps, Lacks, then_value, today_found, today_fitted, stepped, today_value}
+use Rattle.ae_meaning.specs.Values.{Env, TodayOutcome, Fine, Traps, Lacks, then_value, today_found, today_fitted}
+use Rattle.ae_meaning.specs.Values.{stepped, today_value}
 use Rattle.ae_meaning.specs.Meaning.{TodayState, Run, Went, Ends, Stops, today_given, bound, today_printed, today_one}
 use Rattle.ae_meaning.specs.Running.{sought}
 use Rattle.ae_meaning.specs.Frame.{is_read}
@@ -36,8 +40,10 @@ value_same (Grouped a at) e f h = value_same a e f h
 value_same (Negated a at) e f h = refl
 value_same (Minus a at) e f h = ap (λ o. then_value o (λ x. today_fitted (neg_ℤ x))) (value_same a e f h)
 value_same (Binary op a b) e f h =
-    let p : today_value a e ≡ today_value a f = value_same a e f (λ y r. h y (or_left (reads_local a y) (reads_local b y) r)) in
-    let q : today_value b e ≡ today_value b f = value_same b e f (λ y r. h y (or_right (reads_local a y) (reads_local b y) r)) in
+    let p : today_value a e ≡ today_value a f = value_same a e f
+    (λ y r. h y (or_left (reads_local a y) (reads_local b y) r)) in
+    let q : today_value b e ≡ today_value b f = value_same b e f
+    (λ y r. h y (or_right (reads_local a y) (reads_local b y) r)) in
     rw (p, q) refl
 
 sought_same : (a : RightSide) (e f : Env) → SameOn (reads_right a) e f → sought a e ≡ sought a f
@@ -74,15 +80,18 @@ effect (Assigns x e) env = doing (sought e env) (Binds x.name)
 effect (Prints e) env = doing (today_value e env) (λ v. Adds (signed_decimal v ++ 10 ∷ []))
 effect _ env = Halts
 
-given_performs : (o : TodayOutcome) (at : Spot) (s : TodayState) (go : ℤ → Run) (does : ℤ → Effect) → ((v : ℤ) → go v ≡ perform at (does v) s) → today_given o at s go ≡ perform at (doing o does) s
+given_performs : (o : TodayOutcome) (at : Spot) (s : TodayState) (go : ℤ → Run) (does : ℤ → Effect)
+    → ((v : ℤ) → go v ≡ perform at (does v) s) → today_given o at s go ≡ perform at (doing o does) s
 given_performs (Fine v) at s go does h = h v
 given_performs (Traps code) at s go does h = refl
 given_performs Lacks at s go does h = refl
 
 -- a statement's run is its effect
 pub performs : (at : Spot) (a : Action) (s : TodayState) → today_one at a s ≡ perform at (effect a s.env) s
-performs at (Declares ty x e) s = right-given e at s (λ v. Went (bound x.name v s)) ∙ given_performs (sought e s.env) at s (λ v. Went (bound x.name v s)) (Binds x.name) (λ v. refl)
-performs at (Assigns x e) s = right-given e at s (λ v. Went (bound x.name v s)) ∙ given_performs (sought e s.env) at s (λ v. Went (bound x.name v s)) (Binds x.name) (λ v. refl)
+performs at (Declares ty x e) s = right-given e at s (λ v. Went (bound x.name v s))
+    ∙ given_performs (sought e s.env) at s (λ v. Went (bound x.name v s)) (Binds x.name) (λ v. refl)
+performs at (Assigns x e) s = right-given e at s (λ v. Went (bound x.name v s)) ∙ given_performs (sought e s.env) at s
+    (λ v. Went (bound x.name v s)) (Binds x.name) (λ v. refl)
 performs at (Stores p e) s = refl
 performs at (StoresAt p i e) s = refl
 performs at (Calls c) s = refl
@@ -94,7 +103,8 @@ performs at (Splits gs n b) s = refl
 performs at (Locks g n b) s = refl
 performs at (Freezes x) s = refl
 performs at (Shares x g) s = refl
-performs at (Prints e) s = given_performs (today_value e s.env) at s (λ v. Went (today_printed v s)) (λ v. Adds (signed_decimal v ++ 10 ∷ [])) (λ v. refl)
+performs at (Prints e) s = given_performs (today_value e s.env) at s (λ v. Went (today_printed v s))
+    (λ v. Adds (signed_decimal v ++ 10 ∷ [])) (λ v. refl)
 performs at (PrintsText text) s = refl
 performs at (Asserts e) s = refl
 performs at (Returns e) s = refl
@@ -158,7 +168,8 @@ Allowed a (Adds bytes) = use_of a (Group io) ≡ Some GroupWhole
 Allowed a (Fails code) = Unit {0}
 Allowed a Halts = Unit {0}
 
-doing_allowed : (a : Action) (o : TodayOutcome) (does : ℤ → Effect) → ((v : ℤ) → Allowed a (does v)) → Allowed a (doing o does)
+doing_allowed : (a : Action) (o : TodayOutcome) (does : ℤ → Effect) → ((v : ℤ) → Allowed a (does v))
+    → Allowed a (doing o does)
 doing_allowed a (Fine v) does h = h v
 doing_allowed a (Traps code) does h = tt
 doing_allowed a Lacks does h = tt
@@ -169,7 +180,8 @@ written x e = ap (λ b. if b then Some Write else read_if (reads_right e x)) (nu
 pub allowed : (a : Action) (env : Env) → Allowed a (effect a env)
 allowed (Declares ty x e) env = doing_allowed (Declares ty x e) (sought e env) (Binds x.name) (λ v. written x.name e)
 allowed (Assigns x e) env = doing_allowed (Assigns x e) (sought e env) (Binds x.name) (λ v. written x.name e)
-allowed (Prints e) env = doing_allowed (Prints e) (today_value e env) (λ v. Adds (signed_decimal v ++ 10 ∷ [])) (λ v. refl)
+allowed (Prints e) env = doing_allowed (Prints e) (today_value e env) (λ v. Adds (signed_decimal v ++ 10 ∷ []))
+    (λ v. refl)
 allowed (Stores p e) env = tt
 allowed (StoresAt p i e) env = tt
 allowed (Calls c) env = tt

@@ -1,5 +1,6 @@
 -- The laws on what statements use, from their effects.
-use Rattle.std.proofs.Common.{◌≡◌, ℕ, ℤ, Bool, true, false, if◌then◌else◌, nat_eq, List, [], ◌++◌, Option, Some, refl, ap, sym, ◌∙◌, subst, arith}
+use Rattle.std.proofs.Common.{◌≡◌, ℕ, ℤ, Bool, true, false, if◌then◌else◌, nat_eq, List, [], ◌++◌, Option, Some}
+use Rattle.std.proofs.Common.{refl, ap, sym, ◌∙◌, subst, arith}
 use Rattle.std.proofs.lemmas.List.{append-nil}
 use Rattle.std.proofs.lemmas.Bool.Decides.{nat_tests}
 use Rattle.ae_text.specs.declared.refusal.Spot.{Spot}
@@ -11,8 +12,10 @@ use Rattle.ae_rules.specs.BuiltUses.{use_of}
 use Rattle.ae_meaning.specs.Values.{Env, today_with}
 use Rattle.ae_meaning.specs.Meaning.{TodayState, Run, Went, Ends, Stops, bound, today_one}
 use Rattle.ae_meaning.specs.declared.report.Ending.TheVariants.{Trap}
-use Rattle.ae_meaning.specs.Frame.{View, Agree, AgreeAfter, DependsOnReads, ReadsItsUses, KeepsUnwritten, ChangesItsWrites, behind_bytes, AddsToTheLog, Apart, Commute, ApartCommute}
-use Rattle.ae_meaning.proofs.Effects.{SameOn, Effect, Binds, Adds, Fails, Halts, added, perform, effect, performs, effect_read, effect_same, Allowed, allowed}
+use Rattle.ae_meaning.specs.Frame.{View, Agree, AgreeAfter, DependsOnReads, ReadsItsUses, KeepsUnwritten}
+use Rattle.ae_meaning.specs.Frame.{ChangesItsWrites, behind_bytes, AddsToTheLog, Apart, Commute, ApartCommute}
+use Rattle.ae_meaning.proofs.Effects.{SameOn, Effect, Binds, Adds, Fails, Halts, added, perform, effect, performs}
+use Rattle.ae_meaning.proofs.Effects.{effect_read, effect_same, Allowed, allowed}
 use Rattle.ae_meaning.proofs.Apart.{unwritten, apart-turned, two_names, both_print, not_weak, weak_name}
 use Rattle.ae_meaning.proofs.from_text.Basics.{functions_agree}
 
@@ -20,7 +23,8 @@ use Rattle.ae_meaning.proofs.from_text.Basics.{functions_agree}
 with_agrees : (u : ℕ → Bool) (x : ℕ) (v : ℤ) (e f : Env) → SameOn u e f → SameOn u (today_with x v e) (today_with x v f)
 with_agrees u x v e f h = λ y t. ap (λ o. if nat_eq x y then Some v else o) (h y t)
 
-perform_agrees : (at : Spot) (k : Effect) (v : View) (s t : TodayState) → Agree v s t → AgreeAfter v (perform at k s) (perform at k t)
+perform_agrees : (at : Spot) (k : Effect) (v : View) (s t : TodayState) → Agree v s t
+    → AgreeAfter v (perform at k s) (perform at k t)
 perform_agrees at (Binds x n) v s t h = record { local = with_agrees v.local x n s.env t.env h.local; log = h.log }
 perform_agrees at (Adds bytes) v s t h = record { local = h.local; log = λ e. ap (λ l. l ++ bytes) (h.log e) }
 perform_agrees at (Fails code) v s t h = (refl, h.log)
@@ -40,7 +44,8 @@ unchanged : (b : Bool) (v : ℤ) (o : Option ℤ) → b ≡ false → (if b then
 unchanged true v o h = cc
 unchanged false v o h = refl
 
-perform_keeps : (at : Spot) (a : Action) (k : Effect) → Allowed a k → (s : TodayState) → KeepsUnwritten a s (perform at k s)
+perform_keeps : (at : Spot) (a : Action) (k : Effect) → Allowed a k → (s : TodayState)
+    → KeepsUnwritten a s (perform at k s)
 perform_keeps at a (Binds x v) w s = (λ y h. unchanged (nat_eq x y) v (s.env y) (weak_name a x y w h), λ h. refl)
 perform_keeps at a (Adds bytes) w s = (λ y h. refl, λ h. absurd (not_weak GroupWhole refl (use_of a (Group io)) w h))
 perform_keeps at a (Fails code) w s = refl
@@ -50,36 +55,48 @@ pub changes_its_writes : ChangesItsWrites
 changes_its_writes at a s = rw (performs at a s) (perform_keeps at a (effect a s.env) (allowed a s.env) s)
 
 -- an effect does the same whatever was printed before
-perform_adds : (at : Spot) (k : Effect) (env : Env) (log : List ℕ) → perform at k (record { env = env; log = log }) ≡ behind_bytes log (perform at k (record { env = env; log = [] }))
-perform_adds at (Binds x v) env log = ap (λ l. Went (record { env = today_with x v env; log = l })) (sym (append-nil log))
+perform_adds : (at : Spot) (k : Effect) (env : Env) (log : List ℕ) → perform at k (record { env = env; log = log })
+    ≡ behind_bytes log (perform at k (record { env = env; log = [] }))
+perform_adds at (Binds x v) env log = ap (λ l. Went (record { env = today_with x v env; log = l }))
+    (sym (append-nil log))
 perform_adds at (Adds bytes) env log = refl
 perform_adds at (Fails code) env log = ap (λ l. Ends (Trap code at) l) (sym (append-nil log))
 perform_adds at Halts env log = ap (λ l. Stops l) (sym (append-nil log))
 
 pub adds_to_the_log : AddsToTheLog
-adds_to_the_log at a env log = rw (performs at a (record { env = env; log = log }), performs at a (record { env = env; log = [] })) (perform_adds at (effect a env) env log)
+adds_to_the_log at a env log =
+    rw (performs at a (record { env = env; log = log }), performs at a (record { env = env; log = [] }))
+    (perform_adds at (effect a env) env log)
 
 -- a statement that went through leaves the other's effect as it was
-after_other : (at1 at2 : Spot) (a b : Action) → Apart a b → (s t : TodayState) → today_one at1 a s ≡ Went t → today_one at2 b t ≡ perform at2 (effect b s.env) t
+after_other : (at1 at2 : Spot) (a b : Action) → Apart a b → (s t : TodayState) → today_one at1 a s ≡ Went t
+    → today_one at2 b t ≡ perform at2 (effect b s.env) t
 after_other at1 at2 a b p s t e =
     let k : KeepsUnwritten a s (Went t) = subst (λ (r : Run). KeepsUnwritten a s r) e (changes_its_writes at1 a s) in
     performs at2 b t ∙ ap (λ k. perform at2 k t) (effect_same b t.env s.env (λ y r. k.0 y (unwritten a b p y r)))
 
-with_swaps : (x y : ℕ) (v w : ℤ) (e : Env) → nat_eq x y ≡ false → (z : ℕ) → today_with x v (today_with y w e) z ≡ today_with y w (today_with x v e) z
+with_swaps : (x y : ℕ) (v w : ℤ) (e : Env) → nat_eq x y ≡ false → (z : ℕ) → today_with x v (today_with y w e) z
+    ≡ today_with y w (today_with x v e) z
 with_swaps x y v w e h z = grind (arith, nat_tests)
 
-effects_commute : (at1 at2 : Spot) (a b : Action) → Apart a b → (k l : Effect) → Allowed a k → Allowed b l → (s : TodayState) (f g : TodayState → Run)
-    → ((t : TodayState) → perform at1 k s ≡ Went t → g t ≡ perform at2 l t) → ((t : TodayState) → perform at2 l s ≡ Went t → f t ≡ perform at1 k t)
+effects_commute : (at1 at2 : Spot) (a b : Action) → Apart a b → (k l : Effect) → Allowed a k → Allowed b l
+    → (s : TodayState) (f g : TodayState → Run)
+    → ((t : TodayState) → perform at1 k s ≡ Went t → g t ≡ perform at2 l t)
+    → ((t : TodayState) → perform at2 l s ≡ Went t → f t ≡ perform at1 k t)
     → Commute f g (perform at1 k s) (perform at2 l s)
 effects_commute at1 at2 a b p (Binds x v) (Binds y w) k l s f g m n = (
   bound y w (bound x v s),
   m (bound x v s) refl,
-  n (bound y w s) refl ∙ ap (λ (e : Env). Went (record { env = e; log = s.log })) (functions_agree (today_with x v (today_with y w s.env)) (today_with y w (today_with x v s.env)) (with_swaps x y v w s.env (two_names a b p x y k l))),
+  n (bound y w s) refl ∙ ap (λ (e : Env). Went (record { env = e; log = s.log }))
+      (functions_agree (today_with x v (today_with y w s.env)) (today_with y w (today_with x v s.env))
+      (with_swaps x y v w s.env (two_names a b p x y k l))),
 )
-effects_commute at1 at2 a b p (Binds x v) (Adds more) k l s f g m n = (added more (bound x v s), m (bound x v s) refl, n (added more s) refl)
+effects_commute at1 at2 a b p (Binds x v) (Adds more) k l s f g m n =
+    (added more (bound x v s), m (bound x v s) refl, n (added more s) refl)
 effects_commute at1 at2 a b p (Binds x v) (Fails code) k l s f g m n = m (bound x v s) refl
 effects_commute at1 at2 a b p (Binds x v) Halts k l s f g m n = m (bound x v s) refl
-effects_commute at1 at2 a b p (Adds bytes) (Binds y w) k l s f g m n = (bound y w (added bytes s), m (added bytes s) refl, n (bound y w s) refl)
+effects_commute at1 at2 a b p (Adds bytes) (Binds y w) k l s f g m n =
+    (bound y w (added bytes s), m (added bytes s) refl, n (bound y w s) refl)
 effects_commute at1 at2 a b p (Adds bytes) (Adds more) k l s f g m n = absurd (both_print a b p k l)
 effects_commute at1 at2 a b p (Adds bytes) (Fails code) k l s f g m n = m (added bytes s) refl
 effects_commute at1 at2 a b p (Adds bytes) Halts k l s f g m n = m (added bytes s) refl
@@ -97,6 +114,7 @@ apart_commute at1 at2 a b p s =
     let e : today_one at1 a s ≡ perform at1 (effect a s.env) s = performs at1 a s in
     let f : today_one at2 b s ≡ perform at2 (effect b s.env) s = performs at2 b s in
     rw (e, f)
-    (effects_commute at1 at2 a b p (effect a s.env) (effect b s.env) (allowed a s.env) (allowed b s.env) s (today_one at1 a) (today_one at2 b)
+    (effects_commute at1 at2 a b p (effect a s.env) (effect b s.env) (allowed a s.env) (allowed b s.env) s
+    (today_one at1 a) (today_one at2 b)
     (λ t h. after_other at1 at2 a b p s t (e ∙ h))
     (λ t h. after_other at2 at1 b a (apart-turned a b p) s t (f ∙ h)))

@@ -22,9 +22,12 @@ pub grown : (old new : List (Option ℤ)) (n : ℕ) → length new ≡ n → len
     → at new ≡ at old
 grown old new n l m h1 h2 = functions_agree (at new) (at old) (λ y. grown_at old new n l h1 h2 y m)
 
-put_at : (vs : List (Option ℤ)) (x : ℕ) (v : ℤ) → x < length vs → (y : ℕ) → get_or (set vs x (Some v)) y None ≡ today_with x v (at vs) y
+put_at : (vs : List (Option ℤ)) (x : ℕ) (v : ℤ) → x < length vs → (y : ℕ) → get_or (set vs x (Some v)) y None
+    ≡ today_with x v (at vs) y
 put_at vs x v h y = grind (arith, nat_tests, common_steps)
 
 -- a place that is written
-pub put : (vs : List (Option ℤ)) (x : ℕ) (w v : ℤ) → x < length vs → w ≡ v → at (set vs x (Some w)) ≡ today_with x v (at vs)
-put vs x w v h e = ap (λ u. at (set vs x (Some u))) e ∙ functions_agree (at (set vs x (Some v))) (today_with x v (at vs)) (put_at vs x v h)
+pub put : (vs : List (Option ℤ)) (x : ℕ) (w v : ℤ) → x < length vs → w ≡ v
+    → at (set vs x (Some w)) ≡ today_with x v (at vs)
+put vs x w v h e = ap (λ u. at (set vs x (Some u))) e ∙ functions_agree (at (set vs x (Some v)))
+    (today_with x v (at vs)) (put_at vs x v h)

@@ -12,7 +12,8 @@ use Rattle.ae_meaning.specs.Meaning.{TodayState, Run, Went, Ends, Stops, today_o
 
 -- an expression's value is told by the locals that it reads
 abbrev pub ValueIsRead : Type 0
-ValueIsRead = (a : Expression) (e f : Env) → ((y : ℕ) → reads_local a y ≡ true → e y ≡ f y) → today_value a e ≡ today_value a f
+ValueIsRead = (a : Expression) (e f : Env) → ((y : ℕ) → reads_local a y ≡ true → e y ≡ f y)
+    → today_value a e ≡ today_value a f
 
 -- what is looked at: some locals, and the log or not
 pub record View : Type 0 where
@@ -55,7 +56,8 @@ ReadsItsUses = (at : Spot) (a : Action) (v : View) → ((y : ℕ) → IsSome (us
 
 -- after a run, all that the statement does not use by Write or GroupWhole is as before; the log is that of `io`
 abbrev pub KeepsUnwritten : Action → TodayState → Run → Type 0
-KeepsUnwritten a s (Went t) = ((y : ℕ) → IsWeak (use_of a (Local y)) → t.env y ≡ s.env y) × (IsWeak (use_of a (Group io)) → t.log ≡ s.log)
+KeepsUnwritten a s (Went t) = ((y : ℕ) → IsWeak (use_of a (Local y)) → t.env y ≡ s.env y)
+    × (IsWeak (use_of a (Group io)) → t.log ≡ s.log)
 KeepsUnwritten a s (Ends e log) = log ≡ s.log
 KeepsUnwritten a s (Stops log) = log ≡ s.log
 
@@ -71,7 +73,8 @@ behind_bytes log (Stops more) = Stops (log ++ more)
 
 -- a statement only adds to the log: it does the same whatever was printed before
 abbrev pub AddsToTheLog : Type 0
-AddsToTheLog = (at : Spot) (a : Action) (env : Env) (log : List ℕ) → today_one at a (record { env = env; log = log }) ≡ behind_bytes log (today_one at a (record { env = env; log = [] }))
+AddsToTheLog = (at : Spot) (a : Action) (env : Env) (log : List ℕ) → today_one at a (record { env = env; log = log })
+    ≡ behind_bytes log (today_one at a (record { env = env; log = [] }))
 
 -- two statements do not conflict: of no resource do both make uses that do not go together
 abbrev pub Apart : Action → Action → Type 0
@@ -89,4 +92,5 @@ Commute f g _ _ = Unit {0}
 
 -- statements that do not conflict commute
 abbrev pub ApartCommute : Type 0
-ApartCommute = (at1 at2 : Spot) (a b : Action) → Apart a b → (s : TodayState) → Commute (today_one at1 a) (today_one at2 b) (today_one at1 a s) (today_one at2 b s)
+ApartCommute = (at1 at2 : Spot) (a b : Action) → Apart a b → (s : TodayState)
+    → Commute (today_one at1 a) (today_one at2 b) (today_one at1 a s) (today_one at2 b s)

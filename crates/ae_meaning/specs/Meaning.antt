@@ -3,7 +3,8 @@ use Rattle.std.specs.Prelude.{ℕ, nat_eq, if◌then◌else◌, ℤ, List, [], �
 use Rattle.std.specs.Fmt.{signed_decimal}
 use Rattle.ae_text.specs.declared.refusal.Spot.{Spot}
 use Rattle.ae_tree.specs.Plain.{RightSide, Value, Taken, Zeros, Made, Returned, Lines, End, Next, Definition, Code}
-use Rattle.ae_tree.specs.Plain.{Action, Declares, Assigns, Stores, StoresAt, Calls, Chooses, ChoosesElse, Repeats, Groups, Splits, Locks, Freezes, Shares, Prints, PrintsText, Asserts, Returns}
+use Rattle.ae_tree.specs.Plain.{Action, Declares, Assigns, Stores, StoresAt, Calls, Chooses, ChoosesElse, Repeats}
+use Rattle.ae_tree.specs.Plain.{Groups, Splits, Locks, Freezes, Shares, Prints, PrintsText, Asserts, Returns}
 use Rattle.ae_tree.specs.Names.{main}
 use Rattle.ae_meaning.specs.declared.report.Ending.{Ending}
 use Rattle.ae_meaning.specs.declared.report.Ending.TheVariants.{Done, Trap}
@@ -85,7 +86,8 @@ meaning_of_run (Stops log) = record { ending = None; out = log }
 -- the body of the first top-level method named main
 abbrev pub main_body : List Definition → Lines
 main_body [] = End
-main_body (m ∷ ms) = if is_some m.class then main_body ms else (if nat_eq m.name.name main then m.body else main_body ms)
+main_body (m ∷ ms) = if is_some m.class then main_body ms else
+    (if nat_eq m.name.name main then m.body else main_body ms)
 
 abbrev pub begin : TodayState
 begin = record { env = empty; log = [] }

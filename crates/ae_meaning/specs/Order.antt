@@ -24,4 +24,5 @@ OrderIsFree = (b c : Lines) → Reorders b c → (s t : TodayState) → today_ma
 -- a statement that is taken out and goes through leaves the ending of the rest as it was
 abbrev pub TakingKeepsEnding : Type 0
 TakingKeepsEnding = (b : Lines) (at : Spot) (a : Action) (rest : Lines) → Takes b at a rest
-    → (s t : TodayState) → today_one at a s ≡ Went t → (meaning_of_run (today_many rest t)).ending ≡ (meaning_of_run (today_many b s)).ending
+    → (s t : TodayState) → today_one at a s ≡ Went t → (meaning_of_run (today_many rest t)).ending
+    ≡ (meaning_of_run (today_many b s)).ending

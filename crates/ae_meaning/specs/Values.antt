@@ -1,5 +1,6 @@
 -- Values, and what an expression comes to.
-use Rattle.std.specs.Prelude.{ℕ, ◌^◌, ℤ, pos, negsuc, ◌+ℤ◌, ◌-ℤ◌, ◌*ℤ◌, neg_ℤ, int_div, int_rem, nat_lt, nat_eq, if◌then◌else◌, List, [], ◌∷◌, Option, None, Some}
+use Rattle.std.specs.Prelude.{ℕ, ◌^◌, ℤ, pos, negsuc, ◌+ℤ◌, ◌-ℤ◌, ◌*ℤ◌, neg_ℤ, int_div, int_rem, nat_lt, nat_eq}
+use Rattle.std.specs.Prelude.{if◌then◌else◌, List, [], ◌∷◌, Option, None, Some}
 use Rattle.ae_tree.specs.declared.tree.Op.{Op}
 use Rattle.ae_tree.specs.declared.tree.Op.TheVariants as op
 use Rattle.ae_tree.specs.declared.tree.NameAt.{NameAt}
@@ -72,4 +73,5 @@ today_value (Length p at) env = Lacks
 today_value (Grouped e at) env = today_value e env
 today_value (Negated e at) env = Lacks
 today_value (Minus e at) env = then_value (today_value e env) (λ x. today_fitted (neg_ℤ x))
-today_value (Binary op a b) env = then_value (today_value a env) (λ x. then_value (today_value b env) (λ y. today_applied op x y))
+today_value (Binary op a b) env = then_value (today_value a env)
+    (λ x. then_value (today_value b env) (λ y. today_applied op x y))

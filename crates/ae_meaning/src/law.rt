@@ -1,5 +1,6 @@
 // Laws over the meaning alone.
-ghost use Rattle.ae_meaning.specs.Frame.{ValueIsRead, DependsOnReads, ReadsItsUses, ChangesItsWrites, AddsToTheLog, ApartCommute};
+ghost use Rattle.ae_meaning.specs.Frame.{ValueIsRead, DependsOnReads, ReadsItsUses, ChangesItsWrites, AddsToTheLog};
+ghost use Rattle.ae_meaning.specs.Frame.{ApartCommute};
 ghost use Rattle.ae_meaning.specs.Order.{OrderIsFree, TakingKeepsEnding};
 ghost use Rattle.ae_meaning.specs.Endings.{AcceptedEnd};
 

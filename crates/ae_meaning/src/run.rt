@@ -11,8 +11,8 @@ ghost use Rattle.ae_meaning.specs.Running.{env_of, held, FindsValue, sought, Ans
 use crate::locals::Locals;
 use crate::report::{Ending, Meant};
 use crate::value::{Fault, value_of};
-use ae_tree::{Block, Expr, Method, Program, Rhs, Stmt, StmtKind};
 use ae_text::{Items, Memory, Spot};
+use ae_tree::{Block, Expr, Method, Program, Rhs, Stmt, StmtKind};
 use std::alloc::{AllocError, Global};
 
 // `main` is the second name of every program.
@@ -120,7 +120,8 @@ fn run_block(alloc: Global, block: &Block, state: &mut Running) -> Result<(), St
 // The first top-level method named main.
 #[tactic(auto, using(crate::proofs::Rules::forms))]
 fn main_method(program: &Program) -> Option<&Method>
-    ensures { MatchOption result (main_body (map definition program.now.methods) ≡ End) (λ m. main_body (map definition program.now.methods) ≡ (braced m.now.body).lines) }
+    ensures { MatchOption result (main_body (map definition program.now.methods) ≡ End)
+        (λ m. main_body (map definition program.now.methods) ≡ (braced m.now.body).lines) }
 {
     for method in program.methods.as_slice() {
         if method.class.is_none() && method.name.name == MAIN {
@@ -133,8 +134,10 @@ fn main_method(program: &Program) -> Option<&Method>
 // Runs the method main from no locals and nothing printed.
 #[tactic(auto, using(crate::proofs::Rules::forms))]
 fn run_main(alloc: Global, program: &Program) -> Result<Meant, Memory>
-    ensures ending { IfOk result (λ m. m.ending ≡ (meaning_of_run (today_many (main_body (map definition program.now.methods)) begin)).ending) }
-    ensures out { IfOk result (λ m. m.out ≡ (meaning_of_run (today_many (main_body (map definition program.now.methods)) begin)).out) }
+    ensures ending { IfOk result (λ m. m.ending
+        ≡ (meaning_of_run (today_many (main_body (map definition program.now.methods)) begin)).ending) }
+    ensures out { IfOk result (λ m. m.out
+        ≡ (meaning_of_run (today_many (main_body (map definition program.now.methods)) begin)).out) }
 {
     let mut state = Running {
         locals: Locals::new(alloc),

@@ -1,7 +1,8 @@
 // The values of expressions.
 ghost use Rattle.std.specs.Prelude.{◌≡◌, ◌≢◌, pos, neg_ℤ, int_div, int_rem};
 ghost use Rattle.ae_tree.specs.Shown.{expression};
-ghost use Rattle.ae_meaning.specs.Values.{Fine, today_value, today_found, today_fitted, today_unless_zero, today_applied, stepped};
+ghost use Rattle.ae_meaning.specs.Values.{Fine, today_value, today_found, today_fitted, today_unless_zero};
+ghost use Rattle.ae_meaning.specs.Values.{today_applied, stepped};
 ghost use Rattle.ae_meaning.specs.Running.{env_of, Comes};
 
 use crate::locals::Locals;

@@ -13,12 +13,16 @@ use Rattle.ae_tree.specs.declared.tree.Need.{Need}
 use Rattle.ae_tree.specs.declared.tree.Need.TheVariants as need_of
 use Rattle.ae_tree.specs.declared.tree.GroupNeed.{GroupNeed}
 use Rattle.ae_tree.specs.Plain.{Lines, End, Definition}
-use Rattle.ae_tree.specs.Grammar.{Tokens, Then, ◌⨾◌, one_token, separated, name, groups, type_, result, need_word, need, needs, method_body, IsMethodOf, method}
+use Rattle.ae_tree.specs.Grammar.{Tokens, Then, ◌⨾◌, one_token, separated, name, groups, type_, result, need_word}
+use Rattle.ae_tree.specs.Grammar.{need, needs, method_body, IsMethodOf, method}
 use Rattle.ae_tree.specs.Limits.{KeepsBlock, HasFewParams, KeepsMethod}
 use Rattle.ae_reading.specs.declared.fail.Fail.{Fail}
 use Rattle.ae_reading.specs.Reads.{head, Always, Is, Free, Took, Failed, TokenMark, Isnt}
-use Rattle.ae_parser.proofs.from_reading.ReadsLemmas.{Lang, Bound, Follow, Links, Both, Pair, Has, Along, took_as, failed_as, has_mark, has_both, has_name, at_once, nowhere, When, took_nothing}
-use Rattle.ae_parser.proofs.from_reading.Begins.{not_both, opens_so, Opens, opens_one, opens_mark, opens_is, opens_other, of_other}
+use Rattle.ae_parser.proofs.from_reading.ReadsLemmas.{Lang, Bound, Follow, Links, Both, Pair, Has, Along, took_as}
+use Rattle.ae_parser.proofs.from_reading.ReadsLemmas.{failed_as, has_mark, has_both, has_name, at_once, nowhere}
+use Rattle.ae_parser.proofs.from_reading.ReadsLemmas.{When, took_nothing}
+use Rattle.ae_parser.proofs.from_reading.Begins.{not_both, opens_so, Opens, opens_one, opens_mark, opens_is}
+use Rattle.ae_parser.proofs.from_reading.Begins.{opens_other, of_other}
 use Rattle.ae_parser.proofs.from_reading.Programs.{method_is}
 use Rattle.ae_parser.proofs.from_statements.BlockLemmas.{none_few}
 use Rattle.ae_parser.proofs.from_reading.TypeLemmas.{NoLess, has_groups}
@@ -28,24 +32,48 @@ use Rattle.ae_parser.proofs.ParamLemmas.{begins_type, no_type, has_given}
 
 -- ---- what a method returns
 
-void_cases : (ts : Tokens) → Is (tok.Word word.Void) (head ts) → (y : Option Ty) (us r : Tokens) → result y us → head (us ++ r) ≡ head ts → NoLess (head r) → (q : Unit {0}) × (y ≡ None) × TokenMark (tok.Word word.Void) q us × Always (head r)
+void_cases : (ts : Tokens) → Is (tok.Word word.Void) (head ts) → (y : Option Ty) (us r : Tokens) → result y us
+    → head (us ++ r) ≡ head ts → NoLess (head r) → (q : Unit {0}) × (y ≡ None) × TokenMark (tok.Word word.Void) q us
+    × Always (head r)
 void_cases ts is None us r d h f = (tt, refl, d, tt)
 void_cases ts is (Some t) us r d h f =
     let P : Option Lexeme → Type 0 = BeginsType in
-    absurd (no_type (tok.Word word.Void) (head ts) (λ e. cc) (λ e. cc) (λ e. cc) (λ e. cc) (λ e. cc) (λ e. cc) is (subst P h (begins_type t us r d)))
+    absurd (no_type (tok.Word word.Void) (head ts) (λ e. cc) (λ e. cc) (λ e. cc) (λ e. cc) (λ e. cc) (λ e. cc) is
+    (subst P h (begins_type t us r d)))
 
-pub void_when : (ts : Tokens) → Is (tok.Word word.Void) (head ts) → When result (TokenMark (tok.Word word.Void)) Free Free NoLess Always ts (λ q. None)
-void_when ts is = record { intro = λ q us d. d; cases = void_cases ts is; to = λ q us d l v. tt; from = λ q us d l v. tt }
+pub void_when : (ts : Tokens) → Is (tok.Word word.Void) (head ts)
+    → When result (TokenMark (tok.Word word.Void)) Free Free NoLess Always ts (λ q. None)
+void_when ts is = record {
+  intro = λ q us d. d;
+  cases = void_cases ts is;
+  to = λ q us d l v. tt;
+  from =
+      λ q us d l v. tt;
+}
 
-some_cases : (ts : Tokens) → (Is (tok.Word word.Void) (head ts) → ⊥) → (y : Option Ty) (us r : Tokens) → result y us → head (us ++ r) ≡ head ts → (q : Ty) × (y ≡ Some q) × type_ q us
+some_cases : (ts : Tokens) → (Is (tok.Word word.Void) (head ts) → ⊥) → (y : Option Ty) (us r : Tokens) → result y us
+    → head (us ++ r) ≡ head ts → (q : Ty) × (y ≡ Some q) × type_ q us
 some_cases ts other None us r d h = absurd (opens_other us r ts (opens_one us r d.1) h other)
 some_cases ts other (Some t) us r d h = (t, refl, d)
 
 pub some_along : (ts : Tokens) → (Is (tok.Word word.Void) (head ts) → ⊥) → Along result type_ Free Free ts (λ q. Some q)
-some_along ts other = record { intro = λ q us d. d; cases = some_cases ts other; to = λ q us d l v. tt; from = λ q us d l v. tt }
+some_along ts other = record {
+  intro = λ q us d. d;
+  cases = some_cases ts other;
+  to = λ q us d l v. tt;
+  from =
+      λ q us d l v. tt;
+}
 
 pub has_result : Has result Free
-has_result = record { tree = None; tokens = at_once (tok.Word word.Void); is = (nowhere, refl); known = (tt, tt); within = λ l. tt }
+has_result = record {
+  tree = None;
+  tokens = at_once (tok.Word word.Void);
+  is = (nowhere, refl);
+  known =
+      (tt, tt);
+  within = λ l. tt;
+}
 
 -- ---- one need
 
@@ -66,21 +94,37 @@ same_need need_of.Protected need_of.Exclusive e = absurd cc
 same_need need_of.Protected need_of.Shared e = absurd cc
 same_need need_of.Protected need_of.Protected e = refl
 
-need_intro : (w : Keyword) (n : Need) → need_word n ≡ w → (q : Unit {0} × NameAt) (us : Tokens) → need_body w q us → need_by w (need_tree n q) us
-need_intro w n e q us d = let P : Keyword → Type 0 = λ k. (one_token (tok.Word k) ⨾ name q.1) us in (e, subst P (sym e) d)
+need_intro : (w : Keyword) (n : Need) → need_word n ≡ w → (q : Unit {0} × NameAt) (us : Tokens) → need_body w q us
+    → need_by w (need_tree n q) us
+need_intro w n e q us d = let P : Keyword → Type 0 =
+    λ k. (one_token (tok.Word k) ⨾ name q.1) us in (e, subst P (sym e) d)
 
-need_cases : (w : Keyword) (n : Need) → need_word n ≡ w → (y : GroupNeed) (us : Tokens) → need_by w y us → (q : Unit {0} × NameAt) × (y ≡ need_tree n q) × need_body w q us
+need_cases : (w : Keyword) (n : Need) → need_word n ≡ w → (y : GroupNeed) (us : Tokens) → need_by w y us
+    → (q : Unit {0} × NameAt) × (y ≡ need_tree n q) × need_body w q us
 need_cases w n e y us d =
-    let P : Keyword → Type 0 = λ k. (one_token (tok.Word k) ⨾ name y.group) us in
-    ((tt, y.group), ap (λ (m : Need). record { need = m; group = y.group }) (same_need y.need n (d.0 ∙ sym e)), subst P d.0 d.1)
+    let P : Keyword → Type 0 = λ k. (one_token (tok.Word k) ⨾ name y.group) us in (
+      (tt, y.group),
+      ap (λ (m : Need). record { need = m; group = y.group }) (same_need y.need n (d.0 ∙ sym e)),
+      subst P d.0 d.1,
+    )
 
-need_along : (w : Keyword) (n : Need) (ts : Tokens) → need_word n ≡ w → Along (need_by w) (need_body w) Free (Pair Free Free) ts (need_tree n)
-need_along w n ts e = record { intro = need_intro w n e; cases = λ y us r d h. need_cases w n e y us d; to = λ q us d l v. tt; from = λ q us d l v. (tt, tt) }
+need_along : (w : Keyword) (n : Need) (ts : Tokens) → need_word n ≡ w
+    → Along (need_by w) (need_body w) Free (Pair Free Free) ts (need_tree n)
+need_along w n ts e = record {
+  intro = need_intro w n e;
+  cases = λ y us r d h. need_cases w n e y us d;
+  to =
+      λ q us d l v. tt;
+  from = λ q us d l v. (tt, tt);
+}
 
-pub need_took : (w : Keyword) (n : Need) → need_word n ≡ w → (ts rest : Tokens) (g : NameAt) → Took (need_body w) (Pair Free Free) Always ts (tt, g) rest → Took (need_by w) Free Always ts (record { need = n; group = g }) rest
+pub need_took : (w : Keyword) (n : Need) → need_word n ≡ w → (ts rest : Tokens) (g : NameAt)
+    → Took (need_body w) (Pair Free Free) Always ts (tt, g) rest
+    → Took (need_by w) Free Always ts (record { need = n; group = g }) rest
 need_took w n e ts rest g t = took_as (need_by w) (need_body w) (need_tree n) (need_along w n ts e) t
 
-pub need_failed : (w : Keyword) (n : Need) → need_word n ≡ w → (ts : Tokens) (e : Fail) → Failed (need_body w) (Pair Free Free) Always ts e → Failed (need_by w) Free Always ts e
+pub need_failed : (w : Keyword) (n : Need) → need_word n ≡ w → (ts : Tokens) (e : Fail)
+    → Failed (need_body w) (Pair Free Free) Always ts e → Failed (need_by w) Free Always ts e
 need_failed w n is ts e f = failed_as (need_by w) (need_body w) (need_tree n) (need_along w n ts is) f
 
 begins_need : (y : GroupNeed) (us r : Tokens) → need y us → Opens us r (tok.Word (need_word y.need))
@@ -90,18 +134,22 @@ begins_need y us r d = opens_mark us r d
 pub need_there : (w : Keyword) (ts : Tokens) → Is (tok.Word w) (head ts) → Along need (need_by w) Free Free ts (λ q. q)
 need_there w ts is = record {
   intro = λ q us d. d.1;
-  cases = λ y us r d h. let e : tok.Word (need_word y.need) ≡ tok.Word w = opens_is us r ts (begins_need y us r d) h is in (y, refl, (cc, d));
+  cases = λ y us r d h. let e : tok.Word (need_word y.need) ≡ tok.Word w = opens_is us r ts
+      (begins_need y us r d) h is in (y, refl, (cc, d));
   to = λ q us d l v. tt;
   from = λ q us d l v. tt;
 }
 
-last_need : (ts : Tokens) → (Is (tok.Word word.Exclusive) (head ts) → ⊥) → (Is (tok.Word word.Shared) (head ts) → ⊥) → (n : Need) (us r : Tokens) → Opens us r (tok.Word (need_word n)) → head (us ++ r) ≡ head ts → need_word n ≡ word.Protected
+last_need : (ts : Tokens) → (Is (tok.Word word.Exclusive) (head ts) → ⊥) → (Is (tok.Word word.Shared) (head ts) → ⊥)
+    → (n : Need) (us r : Tokens) → Opens us r (tok.Word (need_word n)) → head (us ++ r) ≡ head ts
+    → need_word n ≡ word.Protected
 last_need ts e s need_of.Exclusive us r b h = absurd (opens_other us r ts b h e)
 last_need ts e s need_of.Shared us r b h = absurd (opens_other us r ts b h s)
 last_need ts e s need_of.Protected us r b h = refl
 
 -- the only need that is left
-pub need_left : (ts : Tokens) → (Is (tok.Word word.Exclusive) (head ts) → ⊥) → (Is (tok.Word word.Shared) (head ts) → ⊥) → Along need (need_by word.Protected) Free Free ts (λ q. q)
+pub need_left : (ts : Tokens) → (Is (tok.Word word.Exclusive) (head ts) → ⊥)
+    → (Is (tok.Word word.Shared) (head ts) → ⊥) → Along need (need_by word.Protected) Free Free ts (λ q. q)
 need_left ts e s = record {
   intro = λ q us d. d.1;
   cases = λ y us r d h. (y, refl, (last_need ts e s y.need us r (begins_need y us r d) h, d));
@@ -111,8 +159,16 @@ need_left ts e s = record {
 
 pub has_need : Has need Free
 has_need =
-    let b : Has (need_body word.Exclusive) (Pair Free Free) = has_both (has_mark (tok.Word word.Exclusive) tt) has_name in
-    record { tree = need_tree need_of.Exclusive b.tree; tokens = b.tokens; is = b.is; known = b.known; within = λ l. tt }
+    let b : Has (need_body word.Exclusive) (Pair Free Free) = has_both (has_mark (tok.Word word.Exclusive) tt)
+    has_name in
+    record {
+      tree = need_tree need_of.Exclusive b.tree;
+      tokens = b.tokens;
+      is = b.is;
+      known = b.known;
+      within =
+          λ l. tt;
+    }
 
 -- ---- needs
 
@@ -130,33 +186,52 @@ abbrev pub with_body : Lang (Unit {0} × List GroupNeed)
 with_body = Both (TokenMark (tok.Word word.With)) (separated need)
 
 with_along : (ts : Tokens) → Along some_needs with_body Free (Pair Free Free) ts (λ q. q.1)
-with_along ts = record { intro = λ q us d. d; cases = λ y us r d h. ((tt, y), refl, d); to = λ q us d l v. tt; from = λ q us d l v. (tt, tt) }
+with_along ts = record {
+  intro = λ q us d. d;
+  cases = λ y us r d h. ((tt, y), refl, d);
+  to = λ q us d l v. tt;
+  from =
+      λ q us d l v. (tt, tt);
+}
 
-pub with_took : (ts rest : Tokens) (ns : List GroupNeed) → Took with_body (Pair Free Free) Opening ts (tt, ns) rest → Took some_needs Free Opening ts ns rest
+pub with_took : (ts rest : Tokens) (ns : List GroupNeed) → Took with_body (Pair Free Free) Opening ts (tt, ns) rest
+    → Took some_needs Free Opening ts ns rest
 with_took ts rest ns t = took_as some_needs with_body (λ q. q.1) (with_along ts) t
 
-pub with_failed : (ts : Tokens) (e : Fail) → Failed with_body (Pair Free Free) Opening ts e → Failed some_needs Free Opening ts e
+pub with_failed : (ts : Tokens) (e : Fail) → Failed with_body (Pair Free Free) Opening ts e
+    → Failed some_needs Free Opening ts e
 with_failed ts e f = failed_as some_needs with_body (λ q. q.1) (with_along ts) f
 
 needs_intro : (q : List GroupNeed) (us : Tokens) → some_needs q us → needs q us
 needs_intro [] us d = absurd d.second
 needs_intro (n ∷ ns) us d = d
 
-needs_cases : (ts : Tokens) → Is (tok.Word word.With) (head ts) → (y : List GroupNeed) (us r : Tokens) → needs y us → head (us ++ r) ≡ head ts → Opening (head r) → (q : List GroupNeed) × (y ≡ q) × some_needs q us × Opening (head r)
+needs_cases : (ts : Tokens) → Is (tok.Word word.With) (head ts) → (y : List GroupNeed) (us r : Tokens) → needs y us
+    → head (us ++ r) ≡ head ts → Opening (head r) → (q : List GroupNeed) × (y ≡ q) × some_needs q us
+    × Opening (head r)
 needs_cases ts is [] us r d h f =
     let P : Tokens → Type 0 = λ l. head (l ++ r) ≡ head ts in
     let Q : Option Lexeme → Type 0 = Opening in
     absurd (not_both (tok.Word word.With) (tok.Sign sign.OpenBrace) (λ e. cc) (head ts) is (subst Q (subst P d h) f))
 needs_cases ts is (n ∷ ns) us r d h f = (n ∷ ns, refl, d, f)
 
-pub needs_when : (ts : Tokens) → Is (tok.Word word.With) (head ts) → When needs some_needs Free Free Opening Opening ts (λ q. q)
-needs_when ts is = record { intro = needs_intro; cases = needs_cases ts is; to = λ q us d l v. tt; from = λ q us d l v. tt }
+pub needs_when : (ts : Tokens) → Is (tok.Word word.With) (head ts)
+    → When needs some_needs Free Free Opening Opening ts (λ q. q)
+needs_when ts is = record {
+  intro = needs_intro;
+  cases = needs_cases ts is;
+  to = λ q us d l v. tt;
+  from =
+      λ q us d l v. tt;
+}
 
-without_cases : (ts : Tokens) → (Is (tok.Word word.With) (head ts) → ⊥) → (y : List GroupNeed) (us r : Tokens) → needs y us → head (us ++ r) ≡ head ts → Opening (head r) → (y ≡ []) × (us ≡ [])
+without_cases : (ts : Tokens) → (Is (tok.Word word.With) (head ts) → ⊥) → (y : List GroupNeed) (us r : Tokens)
+    → needs y us → head (us ++ r) ≡ head ts → Opening (head r) → (y ≡ []) × (us ≡ [])
 without_cases ts other [] us r d h f = (refl, d)
 without_cases ts other (n ∷ ns) us r d h f = absurd (opens_other us r ts (opens_mark us r d) h other)
 
-pub needs_none : (ts : Tokens) (ns : List GroupNeed) → ns ≡ [] → (Is (tok.Word word.With) (head ts) → ⊥) → Took needs Free Opening ts ns ts
+pub needs_none : (ts : Tokens) (ns : List GroupNeed) → ns ≡ [] → (Is (tok.Word word.With) (head ts) → ⊥)
+    → Took needs Free Opening ts ns ts
 needs_none ts ns e other =
     let P : List GroupNeed → Type 0 = λ l. Took needs Free Opening ts l ts in
     subst P (sym e) (took_nothing needs Free Opening ts [] refl (λ l. tt) (without_cases ts other))
@@ -208,16 +283,32 @@ abbrev pub closing : Lang (Unit {0})
 closing = TokenMark (tok.Sign sign.CloseParen)
 
 abbrev pub MethodParts : Type 0
-MethodParts = Unit {0} × (Option Ty × (NameAt × (List NameAt × (Unit {0} × (Given × (Unit {0} × (List GroupNeed × Lines)))))))
+MethodParts = Unit {0} × (Option Ty
+    × (NameAt × (List NameAt × (Unit {0} × (Given × (Unit {0} × (List GroupNeed × Lines)))))))
 
 abbrev pub method_body : Option ℕ → Lang MethodParts
-method_body k = Both (TokenMark (tok.Word word.Method)) (Both result (Both name (Both groups (Both opening (Both (given_to_method k) (Both closing (Both needs method_body)))))))
+method_body k = Both (TokenMark (tok.Word word.Method))
+    (Both result (Both name (Both groups
+    (Both opening (Both (given_to_method k) (Both closing (Both needs method_body)))))))
 
 abbrev pub method_limit : Bound MethodParts
-method_limit = Pair Free (Pair Free (Pair Free (Pair Free (Pair Free (Pair FewGiven (Pair Free (Pair Free KeepsBody)))))))
+method_limit = Pair Free (Pair Free
+    (Pair Free (Pair Free (Pair Free (Pair FewGiven (Pair Free (Pair Free KeepsBody)))))))
 
 abbrev pub method_with : Option ℕ → Option Ty → NameAt → List NameAt → Given → List GroupNeed → ℕ → Lines → Definition
-method_with k t x gs g ns n b = record { class = k; result = t; name = x; groups = gs; me = g.me; params = g.params; needs = ns; no = n; body = b }
+method_with k t x gs g ns n b =
+    record {
+      class = k;
+      result = t;
+      name = x;
+      groups = gs;
+      me = g.me;
+      params = g.params;
+      needs = ns;
+      no = n;
+      body =
+          b;
+    }
 
 abbrev pub method_tree : Option ℕ → MethodParts → Definition
 method_tree k q = method_with k q.1.0 q.1.1.0 q.1.1.1.0 q.1.1.1.1.1.0 q.1.1.1.1.1.1.1.0 0 q.1.1.1.1.1.1.1.1
@@ -226,7 +317,14 @@ behind : {p q r : Tokens → Type 0} → ((us : Tokens) → q us → r us) → (
 behind f us d = record { front = d.front; back = d.back; parts = d.parts; first = d.first; second = f d.back d.second }
 
 in_front : {p q r : Tokens → Type 0} → ((us : Tokens) → p us → r us) → (us : Tokens) → Then p q us → Then r q us
-in_front f us d = record { front = d.front; back = d.back; parts = d.parts; first = f d.front d.first; second = d.second }
+in_front f us d = record {
+  front = d.front;
+  back = d.back;
+  parts = d.parts;
+  first = f d.front d.first;
+  second =
+      d.second;
+}
 
 -- what is given stands at the sixth place
 given_at : (k : Option ℕ) (q : MethodParts) (us : Tokens) → method_body k q us → HasMe k q.1.1.1.1.1.0.me
@@ -241,12 +339,26 @@ of_me None m i = i.1
 of_me (Some c) m i = i.1
 
 method_intro : (k : Option ℕ) (q : MethodParts) (us : Tokens) → method_body k q us → method k (method_tree k q) us
-method_intro k q us d = (is_of k q (given_at k q us d), refl, behind (behind (behind (behind (behind (in_front (λ us g. g.1)))))) us d)
+method_intro k q us d = (
+  is_of k q (given_at k q us d),
+  refl,
+  behind (behind (behind (behind (behind (in_front (λ us g. g.1)))))) us d,
+)
 
 abbrev parts_of : Definition → MethodParts
-parts_of m = (tt, (m.result, (m.name, (m.groups, (tt, (record { me = m.me; params = m.params }, (tt, (m.needs, m.body))))))))
+parts_of m = (
+  tt,
+  (
+    m.result,
+    (
+      m.name,
+      (m.groups, (tt, (record { me = m.me; params = m.params }, (tt, (m.needs, m.body))))),
+    ),
+  ),
+)
 
-method_cases : (k : Option ℕ) (m : Definition) (us : Tokens) → method k m us → (q : MethodParts) × (m ≡ method_tree k q) × method_body k q us
+method_cases : (k : Option ℕ) (m : Definition) (us : Tokens) → method k m us
+    → (q : MethodParts) × (m ≡ method_tree k q) × method_body k q us
 method_cases k m us d = (
   parts_of m,
   method_is k m d.0 d.1,
@@ -268,7 +380,8 @@ few_given Params m v = v
 method_to : (k : Option ℕ) (l : Limit) (q : MethodParts) → method_limit l q → KeepsMethod l (method_tree k q)
 method_to k l q v = (few_params l (method_tree k q) v.1.1.1.1.1.0, v.1.1.1.1.1.1.1.1)
 
-method_along : (k : Option ℕ) (ts : Tokens) → Along (method k) (method_body k) KeepsMethod method_limit ts (method_tree k)
+method_along : (k : Option ℕ) (ts : Tokens) → Along (method k) (method_body k) KeepsMethod method_limit ts
+    (method_tree k)
 method_along k ts = record {
   intro = method_intro k;
   cases = λ m us r d h. method_cases k m us d;
@@ -276,11 +389,14 @@ method_along k ts = record {
   from = λ q us d l v. (tt, (tt, (tt, (tt, (tt, (few_given l (method_tree k q) v.0, (tt, (tt, v.1))))))));
 }
 
-pub method_took : (k : Option ℕ) (ts rest : Tokens) (t : Option Ty) (x : NameAt) (gs : List NameAt) (g : Given) (ns : List GroupNeed) (b : Lines) →
-    Took (method_body k) method_limit Always ts (tt, (t, (x, (gs, (tt, (g, (tt, (ns, b)))))))) rest → Took (method k) KeepsMethod Always ts (method_with k t x gs g ns 0 b) rest
+pub method_took : (k : Option ℕ) (ts rest : Tokens) (t : Option Ty) (x : NameAt) (gs : List NameAt) (g : Given)
+    (ns : List GroupNeed) (b : Lines) →
+    Took (method_body k) method_limit Always ts (tt, (t, (x, (gs, (tt, (g, (tt, (ns, b)))))))) rest
+    → Took (method k) KeepsMethod Always ts (method_with k t x gs g ns 0 b) rest
 method_took k ts rest t x gs g ns b s = took_as (method k) (method_body k) (method_tree k) (method_along k ts) s
 
-pub method_failed : (k : Option ℕ) (ts : Tokens) (e : Fail) → Failed (method_body k) method_limit Always ts e → Failed (method k) KeepsMethod Always ts e
+pub method_failed : (k : Option ℕ) (ts : Tokens) (e : Fail) → Failed (method_body k) method_limit Always ts e
+    → Failed (method k) KeepsMethod Always ts e
 method_failed k ts e f = failed_as (method k) (method_body k) (method_tree k) (method_along k ts) f
 
 -- completions behind each part
@@ -291,28 +407,46 @@ has_needed = has_both has_needs has_body
 pub has_closed : Has (Both closing (Both needs method_body)) (Pair Free (Pair Free KeepsBody))
 has_closed = has_both (has_mark (tok.Sign sign.CloseParen) tt) has_needed
 
-pub has_filled : (k : Option ℕ) → Has (Both (given_to_method k) (Both closing (Both needs method_body))) (Pair FewGiven (Pair Free (Pair Free KeepsBody)))
+pub has_filled : (k : Option ℕ) → Has (Both (given_to_method k) (Both closing (Both needs method_body)))
+    (Pair FewGiven (Pair Free (Pair Free KeepsBody)))
 has_filled k = has_both (has_given k) has_closed
 
-pub has_opened : (k : Option ℕ) → Has (Both opening (Both (given_to_method k) (Both closing (Both needs method_body)))) (Pair Free (Pair FewGiven (Pair Free (Pair Free KeepsBody))))
+pub has_opened : (k : Option ℕ)
+    → Has (Both opening (Both (given_to_method k) (Both closing (Both needs method_body))))
+    (Pair Free (Pair FewGiven (Pair Free (Pair Free KeepsBody))))
 has_opened k = has_both (has_mark (tok.Sign sign.OpenParen) tt) (has_filled k)
 
-pub has_grouped : (k : Option ℕ) → Has (Both groups (Both opening (Both (given_to_method k) (Both closing (Both needs method_body))))) (Pair Free (Pair Free (Pair FewGiven (Pair Free (Pair Free KeepsBody)))))
+pub has_grouped : (k : Option ℕ)
+    → Has (Both groups (Both opening (Both (given_to_method k) (Both closing (Both needs method_body)))))
+    (Pair Free (Pair Free (Pair FewGiven (Pair Free (Pair Free KeepsBody)))))
 has_grouped k = has_both has_groups (has_opened k)
 
-pub has_named : (k : Option ℕ) → Has (Both name (Both groups (Both opening (Both (given_to_method k) (Both closing (Both needs method_body)))))) (Pair Free (Pair Free (Pair Free (Pair FewGiven (Pair Free (Pair Free KeepsBody))))))
+pub has_named : (k : Option ℕ)
+    → Has (Both name (Both groups (Both opening (Both (given_to_method k) (Both closing (Both needs method_body))))))
+    (Pair Free (Pair Free (Pair Free (Pair FewGiven (Pair Free (Pair Free KeepsBody))))))
 has_named k = has_both has_name (has_grouped k)
 
-pub has_returned : (k : Option ℕ) → Has (Both result (Both name (Both groups (Both opening (Both (given_to_method k) (Both closing (Both needs method_body))))))) (Pair Free (Pair Free (Pair Free (Pair Free (Pair FewGiven (Pair Free (Pair Free KeepsBody)))))))
+pub has_returned : (k : Option ℕ)
+    → Has (Both result (Both name (Both groups
+    (Both opening (Both (given_to_method k) (Both closing (Both needs method_body)))))))
+    (Pair Free (Pair Free (Pair Free (Pair Free (Pair FewGiven (Pair Free (Pair Free KeepsBody)))))))
 has_returned k = has_both has_result (has_named k)
 
 pub has_method : (k : Option ℕ) → Has (method k) KeepsMethod
 has_method k =
     let b : Has (method_body k) method_limit = has_both (has_mark (tok.Word word.Method) tt) (has_returned k) in
-    record { tree = method_tree k b.tree; tokens = b.tokens; is = method_intro k b.tree b.tokens b.is; known = b.known; within = λ l. method_to k l b.tree (b.within l) }
+    record {
+      tree = method_tree k b.tree;
+      tokens = b.tokens;
+      is = method_intro k b.tree b.tokens b.is;
+      known =
+          b.known;
+      within = λ l. method_to k l b.tree (b.within l);
+    }
 
 begins_method : (k : Option ℕ) (m : Definition) (us r : Tokens) → method k m us → Opens us r (tok.Word word.Method)
 begins_method k m us r d = opens_mark us r d.2
 
-pub method_begins : (k : Option ℕ) (m : Definition) (us r : Tokens) → method k m us → Is (tok.Word word.Method) (head (us ++ r))
+pub method_begins : (k : Option ℕ) (m : Definition) (us r : Tokens) → method k m us
+    → Is (tok.Word word.Method) (head (us ++ r))
 method_begins k m us r d = opens_so us r (opens_mark us r d.2)

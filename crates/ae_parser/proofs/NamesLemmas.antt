@@ -1,5 +1,7 @@
 -- The numbers of names where other tokens come behind.
-use Rattle.std.proofs.Common.{◌≡◌, ℕ, ◌+◌, ◌++◌, List, [], ◌∷◌, take, drop, map, refl, sym, ap, ap₂, ◌∙◌, append-nil, append_assoc, subst, Bool, true, false, not, cond, ◌||◌, codes, bytes_eq, take-append-drop}
+use Rattle.std.proofs.Common.{◌≡◌, ℕ, ◌+◌, ◌++◌, List, [], ◌∷◌, take, drop, map, refl, sym, ap, ap₂, ◌∙◌, append-nil}
+use Rattle.std.proofs.Common.{append_assoc, subst, Bool, true, false, not, cond, ◌||◌, codes, bytes_eq}
+use Rattle.std.proofs.Common.{take-append-drop}
 use Rattle.std.proofs.lemmas.List.{map-append, take-map}
 use Rattle.std.proofs.lemmas.List.Sums.{fold-append}
 use Rattle.std.specs.List.{list_any}
@@ -11,7 +13,8 @@ use Rattle.ae_text.specs.declared.token.Token.{Token}
 use Rattle.ae_tree.specs.declared.lexeme.Lexical.{Lexical}
 use Rattle.ae_tree.specs.declared.lexeme.Lexical.TheVariants as tok
 use Rattle.ae_tree.specs.declared.lexeme.Lexeme.{Lexeme}
-use Rattle.ae_tree.specs.Names.{spelled_before, spellings, first_names, names_of, name_number, lexical, lexeme, numbered}
+use Rattle.ae_tree.specs.Names.{spelled_before, spellings, first_names, names_of, name_number, lexical, lexeme}
+use Rattle.ae_tree.specs.Names.{numbered}
 use Rattle.ae_tree.specs.Grammar.{Tokens}
 use Rattle.ae_tree.specs.Refused.{IsKnown, AreSpellable}
 use Rattle.ae_parser.proofs.from_tree.BelowLemmas.{all_more}
@@ -30,7 +33,8 @@ has_more : (ks more : Words) (s : List ℕ) → Has ks s → Has (ks ++ more) s
 has_more [] more s h = cc
 has_more (x ∷ ks) more s h = step (bytes_eq s x) h (has_more ks more s)
   where
-    step : (b : Bool) → (b || list_any (bytes_eq s) ks) ≡ true → (Has ks s → Has (ks ++ more) s) → (b || list_any (bytes_eq s) (ks ++ more)) ≡ true
+    step : (b : Bool) → (b || list_any (bytes_eq s) ks) ≡ true → (Has ks s → Has (ks ++ more) s)
+        → (b || list_any (bytes_eq s) (ks ++ more)) ≡ true
     step true h again = refl
     step false h again = again h
 
@@ -56,7 +60,9 @@ number_more : (ks more : Words) (s : List ℕ) → Has ks s → name_number (ks 
 number_more [] more s h = cc
 number_more (x ∷ ks) more s h = step (bytes_eq s x) h (number_more ks more s)
   where
-    step : (b : Bool) → (b || list_any (bytes_eq s) ks) ≡ true → (Has ks s → name_number (ks ++ more) s ≡ name_number ks s) → cond (not b) (1 + name_number (ks ++ more) s) 0 ≡ cond (not b) (1 + name_number ks s) 0
+    step : (b : Bool) → (b || list_any (bytes_eq s) ks) ≡ true
+        → (Has ks s → name_number (ks ++ more) s ≡ name_number ks s) → cond (not b) (1 + name_number (ks ++ more) s) 0
+        ≡ cond (not b) (1 + name_number ks s) 0
     step true h again = refl
     step false h again = ap (λ n. 1 + n) (again h)
 
@@ -80,9 +86,12 @@ has_still ks xs s h =
     let P : Words → Type 0 = λ l. Has l s in
     subst P (sym m.1) (has_more ks m.0 s h)
 
-token_in : (kind : TokenKind) (ks : Words) (ts : List Token) → ((ls : Words) → AreIn (insert_all bytes_eq ls (spellings ts)) ts) →
-    IsIn (insert_all bytes_eq ks (spelled_before kind (spellings ts))) kind × AreIn (insert_all bytes_eq ks (spelled_before kind (spellings ts))) ts
-token_in (k.Name s) ks ts again = (has_still (insert_key bytes_eq ks s) (spellings ts) s (has_inserted ks s), again (insert_key bytes_eq ks s))
+token_in : (kind : TokenKind) (ks : Words) (ts : List Token)
+    → ((ls : Words) → AreIn (insert_all bytes_eq ls (spellings ts)) ts) →
+    IsIn (insert_all bytes_eq ks (spelled_before kind (spellings ts))) kind
+    × AreIn (insert_all bytes_eq ks (spelled_before kind (spellings ts))) ts
+token_in (k.Name s) ks ts again =
+    (has_still (insert_key bytes_eq ks s) (spellings ts) s (has_inserted ks s), again (insert_key bytes_eq ks s))
 token_in (k.Int n) ks ts again = (tt, again ks)
 token_in (k.Text s) ks ts again = (tt, again ks)
 token_in (k.Word w) ks ts again = (tt, again ks)
@@ -93,7 +102,8 @@ pub tokens_in : (ts : List Token) (ks : Words) → AreIn (insert_all bytes_eq ks
 tokens_in [] ks = tt
 tokens_in (t ∷ ts) ks = token_in t.kind ks ts (tokens_in ts)
 
-lexical_more : (names more : Words) (kind : TokenKind) → IsIn names kind → lexical (names ++ more) kind ≡ lexical names kind
+lexical_more : (names more : Words) (kind : TokenKind) → IsIn names kind → lexical (names ++ more) kind
+    ≡ lexical names kind
 lexical_more names more (k.Name s) h = ap tok.Name (number_more names more s h)
 lexical_more names more (k.Int n) h = refl
 lexical_more names more (k.Text s) h = refl
@@ -101,10 +111,12 @@ lexical_more names more (k.Word w) h = refl
 lexical_more names more (k.Sign g) h = refl
 lexical_more names more k.End h = refl
 
-numbered_more : (names more : Words) (ts : List Token) → AreIn names ts → numbered (names ++ more) ts ≡ numbered names ts
+numbered_more : (names more : Words) (ts : List Token) → AreIn names ts → numbered (names ++ more) ts
+    ≡ numbered names ts
 numbered_more names more [] h = refl
 numbered_more names more (t ∷ ts) h =
-    ap₂ (λ (a : Lexical) (b : Tokens). record { kind = a; at = t.at } ∷ b) (lexical_more names more t.kind h.0) (numbered_more names more ts h.1)
+    ap₂ (λ (a : Lexical) (b : Tokens). record { kind = a; at = t.at } ∷ b) (lexical_more names more t.kind h.0)
+    (numbered_more names more ts h.1)
 
 -- ---- tokens before others
 
@@ -118,10 +130,12 @@ spelled-append k.End a b = refl
 
 spellings-append : (a b : List Token) → spellings (a ++ b) ≡ spellings a ++ spellings b
 spellings-append [] b = refl
-spellings-append (t ∷ a) b = ap (spelled_before t.kind) (spellings-append a b) ∙ spelled-append t.kind (spellings a) (spellings b)
+spellings-append (t ∷ a) b = ap (spelled_before t.kind) (spellings-append a b) ∙ spelled-append t.kind (spellings a)
+    (spellings b)
 
 names-append : (a b : List Token) → names_of (a ++ b) ≡ insert_all bytes_eq (names_of a) (spellings b)
-names-append a b = ap (insert_all bytes_eq first_names) (spellings-append a b) ∙ fold-append (insert_key bytes_eq) first_names (spellings a) (spellings b)
+names-append a b = ap (insert_all bytes_eq first_names) (spellings-append a b)
+    ∙ fold-append (insert_key bytes_eq) first_names (spellings a) (spellings b)
 
 -- what comes behind changes no number
 pub numbered_before : (a b : List Token) → numbered (names_of (a ++ b)) a ≡ numbered (names_of a) a
@@ -159,7 +173,8 @@ tokens_of ls = map token_of ls
 io_first : (ts : List Token) → name_number (names_of ts) (codes "io") ≡ 0
 io_first ts = let m = all_more (spellings ts) first_names in ap (λ names. name_number names (codes "io")) m.1
 
-kind_again : (names : Words) (l : Lexical) → name_number names (codes "io") ≡ 0 → IsKnown l → lexical names (kind_of l) ≡ l
+kind_again : (names : Words) (l : Lexical) → name_number names (codes "io") ≡ 0 → IsKnown l
+    → lexical names (kind_of l) ≡ l
 kind_again names (tok.Name n) io h = ap tok.Name (io ∙ sym h)
 kind_again names (tok.Int n) io h = refl
 kind_again names (tok.Text s) io h = refl
@@ -167,14 +182,18 @@ kind_again names (tok.Word w) io h = refl
 kind_again names (tok.Sign g) io h = refl
 kind_again names tok.End io h = refl
 
-numbered_again : (names : Words) (ls : Tokens) → name_number names (codes "io") ≡ 0 → AreSpellable ls → numbered names (tokens_of ls) ≡ ls
+numbered_again : (names : Words) (ls : Tokens) → name_number names (codes "io") ≡ 0 → AreSpellable ls
+    → numbered names (tokens_of ls) ≡ ls
 numbered_again names [] io h = refl
 numbered_again names (l ∷ ls) io h =
-    ap₂ (λ (a : Lexical) (b : Tokens). record { kind = a; at = l.at } ∷ b) (kind_again names l.kind io h.0) (numbered_again names ls io h.1)
+    ap₂ (λ (a : Lexical) (b : Tokens). record { kind = a; at = l.at } ∷ b) (kind_again names l.kind io h.0)
+    (numbered_again names ls io h.1)
 
 -- tokens with known lexemes behind them
-pub lexemes-append : (front : List Token) (more : Tokens) → AreSpellable more → lexemes_of (front ++ tokens_of more) ≡ lexemes_of front ++ more
+pub lexemes-append : (front : List Token) (more : Tokens) → AreSpellable more → lexemes_of (front ++ tokens_of more)
+    ≡ lexemes_of front ++ more
 lexemes-append front more known =
     let whole = front ++ tokens_of more in
     map-append (lexeme (names_of whole)) front (tokens_of more)
-    ∙ ap₂ (λ a b. a ++ b) (numbered_before front (tokens_of more)) (numbered_again (names_of whole) more (io_first whole) known)
+    ∙ ap₂ (λ a b. a ++ b) (numbered_before front (tokens_of more))
+    (numbered_again (names_of whole) more (io_first whole) known)

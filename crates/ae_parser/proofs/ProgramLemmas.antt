@@ -43,7 +43,8 @@ no_ends names [] n = tt
 no_ends names (x ∷ ts) n = (λ e. n.0 (kind_end names x.kind e), no_ends names ts n.1)
 
 -- the end is where it was
-end_alone : (front taken rest : Tokens) (l : Lexeme) → front ++ l ∷ [] ≡ taken ++ rest → EndIsNone front → EndIsNone taken → Is tok.End (head rest) → rest ≡ l ∷ []
+end_alone : (front taken rest : Tokens) (l : Lexeme) → front ++ l ∷ [] ≡ taken ++ rest → EndIsNone front
+    → EndIsNone taken → Is tok.End (head rest) → rest ≡ l ∷ []
 end_alone [] [] rest l e n m is = sym e
 end_alone [] (x ∷ taken) rest l e n m is = no_more taken rest e is
   where
@@ -57,47 +58,84 @@ end_alone (x ∷ front) (y ∷ taken) rest l e n m is =
     let f : front ++ l ∷ [] ≡ taken ++ rest = cc in end_alone front taken rest l f n.1 m.1 is
 
 -- the lexemes of a whole source end with the end
-pub last_lexeme : (tokens : List Token) (w : IsWhole tokens) → lexemes_of tokens ≡ numbered (names_of tokens) w.front ++ record { kind = tok.End; at = w.last.at } ∷ []
+pub last_lexeme : (tokens : List Token) (w : IsWhole tokens) → lexemes_of tokens ≡ numbered (names_of tokens) w.front
+    ++ record { kind = tok.End; at = w.last.at } ∷ []
 last_lexeme tokens w =
     let names = names_of tokens in
-    let last : lexeme names w.last ≡ record { kind = tok.End; at = w.last.at } = ap (λ k. record { kind = lexical names k; at = w.last.at }) w.end in
-    ap (numbered names) w.parts ∙ map-append (lexeme names) w.front (w.last ∷ []) ∙ ap (λ (l : Lexeme). numbered names w.front ++ l ∷ []) last
+    let last : lexeme names w.last ≡ record { kind = tok.End; at = w.last.at } =
+    ap (λ k. record { kind = lexical names k; at = w.last.at }) w.end in
+    ap (numbered names) w.parts ∙ map-append (lexeme names) w.front (w.last ∷ [])
+    ∙ ap (λ (l : Lexeme). numbered names w.front ++ l ∷ []) last
 
-the_end : (tokens : List Token) (taken rest : Tokens) → IsWhole tokens → lexemes_of tokens ≡ taken ++ rest → EndIsNone taken → Is tok.End (head rest) → one_token tok.End rest
-the_end tokens taken rest w e n is =
-    (w.last.at, end_alone (numbered (names_of tokens) w.front) taken rest (record { kind = tok.End; at = w.last.at }) (sym (last_lexeme tokens w) ∙ e) (no_ends (names_of tokens) w.front w.no_end) n is)
+the_end : (tokens : List Token) (taken rest : Tokens) → IsWhole tokens → lexemes_of tokens ≡ taken ++ rest
+    → EndIsNone taken → Is tok.End (head rest) → one_token tok.End rest
+the_end tokens taken rest w e n is = (
+  w.last.at,
+  end_alone (numbered (names_of tokens) w.front) taken rest (record { kind = tok.End; at = w.last.at })
+      (sym (last_lexeme tokens w) ∙ e) (no_ends (names_of tokens) w.front w.no_end) n is,
+)
 
 pub as_long : (tokens : List Token) → length (lexemes_of tokens) ≡ length tokens
 as_long tokens = length-map tokens (lexeme (names_of tokens))
 
 -- ---- programs
 
-pub lexemes_derive : (p : Code) (tokens : List Token) (d : Derives tokens p) → whole_program (d.list, tt) (lexemes_of tokens)
-lexemes_derive p tokens d = let P : List (List ℕ) → Type 0 = λ n. whole_program (d.list, tt) (numbered n tokens) in subst P d.names d.derives
+pub lexemes_derive : (p : Code) (tokens : List Token) (d : Derives tokens p)
+    → whole_program (d.list, tt) (lexemes_of tokens)
+lexemes_derive p tokens d = let P : List (List ℕ) → Type 0 =
+    λ n. whole_program (d.list, tt) (numbered n tokens) in subst P d.names d.derives
 
-pub tokens_derive : (tokens : List Token) (list : List Declaration) → whole_program (list, tt) (lexemes_of tokens) → Derives tokens (code_of (names_of tokens) list)
-tokens_derive tokens list d = record { list = list; names = refl; classes = refl; methods = refl; decls = refl; derives = d }
+pub tokens_derive : (tokens : List Token) (list : List Declaration) → whole_program (list, tt) (lexemes_of tokens)
+    → Derives tokens (code_of (names_of tokens) list)
+tokens_derive tokens list d = record
+    { list = list; names = refl; classes = refl; methods = refl; decls = refl; derives = d }
 
 abbrev pub program_of : List (List ℕ) → Parts → Program
 program_of names p = record { names = names; classes = p.classes; methods = p.methods; decls = p.decls }
 
-pub code_read : (tokens : List Token) (names : List (List ℕ)) (ts : Tokens) (p : Parts) (h : HasRead ts p) → names ≡ names_of tokens → code (program_of names p) ≡ code_of (names_of tokens) h.list
+pub code_read : (tokens : List Token) (names : List (List ℕ)) (ts : Tokens) (p : Parts) (h : HasRead ts p)
+    → names ≡ names_of tokens → code (program_of names p) ≡ code_of (names_of tokens) h.list
 code_read tokens names ts p h e =
-    ap (λ (n : List (List ℕ)). record { names = n; classes = p.classes; methods = map definition p.methods; decls = p.decls }) e
-    ∙ ap (λ (c : List Class). record { names = names_of tokens; classes = c; methods = map definition p.methods; decls = p.decls }) h.classes
-    ∙ ap (λ (m : List Definition). record { names = names_of tokens; classes = classes_of h.list; methods = m; decls = p.decls }) h.methods
-    ∙ ap (λ (l : List Decl). record { names = names_of tokens; classes = classes_of h.list; methods = methods_of h.list; decls = l }) h.decls
+    ap (λ (n : List (List ℕ)). record {
+      names = n;
+      classes = p.classes;
+      methods = map definition p.methods;
+      decls =
+          p.decls;
+    }) e
+    ∙ ap (λ (c : List Class). record
+    { names = names_of tokens; classes = c; methods = map definition p.methods; decls = p.decls }) h.classes
+    ∙ ap (λ (m : List Definition). record {
+      names = names_of tokens;
+      classes = classes_of h.list;
+      methods = m;
+      decls =
+          p.decls;
+    }) h.methods
+    ∙ ap (λ (l : List Decl). record
+    { names = names_of tokens; classes = classes_of h.list; methods = methods_of h.list; decls = l }) h.decls
 
 -- what was read, with the numbers of the names
-pub read_at : (tokens : List Token) (ts : Tokens) (p : Parts) → ts ≡ lexemes_of tokens → HasRead ts p → HasRead (lexemes_of tokens) p
+pub read_at : (tokens : List Token) (ts : Tokens) (p : Parts) → ts ≡ lexemes_of tokens → HasRead ts p
+    → HasRead (lexemes_of tokens) p
 read_at tokens ts p e h = let P : Tokens → Type 0 = λ l. HasRead l p in subst P e h
 
-read_derives : (tokens : List Token) (p : Parts) (h : HasRead (lexemes_of tokens) p) → IsWhole tokens → Derives tokens (code_of (names_of tokens) h.list)
+read_derives : (tokens : List Token) (p : Parts) (h : HasRead (lexemes_of tokens) p) → IsWhole tokens
+    → Derives tokens (code_of (names_of tokens) h.list)
 read_derives tokens p h w =
     let t = h.took in
-    tokens_derive tokens h.list (record { front = t.taken; back = h.rest; parts = t.whole; first = t.derives; second = the_end tokens t.taken h.rest w t.whole t.no_end h.end })
+    tokens_derive tokens h.list (record {
+      front = t.taken;
+      back = h.rest;
+      parts = t.whole;
+      first = t.derives;
+      second
+          = the_end tokens t.taken h.rest w t.whole t.no_end h.end;
+    })
 
-pub program_derives : (tokens : List Token) (names : List (List ℕ)) (ts : Tokens) (p : Parts) → names ≡ names_of tokens → ts ≡ lexemes_of tokens → HasRead ts p → IsWhole tokens → Derives tokens (code (program_of names p))
+pub program_derives : (tokens : List Token) (names : List (List ℕ)) (ts : Tokens) (p : Parts)
+    → names ≡ names_of tokens → ts ≡ lexemes_of tokens → HasRead ts p → IsWhole tokens
+    → Derives tokens (code (program_of names p))
 program_derives tokens names ts p e s h w =
     let g = read_at tokens ts p s h in
     let P : Code → Type 0 = Derives tokens in
@@ -113,14 +151,19 @@ counts Unexpected list k = tt
 counts (Over l) list k = k l
 
 -- a program within the limits is refused for want of memory alone
-program_refused : (tokens : List Token) (e : Fail) → Failed whole_program KeepsAllWhole Always (lexemes_of tokens) e → (p : Code) → Derives tokens p → Within p → e ≡ Memory
+program_refused : (tokens : List Token) (e : Fail) → Failed whole_program KeepsAllWhole Always (lexemes_of tokens) e
+    → (p : Code) → Derives tokens p → Within p → e ≡ Memory
 program_refused tokens (Refused why left) f p d w =
     let l = lexemes_derive p tokens d in
-    absurd (f.why.stuck (d.list, tt) (lexemes_of tokens) [] f.why.rest l (append-nil (lexemes_of tokens) ∙ f.why.whole) refl tt (counts why d.list (λ x. keeps_list x p tokens d w)))
+    absurd (f.why.stuck (d.list, tt) (lexemes_of tokens) [] f.why.rest l
+    (append-nil (lexemes_of tokens) ∙ f.why.whole) refl tt (counts why d.list (λ x. keeps_list x p tokens d w)))
 program_refused tokens Memory f p d w = refl
 
-failed_at : (tokens : List Token) (ts : Tokens) (e : Fail) → ts ≡ lexemes_of tokens → Failed whole_program KeepsAllWhole Always ts e → Failed whole_program KeepsAllWhole Always (lexemes_of tokens) e
-failed_at tokens ts e same f = let P : Tokens → Type 0 = λ l. Failed whole_program KeepsAllWhole Always l e in subst P same f
+failed_at : (tokens : List Token) (ts : Tokens) (e : Fail) → ts ≡ lexemes_of tokens
+    → Failed whole_program KeepsAllWhole Always ts e → Failed whole_program KeepsAllWhole Always (lexemes_of tokens) e
+failed_at tokens ts e same f = let P : Tokens → Type 0 =
+    λ l. Failed whole_program KeepsAllWhole Always l e in subst P same f
 
-pub left_for_memory : (tokens : List Token) (ts : Tokens) (e : Fail) → ts ≡ lexemes_of tokens → Failed whole_program KeepsAllWhole Always ts e → (p : Code) → Derives tokens p → Within p → e ≡ Memory
+pub left_for_memory : (tokens : List Token) (ts : Tokens) (e : Fail) → ts ≡ lexemes_of tokens
+    → Failed whole_program KeepsAllWhole Always ts e → (p : Code) → Derives tokens p → Within p → e ≡ Memory
 left_for_memory tokens ts e same f = program_refused tokens e (failed_at tokens ts e same f)

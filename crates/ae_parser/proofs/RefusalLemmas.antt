@@ -1,5 +1,6 @@
 -- Tokens are refused once at most, and not where they stand for a program within the limits.
-use Rattle.std.proofs.Common.{◌≡◌, ℕ, zero, suc, ◌+◌, ◌-◌, ◌<◌, ◌≤◌, ◌⊎◌, inl, inr, List, [], ◌∷◌, take, drop, slice_get, Option, Some, None, refl, sym, ap, ◌∙◌, subst, arith}
+use Rattle.std.proofs.Common.{◌≡◌, ℕ, zero, suc, ◌+◌, ◌-◌, ◌<◌, ◌≤◌, ◌⊎◌, inl, inr, List, [], ◌∷◌, take, drop}
+use Rattle.std.proofs.Common.{slice_get, Option, Some, None, refl, sym, ap, ◌∙◌, subst, arith}
 use Rattle.std.proofs.lemmas.Bool.{cases_lt}
 use Rattle.ae_text.specs.declared.refusal.Rule.{Rule}
 use Rattle.ae_text.specs.declared.refusal.Rule.TheVariants as rule
@@ -15,7 +16,8 @@ use Rattle.ae_tree.specs.declared.limits.Limit.TheVariants as limit
 use Rattle.ae_tree.specs.Plain.{Code}
 use Rattle.ae_tree.specs.Grammar.{Tokens, Derives}
 use Rattle.ae_tree.specs.Limits.{KeepsTo, rank, IsNearlyInLimits, Within}
-use Rattle.ae_tree.specs.Refused.{Goes, Any, GoesUpTo, IsHead, OpensBlock, IsTypeWord, NoOpen, CanPassAt, lexemes, IsUnexpected, Passes, IsPlaced, IsOverAt, BreaksAt}
+use Rattle.ae_tree.specs.Refused.{Goes, Any, GoesUpTo, IsHead, OpensBlock, IsTypeWord, NoOpen, CanPassAt, lexemes}
+use Rattle.ae_tree.specs.Refused.{IsUnexpected, Passes, IsPlaced, IsOverAt, BreaksAt}
 use Rattle.ae_parser.specs.Laws.{IsOneRefusal, NoProgramIsRefused}
 use Rattle.ae_parser.proofs.OnePlace.{one_place}
 
@@ -24,7 +26,8 @@ use Rattle.ae_parser.proofs.OnePlace.{one_place}
 get_drop : {A : Type 0} (m : ℕ) (xs : List A) (i : ℕ) → slice_get (drop m xs) i ≡ slice_get xs (m + i)
 get_drop zero xs i = let n : i ≡ 0 + i = omega arith in ap (slice_get xs) n
 get_drop (suc m) [] i = refl
-get_drop (suc m) (x ∷ xs) i = let n : suc (m + i) ≡ suc m + i = omega arith in get_drop m xs i ∙ ap (slice_get (x ∷ xs)) n
+get_drop (suc m) (x ∷ xs) i = let n : suc (m + i) ≡ suc m + i = omega arith in get_drop m xs i
+    ∙ ap (slice_get (x ∷ xs)) n
 
 get_take : {A : Type 0} (n : ℕ) (xs : List A) (i : ℕ) → i < n → slice_get (take n xs) i ≡ slice_get xs i
 get_take zero xs i l = absurd (omega (arith, l))
@@ -33,7 +36,8 @@ get_take (suc n) (x ∷ xs) zero l = refl
 get_take (suc n) (x ∷ xs) (suc i) l = get_take n xs i (omega (arith, l))
 
 -- what stands at a place between two others
-get_between : {A : Type 0} (xs : List A) (start d e : ℕ) → start ≤ d → d < e → slice_get (drop start (take e xs)) (d - start) ≡ slice_get xs d
+get_between : {A : Type 0} (xs : List A) (start d e : ℕ) → start ≤ d → d < e
+    → slice_get (drop start (take e xs)) (d - start) ≡ slice_get xs d
 get_between xs start d e l m =
     let n : start + (d - start) ≡ d = omega (arith, l) in
     get_drop start (take e xs) (d - start) ∙ ap (slice_get (take e xs)) n ∙ get_take e xs d m
@@ -55,8 +59,10 @@ goes_down keeps ts m n l g = record {
   kept = g.kept;
 }
 
-goes_as : (keeps keeps' : Code → Type 0) (ts : List Token) (n : ℕ) → ((p : Code) → keeps p → keeps' p) → Goes keeps ts n → Goes keeps' ts n
-goes_as keeps keeps' ts n f g = record { program = g.program; whole = g.whole; derives = g.derives; same = g.same; kept = f g.program g.kept }
+goes_as : (keeps keeps' : Code → Type 0) (ts : List Token) (n : ℕ) → ((p : Code) → keeps p → keeps' p)
+    → Goes keeps ts n → Goes keeps' ts n
+goes_as keeps keeps' ts n f g =
+    record { program = g.program; whole = g.whole; derives = g.derives; same = g.same; kept = f g.program g.kept }
 
 -- ---- what only leads up to a token
 
@@ -94,7 +100,11 @@ head_at [] i t h e = absurd cc
 head_at (x ∷ us) zero t (inl h) e =
     let s : x ≡ t = cc in
     let P : Lexeme → Type 0 = λ y. IsPlain y.kind in
-    subst P s ((λ q. let n : tok.Sign sign.Comma ≡ tok.Sign sign.OpenBrace = sym h.0 ∙ q in cc), comma_no_type x.kind h.0)
+    subst P s (
+      (λ q. let n : tok.Sign sign.Comma ≡ tok.Sign sign.OpenBrace = sym h.0 ∙ q in
+          cc),
+      comma_no_type x.kind h.0,
+    )
 head_at (x ∷ us) zero t (inr h) e =
     let s : x ≡ t = cc in
     let P : Lexeme → Type 0 = λ y. IsPlain y.kind in
@@ -113,23 +123,32 @@ StopsAt None ts d = IsUnexpected ts d
 StopsAt (Some l) ts d = Passes l ts d
 
 -- a limit that a token passes is passed by all that goes on behind it
-within_past : (l : Limit) (ts : List Token) (d e : ℕ) → d < e → CanPassAt l (lexemes ts) d → GoesUpTo ts e → Goes (KeepsTo l) ts (d + 1)
-within_past limit.Statements ts d e l c g = goes_as IsNearlyInLimits (KeepsTo limit.Statements) ts (d + 1) (λ p k. k limit.Statements) (goes_down IsNearlyInLimits ts (d + 1) e (omega (arith, l)) g.nearly)
-within_past limit.Depth ts d e l c g = goes_as IsNearlyInLimits (KeepsTo limit.Depth) ts (d + 1) (λ p k. k limit.Depth) (goes_down IsNearlyInLimits ts (d + 1) e (omega (arith, l)) g.nearly)
+within_past : (l : Limit) (ts : List Token) (d e : ℕ) → d < e → CanPassAt l (lexemes ts) d → GoesUpTo ts e
+    → Goes (KeepsTo l) ts (d + 1)
+within_past limit.Statements ts d e l c g = goes_as IsNearlyInLimits (KeepsTo limit.Statements) ts (d + 1)
+    (λ p k. k limit.Statements) (goes_down IsNearlyInLimits ts (d + 1) e (omega (arith, l)) g.nearly)
+within_past limit.Depth ts d e l c g = goes_as IsNearlyInLimits (KeepsTo limit.Depth) ts (d + 1)
+    (λ p k. k limit.Depth) (goes_down IsNearlyInLimits ts (d + 1) e (omega (arith, l)) g.nearly)
 within_past limit.Levels ts d e l c g = by_start (cases_lt d g.start)
   where
     by_start : (d < g.start) ⊎ (g.start ≤ d) → Goes (KeepsTo limit.Levels) ts (d + 1)
-    by_start (inl m) = goes_as Within (KeepsTo limit.Levels) ts (d + 1) (λ p k. k limit.Levels) (goes_down Within ts (d + 1) g.start (omega (arith, m)) g.within)
-    by_start (inr m) = absurd ((head_at (drop g.start (take e (lexemes ts))) (d - g.start) c.0 g.leads (get_between (lexemes ts) g.start d e m l ∙ c.1)).0 c.2)
+    by_start (inl m) = goes_as Within (KeepsTo limit.Levels) ts (d + 1) (λ p k. k limit.Levels)
+        (goes_down Within ts (d + 1) g.start (omega (arith, m)) g.within)
+    by_start (inr m) = absurd ((head_at (drop g.start (take e (lexemes ts))) (d - g.start) c.0 g.leads
+        (get_between (lexemes ts) g.start d e m l ∙ c.1)).0 c.2)
 within_past limit.Params ts d e l c g = by_start (cases_lt d g.start)
   where
     by_start : (d < g.start) ⊎ (g.start ≤ d) → Goes (KeepsTo limit.Params) ts (d + 1)
-    by_start (inl m) = goes_as Within (KeepsTo limit.Params) ts (d + 1) (λ p k. k limit.Params) (goes_down Within ts (d + 1) g.start (omega (arith, m)) g.within)
-    by_start (inr m) = absurd ((head_at (drop g.start (take e (lexemes ts))) (d - g.start) c.0 g.leads (get_between (lexemes ts) g.start d e m l ∙ c.1)).1 c.2)
+    by_start (inl m) = goes_as Within (KeepsTo limit.Params) ts (d + 1) (λ p k. k limit.Params)
+        (goes_down Within ts (d + 1) g.start (omega (arith, m)) g.within)
+    by_start (inr m) = absurd ((head_at (drop g.start (take e (lexemes ts))) (d - g.start) c.0 g.leads
+        (get_between (lexemes ts) g.start d e m l ∙ c.1)).1 c.2)
 
 -- nothing goes on behind where the reading stops
 none_past : (o : Option Limit) (ts : List Token) (d e : ℕ) → d < e → StopsAt o ts d → GoesUpTo ts e → ⊥
-none_past None ts d e l s g = s.1 (goes_as IsNearlyInLimits Any ts (d + 1) (λ p k. tt) (goes_down IsNearlyInLimits ts (d + 1) e (omega (arith, l)) g.nearly))
+none_past None ts d e l s g = s.1
+    (goes_as IsNearlyInLimits Any ts (d + 1) (λ p k. tt)
+    (goes_down IsNearlyInLimits ts (d + 1) e (omega (arith, l)) g.nearly))
 none_past (Some m) ts d e l s g = s.3 (within_past m ts d e l s.1 g)
 
 goes_to : (o : Option Limit) (ts : List Token) (d : ℕ) → StopsAt o ts d → GoesUpTo ts d
@@ -169,7 +188,8 @@ same_limit (Some l) (Some m) ts d s t = by_rank (cases_lt (rank l) (rank m)) (ca
     by_rank : (rank l < rank m) ⊎ (rank m ≤ rank l) → (rank m < rank l) ⊎ (rank l ≤ rank m) → Some l ≡ Some m
     by_rank (inl k) n = absurd (no_lower l m ts d k s t)
     by_rank (inr k) (inl n) = absurd (no_lower m l ts d n t s)
-    by_rank (inr k) (inr n) = let e : rank l ≡ rank m = omega (arith, k, n) in ap Some (sym (ranked_rank l) ∙ ap ranked e ∙ ranked_rank m)
+    by_rank (inr k) (inr n) = let e : rank l ≡ rank m = omega (arith, k, n) in ap Some
+        (sym (ranked_rank l) ∙ ap ranked e ∙ ranked_rank m)
 
 -- ---- which token is refused
 
@@ -221,7 +241,8 @@ same_token ts r s j k a b =
     let Q : ℕ → Type 0 = λ n. Back b.why (take n (lexemes ts)) b.back in
     let there : Back b.why (take (j + a.back) (lexemes ts)) b.back = subst Q (sym d) b.placed in
     let R : Option Limit → Type 0 = λ w. Back w (take (j + a.back) (lexemes ts)) b.back in
-    let back : a.back ≡ b.back = one_back a.why (take (j + a.back) (lexemes ts)) a.back b.back a.placed (subst R (sym o) there) in
+    let back : a.back ≡ b.back = one_back a.why (take (j + a.back) (lexemes ts)) a.back b.back a.placed
+    (subst R (sym o) there) in
     (a.rule_is ∙ ap named o ∙ sym b.rule_is, omega (arith, d, back))
 
 -- ---- the laws
@@ -241,4 +262,5 @@ not_stopped None ts p d is w s = s.1 (goes_all Any ts p (d + 1) is tt)
 not_stopped (Some l) ts p d is w s = s.3 (goes_all (KeepsTo l) ts p (d + 1) is (w l))
 
 pub programs_are_not_refused : NoProgramIsRefused
-programs_are_not_refused ts p r at d w a = let s = stopped ts r a.0 a.4 in not_stopped s.why ts p (a.0 + s.back) d w s.stops
+programs_are_not_refused ts p r at d w a = let s = stopped ts r a.0 a.4 in not_stopped s.why ts p
+    (a.0 + s.back) d w s.stops

@@ -1,5 +1,6 @@
 -- Forms of a production as the functions read them, and what may come next.
-use Rattle.std.specs.Prelude.{◌≡◌, ◌≢◌, ◌⊎◌, ◌≤◌, ℕ, ◌+◌, ◌++◌, List, [], ◌∷◌, length, map, All, Option, Some, None, Result, Ok, Err}
+use Rattle.std.specs.Prelude.{◌≡◌, ◌≢◌, ◌⊎◌, ◌≤◌, ℕ, ◌+◌, ◌++◌, List, [], ◌∷◌, length, map, All, Option, Some, None}
+use Rattle.std.specs.Prelude.{Result, Ok, Err}
 use Rattle.std.specs.Borrow.{Bor}
 use Rattle.ae_text.specs.declared.refusal.Spot.{Spot}
 use Rattle.ae_text.specs.declared.token.Keyword.{Keyword}
@@ -15,7 +16,8 @@ use Rattle.ae_tree.specs.declared.tree.Param.{Param}
 use Rattle.ae_tree.specs.declared.tree.GroupNeed.{GroupNeed}
 use Rattle.ae_tree.specs.Plain.{Definition}
 use Rattle.ae_tree.specs.Shown as shown
-use Rattle.ae_tree.specs.Grammar.{Tokens, ◌⨾◌, one_at, a_word, separated, Declaration, OfClass, OfMethod, classes_in, methods_in, declared, declaration}
+use Rattle.ae_tree.specs.Grammar.{Tokens, ◌⨾◌, one_at, a_word, separated, Declaration, OfClass, OfMethod, classes_in}
+use Rattle.ae_tree.specs.Grammar.{methods_in, declared, declaration}
 use Rattle.ae_tree.specs.Grammar as grammar
 use Rattle.ae_tree.specs.Limits.{KeepsMethod, one_for}
 use Rattle.ae_reading.specs.declared.fail.Fail.{Fail}
@@ -30,7 +32,8 @@ use Rattle.ae_parser.specs.declared.declarations.Parts.{Parts}
 
 -- the first word of a type
 abbrev pub BeginsType : Option Lexeme → Type 0
-BeginsType o = Is (tok.Word word.Int) o ⊎ Is (tok.Word word.Bool) o ⊎ Is (tok.Word word.Unique) o ⊎ Is (tok.Word word.Immutable) o ⊎ Is (tok.Word word.Lent) o ⊎ Is (tok.Word word.Shared) o
+BeginsType o = Is (tok.Word word.Int) o ⊎ Is (tok.Word word.Bool) o ⊎ Is (tok.Word word.Unique) o
+    ⊎ Is (tok.Word word.Immutable) o ⊎ Is (tok.Word word.Lent) o ⊎ Is (tok.Word word.Shared) o
 
 abbrev pub NoType : Option Lexeme → Type 0
 NoType o = BeginsType o → ⊥
@@ -103,6 +106,7 @@ pub record Added (D : ℕ → ℕ → Declaration → Tokens → Type 0) (before
   pub methods : map shown.definition behind.methods ≡ map shown.definition before.methods ++ methods_in one
   pub decls : behind.decls ≡ before.decls ++ declared (length before.classes) (length before.methods) one ∷ []
 
-abbrev pub ReadsOne : (ℕ → ℕ → Declaration → Tokens → Type 0) → Parts → Parts → Tokens → Result (Bor Tokens) Fail → Type 0
+abbrev pub ReadsOne : (ℕ → ℕ → Declaration → Tokens → Type 0) → Parts → Parts → Tokens → Result (Bor Tokens) Fail
+    → Type 0
 ReadsOne D before behind ts (Ok rest) = Added D before behind ts rest.now
 ReadsOne D before behind ts (Err e) = Failed (D (length before.classes) (length before.methods)) KeepsOne Always ts e

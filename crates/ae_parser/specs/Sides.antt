@@ -28,7 +28,8 @@ Describes before (Many index) = HasMany before index
 
 -- what they end with behind one token more, which stands at this index
 abbrev pub Grows : Side → Lexeme → ℕ → Side → Type 0
-Grows side next index behind = (before : Tokens) → length before ≡ index → Describes before side → Describes (before ++ next ∷ []) behind
+Grows side next index behind = (before : Tokens) → length before ≡ index → Describes before side
+    → Describes (before ++ next ∷ []) behind
 
 -- a token of an open side that counts
 abbrev pub IsOpenMark : Lexical → Type 0

@@ -9,9 +9,9 @@ ghost use Rattle.ae_parser.specs.Productions.{NoType, AllMethodsKeep, KeepsOne, 
 
 use crate::methods::method;
 use crate::params::is_type_next;
-use ae_tree::{Class, Field, Lexeme, Method};
-use ae_reading::{expect_sign, expect_word, Fail, groups, is_word_next, name, type_};
+use ae_reading::{Fail, expect_sign, expect_word, groups, is_word_next, name, type_};
 use ae_text::{Items, Keyword, Sign};
+use ae_tree::{Class, Field, Lexeme, Method};
 use std::alloc::{AllocError, Global};
 
 /// A class, and the methods in it.
@@ -49,7 +49,8 @@ fn class_methods<'a>(
     ts: &'a [Lexeme],
 ) -> Result<(Items<Method>, &'a [Lexeme]), Fail>
     requires { length ts.now ≤ 1048577 }
-    ensures { Reads (map shown.definition) (grammar.one_by_one (grammar.method (Some class))) AllMethodsKeep (Isnt (tok.Word word.Method)) ts.now result }
+    ensures { Reads (map shown.definition) (grammar.one_by_one (grammar.method (Some class))) AllMethodsKeep
+        (Isnt (tok.Word word.Method)) ts.now result }
 {
     let mut methods = Items::new(alloc);
     let mut rest = ts;

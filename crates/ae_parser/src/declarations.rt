@@ -6,9 +6,9 @@ ghost use Rattle.ae_parser.specs.Productions.{ReadsOne, class_behind, method_beh
 
 use crate::classes::{WithMethods, class};
 use crate::methods::method;
-use ae_tree::{Class, Decl, Lexeme, Method};
 use ae_reading::{Fail, is_end_next, is_word_next};
 use ae_text::{Items, Keyword};
+use ae_tree::{Class, Decl, Lexeme, Method};
 use std::alloc::Global;
 
 /// The parts of a program, in the order in which they are declared.

@@ -9,10 +9,10 @@ ghost use Rattle.ae_reading.specs.Reads.{Reads, itself, Always, Free, Isnt};
 
 use crate::needs::needs;
 use crate::params::{Given, read_given};
-use ae_tree::{Lexeme, Method, Ty};
-use ae_reading::{expect_sign, expect_word, Fail, groups, is_word_next, name, type_};
+use ae_reading::{Fail, expect_sign, expect_word, groups, is_word_next, name, type_};
 use ae_statements::body;
 use ae_text::{Keyword, Sign};
+use ae_tree::{Lexeme, Method, Ty};
 use std::alloc::Global;
 
 /// `void`, or the type of what a method returns.

@@ -6,9 +6,9 @@ ghost use Rattle.ae_tree.specs.Grammar as grammar;
 ghost use Rattle.ae_reading.specs.Reads.{Reads, itself, Always, Free, Is};
 ghost use Rattle.ae_parser.specs.Productions as productions;
 
-use ae_tree::{GroupNeed, Lexeme, Need};
-use ae_reading::{expect_sign, expect_word, Fail, in_front, is_sign_next, is_word_next, name};
+use ae_reading::{Fail, expect_sign, expect_word, in_front, is_sign_next, is_word_next, name};
 use ae_text::{Items, Keyword, Sign};
+use ae_tree::{GroupNeed, Lexeme, Need};
 use std::alloc::Global;
 
 fn need_by<'a>(
@@ -47,7 +47,8 @@ fn further_needs<'a>(
     alloc: Global,
     ts: &'a [Lexeme],
 ) -> Result<(Items<GroupNeed>, &'a [Lexeme]), Fail>
-    ensures { Reads itself (grammar.one_by_one (grammar.further grammar.need)) Free (Is (tok.Sign sign.OpenBrace)) ts.now result }
+    ensures { Reads itself (grammar.one_by_one (grammar.further grammar.need)) Free
+        (Is (tok.Sign sign.OpenBrace)) ts.now result }
 {
     let mut needs = Items::new(alloc);
     let mut rest = ts;

@@ -5,14 +5,15 @@ ghost use Rattle.indexmap.specs.IndexSet.{insert_all};
 ghost use Rattle.ae_tree.specs.Names.{names_of, numbered, spelled_before, name_number, lexical, first_names};
 ghost use Rattle.ae_parser.specs.Slices.{slices_bytes};
 
-use ae_tree::{Lexeme, Lexical};
 use ae_text::{Items, Token, TokenKind};
+use ae_tree::{Lexeme, Lexical};
 use indexmap::IndexSet;
 use std::alloc::{AllocError, Global};
 
 /// Adds the spelling of a token that is a name.
 fn insert_spelling<'a>(names: &mut IndexSet<&'a [u8]>, token: &'a Token) -> Result<(), AllocError>
-    ensures names { OnOk result (slices_bytes names.new.keys ≡ insert_all bytes_eq (slices_bytes names.old.keys) (spelled_before token.now.kind [])) }
+    ensures names { OnOk result (slices_bytes names.new.keys ≡ insert_all bytes_eq (slices_bytes names.old.keys)
+        (spelled_before token.now.kind [])) }
     ensures few { OnOk result (length names.new.keys ≤ length names.old.keys + 1) }
 {
     if let TokenKind::Name(spelling) = &token.kind {

@@ -7,9 +7,12 @@ ghost use Rattle.ae_reading.specs.Reads.{Reads, itself, Always, Free, Is, Isnt, 
 ghost use Rattle.ae_parser.specs.Productions as productions;
 ghost use Rattle.ae_parser.specs.Productions.{BeginsType, NoType, AtMostParams, FewGiven, ParamNext};
 
-use ae_tree::{Lexeme, Limit, Me, Param};
-use ae_reading::{expect_sign, expect_word, Fail, in_front, is_sign_next, is_word_next, name, permission, type_, Why};
+use ae_reading::{
+    Fail, Why, expect_sign, expect_word, in_front, is_sign_next, is_word_next, name, permission,
+    type_,
+};
 use ae_text::{Items, Keyword, Sign, Spot};
+use ae_tree::{Lexeme, Limit, Me, Param};
 use std::alloc::Global;
 
 /// How many parameters may stand behind the first one, or behind the receiver.
@@ -93,7 +96,8 @@ fn no_param(ts: &[Lexeme]) -> Why
 }
 
 fn further_params<'a>(alloc: Global, ts: &'a [Lexeme]) -> Result<(Items<Param>, &'a [Lexeme]), Fail>
-    ensures { Reads itself (grammar.one_by_one (grammar.further grammar.param)) (AtMostParams 15) (Is (tok.Sign sign.CloseParen)) ts.now result }
+    ensures { Reads itself (grammar.one_by_one (grammar.further grammar.param)) (AtMostParams 15)
+        (Is (tok.Sign sign.CloseParen)) ts.now result }
 {
     let mut params = Items::new(alloc);
     let mut rest = ts;
@@ -110,7 +114,8 @@ fn further_params<'a>(alloc: Global, ts: &'a [Lexeme]) -> Result<(Items<Param>, 
 }
 
 fn some_params<'a>(alloc: Global, ts: &'a [Lexeme]) -> Result<(Items<Param>, &'a [Lexeme]), Fail>
-    ensures { Reads itself (grammar.separated grammar.param) (AtMostParams 16) (Is (tok.Sign sign.CloseParen)) ts.now result }
+    ensures { Reads itself (grammar.separated grammar.param) (AtMostParams 16) (Is (tok.Sign sign.CloseParen)) ts.now
+        result }
 {
     let (first, rest) = param(alloc, ts)?;
     let (more, rest) = further_params(alloc, rest)?;
@@ -118,7 +123,8 @@ fn some_params<'a>(alloc: Global, ts: &'a [Lexeme]) -> Result<(Items<Param>, &'a
 }
 
 fn listed_params<'a>(alloc: Global, ts: &'a [Lexeme]) -> Result<(Items<Param>, &'a [Lexeme]), Fail>
-    ensures { Reads itself (grammar.comma_list grammar.param) (AtMostParams 16) (Is (tok.Sign sign.CloseParen)) ts.now result }
+    ensures { Reads itself (grammar.comma_list grammar.param) (AtMostParams 16) (Is (tok.Sign sign.CloseParen)) ts.now
+        result }
 {
     if is_sign_next(ts, Sign::CloseParen) {
         Ok((Items::new(alloc), ts))

@@ -6,9 +6,9 @@ ghost use Rattle.ae_reading.specs.Reads.{Always, Stopped, Failed};
 ghost use Rattle.ae_parser.specs.Sides.{Describes, Grows, IsOpenMark};
 ghost use Rattle.ae_parser.specs.Reading.{whole_program, KeepsAllWhole, Stands, Refuses, PlacedFailure};
 
-use ae_tree::{Lexeme, Lexical, Limit};
 use ae_reading::{Fail, Why};
 use ae_text::{Keyword, Sign};
+use ae_tree::{Lexeme, Lexical, Limit};
 
 /// How many tokens of an expression may count.
 const MOST_MARKS: usize = 256;

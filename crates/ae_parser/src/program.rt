@@ -12,9 +12,9 @@ ghost use Rattle.ae_parser.specs.Reading.{Refuses, PlacedFailure, rule_of};
 use crate::declarations::{Parts, read_all_declarations};
 use crate::numbers::{Numbered, number_names};
 use crate::places::placed;
-use ae_tree::{Limit, Program};
 use ae_reading::{Fail, Why};
 use ae_text::{Deny, Refusal, Rule, Token};
+use ae_tree::{Limit, Program};
 use std::alloc::Global;
 
 fn program(alloc: Global, tokens: &[Token]) -> Result<Program, Fail>
@@ -22,7 +22,8 @@ fn program(alloc: Global, tokens: &[Token]) -> Result<Program, Fail>
     requires short { length tokens.now ≤ 1048577 }
     ensures ok { IfOk result (λ p. Derives tokens.now (code p)) }
     ensures within { IfOk result (λ p. Within (code p)) }
-    ensures only { (p : Code) → Derives tokens.now p → Within p → MatchResult result (λ q. code q ≡ p) (λ e. e ≡ Fail.Memory) }
+    ensures only { (p : Code) → Derives tokens.now p → Within p
+        → MatchResult result (λ q. code q ≡ p) (λ e. e ≡ Fail.Memory) }
     ensures fails { IfErr result (PlacedFailure (numbered (names_of tokens.now) tokens.now)) }
 {
     let Numbered { names, lexemes } = number_names(alloc, tokens)?;
@@ -99,7 +100,8 @@ pub fn parse(alloc: Global, tokens: &[Token]) -> Result<Program, Deny>
     requires short { length tokens.now ≤ 1048577 }
     ensures ok { IfOk result (λ p. Derives tokens.now (code p)) }
     ensures within { IfOk result (λ p. Within (code p)) }
-    ensures only { (p : Code) → Derives tokens.now p → Within p → MatchResult result (λ q. code q ≡ p) (λ e. e ≡ Deny.Memory) }
+    ensures only { (p : Code) → Derives tokens.now p → Within p
+        → MatchResult result (λ q. code q ≡ p) (λ e. e ≡ Deny.Memory) }
     ensures refused { IfErr result (IsTokenDenied tokens.now) }
 {
     match program(alloc, tokens) {

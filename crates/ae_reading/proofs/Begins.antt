@@ -19,9 +19,11 @@ isnt_of k None other = tt
 isnt_of k (Some t) other = other
 
 -- what holds of each token of a kind
-pub of_kind : (k : Lexical) (P : Follow) → ((at : Spot) → P (Some (record { kind = k; at = at }))) → (o : Option Lexeme) → Is k o → P o
+pub of_kind : (k : Lexical) (P : Follow) → ((at : Spot) → P (Some (record { kind = k; at = at })))
+    → (o : Option Lexeme) → Is k o → P o
 of_kind k P f None i = absurd i
-of_kind k P f (Some t) i = let Q : Lexical → Type 0 = λ j. P (Some (record { kind = j; at = t.at })) in subst Q (sym i) (f t.at)
+of_kind k P f (Some t) i = let Q : Lexical → Type 0 = λ j. P (Some (record { kind = j; at = t.at })) in subst Q
+    (sym i) (f t.at)
 
 pub is_by : (k : Lexical) (P : Follow) → ((t : Lexeme) → t.kind ≡ k → P (Some t)) → (o : Option Lexeme) → Is k o → P o
 is_by k P f None i = absurd i
@@ -58,17 +60,20 @@ pub begins_name : Begins name IsName
 begins_name x us r d = let P : Tokens → Type 0 = λ l. IsName (head (l ++ r)) in subst P (sym d) (x.name, refl)
 
 -- where the first part begins with such a token, so do both
-pub begins_both : {A B : Type 0} (D : Lang A) (E : A → Lang B) (P : Follow) → Begins D P → Begins (λ (p : A × B). D p.0 ⨾ E p.0 p.1) P
+pub begins_both : {A B : Type 0} (D : Lang A) (E : A → Lang B) (P : Follow) → Begins D P
+    → Begins (λ (p : A × B). D p.0 ⨾ E p.0 p.1) P
 begins_both D E P b x us r d =
     let Q : Tokens → Type 0 = λ l. P (head l) in
     subst Q (sym (append_assoc d.front d.back r) ∙ ap (λ l. l ++ r) (sym d.parts)) (b x.0 d.front (d.back ++ r) d.first)
 
 -- what begins so may come next
-pub links_by : {A : Type 0} (D : Lang A) (P F : Follow) → ((o : Option Lexeme) → P o → F o) → Begins D P → (G : Follow) → Links D G F
+pub links_by : {A : Type 0} (D : Lang A) (P F : Follow) → ((o : Option Lexeme) → P o → F o) → Begins D P
+    → (G : Follow) → Links D G F
 links_by D P F f b G x us r d g = begins_as D P F f b x us r d
 
 -- what begins otherwise does not come next
-pub begins_not : {A : Type 0} (D : Lang A) (P : Follow) (rest : Tokens) → Begins D P → (P (head rest) → ⊥) → NoneAt D rest
+pub begins_not : {A : Type 0} (D : Lang A) (P : Follow) (rest : Tokens) → Begins D P → (P (head rest) → ⊥)
+    → NoneAt D rest
 begins_not D P rest b other y us r d h = other (subst P h (b y us r d))
 
 -- ---- what some tokens begin with
@@ -83,11 +88,22 @@ pub opens_so : {k : Lexical} (us r : Tokens) → Opens us r k → Is k (head (us
 opens_so {k} us r b = let P : Option Lexeme → Type 0 = Is k in subst P (sym b.front) b.kind
 
 pub opens_one : {k : Lexical} {at : Spot} (us r : Tokens) → one_at k at us → Opens us r k
-opens_one {k} {at} us r d = record { token = record { kind = k; at = at }; front = ap (λ l. head (l ++ r)) d; kind = refl }
+opens_one {k} {at} us r d = record {
+  token = record { kind = k; at = at };
+  front = ap (λ l. head (l ++ r)) d;
+  kind =
+      refl;
+}
 
 -- what begins a first part begins the whole
-pub opens_first : {k : Lexical} {p q : Tokens → Type 0} (us r : Tokens) (d : Then p q us) → Opens d.front (d.back ++ r) k → Opens us r k
-opens_first {k} us r d b = record { token = b.token; front = ap head (ap (λ l. l ++ r) d.parts ∙ append_assoc d.front d.back r) ∙ b.front; kind = b.kind }
+pub opens_first : {k : Lexical} {p q : Tokens → Type 0} (us r : Tokens) (d : Then p q us)
+    → Opens d.front (d.back ++ r) k → Opens us r k
+opens_first {k} us r d b = record {
+  token = b.token;
+  front = ap head (ap (λ l. l ++ r) d.parts ∙ append_assoc d.front d.back r) ∙ b.front;
+  kind =
+      b.kind;
+}
 
 pub opens_at : {k : Lexical} {at : Spot} {q : Tokens → Type 0} (us r : Tokens) → Then (one_at k at) q us → Opens us r k
 opens_at us r d = opens_first us r d (opens_one d.front (d.back ++ r) d.first)
@@ -104,4 +120,5 @@ opens_other {k} us r ts b h other = let P : Option Lexeme → Type 0 = Is k in o
 
 -- a tree that begins with another token lets one that wants none of a kind end
 pub opens_isnt : {k j : Lexical} (us r : Tokens) → Opens us r k → (k ≡ j → ⊥) → Isnt j (head (us ++ r))
-opens_isnt {k} {j} us r b other = let P : Option Lexeme → Type 0 = Isnt j in subst P (sym b.front) (λ e. other (sym b.kind ∙ e))
+opens_isnt {k} {j} us r b other = let P : Option Lexeme
+    → Type 0 = Isnt j in subst P (sym b.front) (λ e. other (sym b.kind ∙ e))

@@ -5,7 +5,8 @@ use Rattle.ae_tree.specs.declared.tree.Class.{Class}
 use Rattle.ae_tree.specs.declared.tree.Decl.{Decl}
 use Rattle.ae_tree.specs.Plain.{Definition, Code}
 use Rattle.ae_tree.specs.Names.{names_of}
-use Rattle.ae_tree.specs.Grammar.{Tokens, IsMethodOf, Declaration, declaration, classes_in, methods_in, declarations, decls_of, classes_of, methods_of, Derives}
+use Rattle.ae_tree.specs.Grammar.{Tokens, IsMethodOf, Declaration, declaration, classes_in, methods_in, declarations}
+use Rattle.ae_tree.specs.Grammar.{decls_of, classes_of, methods_of, Derives}
 use Rattle.ae_reading.specs.Reads.{chain}
 use Rattle.ae_reading.proofs.ReadsLemmas.{Lang}
 use Rattle.ae_reading.proofs.from_tree.ProgramLemmas.{class_is}
@@ -14,10 +15,43 @@ use Rattle.ae_reading.proofs.from_tree.ProgramLemmas.{class_is}
 
 -- the class and the number of a method that was read are those that its place tells
 pub method_is : (k : Option ℕ) (m : Definition) → IsMethodOf k m → m.no ≡ 0 →
-    m ≡ record { class = k; result = m.result; name = m.name; groups = m.groups; me = m.me; params = m.params; needs = m.needs; no = 0; body = m.body }
+    m ≡ record {
+      class = k;
+      result = m.result;
+      name = m.name;
+      groups = m.groups;
+      me = m.me;
+      params = m.params;
+      needs =
+          m.needs;
+      no = 0;
+      body = m.body;
+    }
 method_is k m of none =
-    ap (λ (c : Option ℕ). record { class = c; result = m.result; name = m.name; groups = m.groups; me = m.me; params = m.params; needs = m.needs; no = m.no; body = m.body }) (class_is k m of)
-    ∙ ap (λ (n : ℕ). record { class = k; result = m.result; name = m.name; groups = m.groups; me = m.me; params = m.params; needs = m.needs; no = n; body = m.body }) none
+    ap (λ (c : Option ℕ). record {
+      class = c;
+      result = m.result;
+      name = m.name;
+      groups = m.groups;
+      me = m.me;
+      params =
+          m.params;
+      needs = m.needs;
+      no = m.no;
+      body = m.body;
+    }) (class_is k m of)
+    ∙ ap (λ (n : ℕ). record {
+      class = k;
+      result = m.result;
+      name = m.name;
+      groups = m.groups;
+      me = m.me;
+      params =
+          m.params;
+      needs = m.needs;
+      no = n;
+      body = m.body;
+    }) none
 
 -- ---- declarations
 
@@ -32,13 +66,29 @@ abbrev pub one_of : Counts2 → Lang Declaration
 one_of s = declaration s.0 s.1
 
 -- declarations are a chain
-pub to_all : (c m : ℕ) (xs : List Declaration) (us : Tokens) → declarations c m xs us → chain one_of counted (c, m) xs us
+pub to_all : (c m : ℕ) (xs : List Declaration) (us : Tokens) → declarations c m xs us
+    → chain one_of counted (c, m) xs us
 to_all c m [] us d = d
-to_all c m (x ∷ xs) us d = record { front = d.front; back = d.back; parts = d.parts; first = d.first; second = to_all (c + length (classes_in x)) (m + length (methods_in x)) xs d.back d.second }
+to_all c m (x ∷ xs) us d = record {
+  front = d.front;
+  back = d.back;
+  parts = d.parts;
+  first = d.first;
+  second =
+      to_all (c + length (classes_in x)) (m + length (methods_in x)) xs d.back d.second;
+}
 
-pub from_all : (c m : ℕ) (xs : List Declaration) (us : Tokens) → chain one_of counted (c, m) xs us → declarations c m xs us
+pub from_all : (c m : ℕ) (xs : List Declaration) (us : Tokens) → chain one_of counted (c, m) xs us
+    → declarations c m xs us
 from_all c m [] us d = d
-from_all c m (x ∷ xs) us d = record { front = d.front; back = d.back; parts = d.parts; first = d.first; second = from_all (c + length (classes_in x)) (m + length (methods_in x)) xs d.back d.second }
+from_all c m (x ∷ xs) us d = record {
+  front = d.front;
+  back = d.back;
+  parts = d.parts;
+  first = d.first;
+  second =
+      from_all (c + length (classes_in x)) (m + length (methods_in x)) xs d.back d.second;
+}
 
 -- ---- programs
 
@@ -49,6 +99,14 @@ code_of names xs = record { names = names; classes = classes_of xs; methods = me
 pub code_is : (p : Code) (tokens : List SourceToken) (d : Derives tokens p) → p ≡ code_of (names_of tokens) d.list
 code_is p tokens d =
     ap (λ (n : List (List ℕ)). record { names = n; classes = p.classes; methods = p.methods; decls = p.decls }) d.names
-    ∙ ap (λ (c : List Class). record { names = names_of tokens; classes = c; methods = p.methods; decls = p.decls }) d.classes
-    ∙ ap (λ (m : List Definition). record { names = names_of tokens; classes = classes_of d.list; methods = m; decls = p.decls }) d.methods
-    ∙ ap (λ (l : List Decl). record { names = names_of tokens; classes = classes_of d.list; methods = methods_of d.list; decls = l }) d.decls
+    ∙ ap (λ (c : List Class). record { names = names_of tokens; classes = c; methods = p.methods; decls = p.decls })
+    d.classes
+    ∙ ap (λ (m : List Definition). record {
+      names = names_of tokens;
+      classes = classes_of d.list;
+      methods = m;
+      decls =
+          p.decls;
+    }) d.methods
+    ∙ ap (λ (l : List Decl). record
+    { names = names_of tokens; classes = classes_of d.list; methods = methods_of d.list; decls = l }) d.decls

@@ -17,8 +17,11 @@ use Rattle.ae_tree.specs.declared.tree.Ty.TheVariants as ty
 use Rattle.ae_tree.specs.Grammar.{Tokens, name, groups, permission, kind, type_}
 use Rattle.ae_reading.specs.Reads.{head, Always, Is, Isnt, IsName, Token, TokenMark}
 use Rattle.ae_reading.proofs.ReadsLemmas.{Lang, Follow, Both}
-use Rattle.ae_reading.proofs.UniqueLemmas.{Unique, apart_by, unique_at, unique_mark, unique_name, unique_then, unique_both, unique_as, unique_always, unique_choice, by_first, unique_optional, unique_some}
-use Rattle.ae_reading.proofs.Begins.{Begins, begins_token, begins_mark, begins_name, begins_both, of_kind, of_other, is_isnt}
+use Rattle.ae_reading.proofs.UniqueLemmas.{Unique, apart_by, unique_at, unique_mark, unique_name, unique_then}
+use Rattle.ae_reading.proofs.UniqueLemmas.{unique_both, unique_as, unique_always, unique_choice, by_first}
+use Rattle.ae_reading.proofs.UniqueLemmas.{unique_optional, unique_some}
+use Rattle.ae_reading.proofs.Begins.{Begins, begins_token, begins_mark, begins_name, begins_both, of_kind, of_other}
+use Rattle.ae_reading.proofs.Begins.{is_isnt}
 use Rattle.ae_reading.proofs.Parts.{optional, Whole}
 
 -- ---- groups
@@ -33,23 +36,33 @@ abbrev pub groups_of : Option Listed → List NameAt
 groups_of None = []
 groups_of (Some q) = q.1.0.0 ∷ q.1.0.1
 
-groups_cases : (y : List NameAt) (us : Tokens) → groups y us → (q : Option Listed) × (y ≡ groups_of q) × optional angled q us
+groups_cases : (y : List NameAt) (us : Tokens) → groups y us → (q : Option Listed) × (y ≡ groups_of q)
+    × optional angled q us
 groups_cases [] us d = (None, refl, d)
 groups_cases (g ∷ gs) us d = (Some (tt, ((g, gs), tt)), refl, d)
 
 begins_angled : Begins angled (Is (tok.Sign sign.Less))
-begins_angled = begins_both (TokenMark (tok.Sign sign.Less)) (λ c. Both (Whole name) (TokenMark (tok.Sign sign.Greater))) (Is (tok.Sign sign.Less)) (begins_mark (tok.Sign sign.Less))
+begins_angled = begins_both (TokenMark (tok.Sign sign.Less))
+    (λ c. Both (Whole name) (TokenMark (tok.Sign sign.Greater))) (Is (tok.Sign sign.Less))
+    (begins_mark (tok.Sign sign.Less))
 
 unique_names_closed : Unique (Both (Whole name) (TokenMark (tok.Sign sign.Greater))) Always
-unique_names_closed = unique_both (Whole name) (TokenMark (tok.Sign sign.Greater)) (Is (tok.Sign sign.Greater)) Always (λ x us r d f. begins_mark (tok.Sign sign.Greater) x us r d)
-    (unique_some name (Is (tok.Sign sign.Greater)) Always (λ o i. tt) (λ o i. tt) (of_other (tok.Sign sign.Greater) (tok.Sign sign.Comma) (λ e. cc)) unique_name) (unique_mark (tok.Sign sign.Greater))
+unique_names_closed = unique_both (Whole name) (TokenMark (tok.Sign sign.Greater)) (Is (tok.Sign sign.Greater)) Always
+    (λ x us r d f. begins_mark (tok.Sign sign.Greater) x us r d)
+    (unique_some name (Is (tok.Sign sign.Greater)) Always (λ o i. tt) (λ o i. tt)
+    (of_other (tok.Sign sign.Greater) (tok.Sign sign.Comma) (λ e. cc)) unique_name)
+    (unique_mark (tok.Sign sign.Greater))
 
 unique_angled : Unique angled Always
-unique_angled = unique_then (TokenMark (tok.Sign sign.Less)) (Both (Whole name) (TokenMark (tok.Sign sign.Greater))) Always (unique_mark (tok.Sign sign.Less)) unique_names_closed
+unique_angled = unique_then (TokenMark (tok.Sign sign.Less)) (Both (Whole name) (TokenMark (tok.Sign sign.Greater)))
+    Always (unique_mark (tok.Sign sign.Less)) unique_names_closed
 
 pub unique_groups : Unique groups (Isnt (tok.Sign sign.Less))
 unique_groups = unique_as groups (optional angled) (Isnt (tok.Sign sign.Less)) groups_of groups_cases
-    (unique_optional angled (Isnt (tok.Sign sign.Less)) (apart_by angled (Is (tok.Sign sign.Less)) (Isnt (tok.Sign sign.Less)) (is_isnt (tok.Sign sign.Less)) begins_angled) (unique_always angled (Isnt (tok.Sign sign.Less)) unique_angled))
+    (unique_optional angled (Isnt (tok.Sign sign.Less))
+    (apart_by angled (Is (tok.Sign sign.Less)) (Isnt (tok.Sign sign.Less))
+    (is_isnt (tok.Sign sign.Less)) begins_angled)
+    (unique_always angled (Isnt (tok.Sign sign.Less)) unique_angled))
 
 -- ---- permissions
 
@@ -83,7 +96,8 @@ permission_tree OfImmutable q = perm_at.Immutable q
 permission_tree OfLent q = perm_at.Lent q
 permission_tree OfShared q = perm_at.Shared q.0 q.1.1.0
 
-permission_cases : (y : PermAt) (us : Tokens) → permission y us → (t : Permission) × (q : PermissionParts t) × (y ≡ permission_tree t q) × permission_form t q us
+permission_cases : (y : PermAt) (us : Tokens) → permission y us → (t : Permission) × (q : PermissionParts t)
+    × (y ≡ permission_tree t q) × permission_form t q us
 permission_cases (perm_at.Unique at) us d = (OfUnique, at, refl, d)
 permission_cases (perm_at.Immutable at) us d = (OfImmutable, at, refl, d)
 permission_cases (perm_at.Lent at) us d = (OfLent, at, refl, d)
@@ -105,25 +119,37 @@ abbrev pub permission_at : Option Lexeme → Option Permission
 permission_at None = None
 permission_at (Some t) = kind_permission t.kind
 
-permission_is : (k : Lexical) (t : Permission) → kind_permission k ≡ Some t → (o : Option Lexeme) → Is k o → permission_at o ≡ Some t
+permission_is : (k : Lexical) (t : Permission) → kind_permission k ≡ Some t → (o : Option Lexeme) → Is k o
+    → permission_at o ≡ Some t
 permission_is k t e = of_kind k (λ o. permission_at o ≡ Some t) (λ at. e)
 
-permission_first : (t : Permission) (q : PermissionParts t) (us r : Tokens) → permission_form t q us → permission_at (head (us ++ r)) ≡ Some t
-permission_first OfUnique q us r d = permission_is (tok.Word word.Unique) OfUnique refl (head (us ++ r)) (begins_token (tok.Word word.Unique) q us r d)
-permission_first OfImmutable q us r d = permission_is (tok.Word word.Immutable) OfImmutable refl (head (us ++ r)) (begins_token (tok.Word word.Immutable) q us r d)
-permission_first OfLent q us r d = permission_is (tok.Word word.Lent) OfLent refl (head (us ++ r)) (begins_token (tok.Word word.Lent) q us r d)
-permission_first OfShared q us r d = permission_is (tok.Word word.Shared) OfShared refl (head (us ++ r)) (begins_both (Token (tok.Word word.Shared)) (λ c. group_named) (Is (tok.Word word.Shared)) (begins_token (tok.Word word.Shared)) q us r d)
+permission_first : (t : Permission) (q : PermissionParts t) (us r : Tokens) → permission_form t q us
+    → permission_at (head (us ++ r)) ≡ Some t
+permission_first OfUnique q us r d = permission_is (tok.Word word.Unique) OfUnique refl (head (us ++ r))
+    (begins_token (tok.Word word.Unique) q us r d)
+permission_first OfImmutable q us r d = permission_is (tok.Word word.Immutable) OfImmutable refl (head (us ++ r))
+    (begins_token (tok.Word word.Immutable) q us r d)
+permission_first OfLent q us r d = permission_is (tok.Word word.Lent) OfLent refl (head (us ++ r))
+    (begins_token (tok.Word word.Lent) q us r d)
+permission_first OfShared q us r d = permission_is (tok.Word word.Shared) OfShared refl (head (us ++ r))
+    (begins_both (Token (tok.Word word.Shared)) (λ c. group_named) (Is (tok.Word word.Shared))
+    (begins_token (tok.Word word.Shared)) q us r d)
 
 unique_permission_form : (t : Permission) → Unique (permission_form t) Always
 unique_permission_form OfUnique = unique_at (tok.Word word.Unique)
 unique_permission_form OfImmutable = unique_at (tok.Word word.Immutable)
 unique_permission_form OfLent = unique_at (tok.Word word.Lent)
-unique_permission_form OfShared = unique_then (Token (tok.Word word.Shared)) group_named Always (unique_at (tok.Word word.Shared))
-    (unique_then (TokenMark (tok.Sign sign.Less)) (Both name (TokenMark (tok.Sign sign.Greater))) Always (unique_mark (tok.Sign sign.Less)) (unique_then name (TokenMark (tok.Sign sign.Greater)) Always unique_name (unique_mark (tok.Sign sign.Greater))))
+unique_permission_form OfShared = unique_then (Token (tok.Word word.Shared)) group_named Always
+    (unique_at (tok.Word word.Shared))
+    (unique_then (TokenMark (tok.Sign sign.Less)) (Both name (TokenMark (tok.Sign sign.Greater))) Always
+    (unique_mark (tok.Sign sign.Less))
+    (unique_then name (TokenMark (tok.Sign sign.Greater)) Always unique_name
+    (unique_mark (tok.Sign sign.Greater))))
 
 pub unique_permission : Unique permission Always
 unique_permission = unique_choice PermissionParts permission_form permission_tree permission Always permission_cases
-    (by_first PermissionParts permission_form Always permission_at (λ t q us r d f. permission_first t q us r d)) unique_permission_form
+    (by_first PermissionParts permission_form Always permission_at (λ t q us r d f. permission_first t q us r
+    d)) unique_permission_form
 
 -- a permission begins here
 abbrev pub IsPermission : Follow
@@ -150,7 +176,8 @@ abbrev pub kind_tree : (t : Kind) → KindParts t → KindAt
 kind_tree OfInts q = kind_at.Ints q
 kind_tree OfClass q = kind_at.Class q.0 q.1
 
-kind_cases : (y : KindAt) (us : Tokens) → kind y us → (t : Kind) × (q : KindParts t) × (y ≡ kind_tree t q) × kind_form t q us
+kind_cases : (y : KindAt) (us : Tokens) → kind y us → (t : Kind) × (q : KindParts t) × (y ≡ kind_tree t q)
+    × kind_form t q us
 kind_cases (kind_at.Ints at) us d = (OfInts, at, refl, d)
 kind_cases (kind_at.Class c gs) us d = (OfClass, (c, gs), refl, d)
 
@@ -168,7 +195,8 @@ kind_named None i = absurd i
 kind_named (Some t) i = of_kind (tok.Name i.0) (λ o. kind_of_token o ≡ Some OfClass) (λ at. refl) (Some t) i.1
 
 kind_first : (t : Kind) (q : KindParts t) (us r : Tokens) → kind_form t q us → kind_of_token (head (us ++ r)) ≡ Some t
-kind_first OfInts q us r d = of_kind (tok.Word word.Ints) (λ o. kind_of_token o ≡ Some OfInts) (λ at. refl) (head (us ++ r)) (begins_token (tok.Word word.Ints) q us r d)
+kind_first OfInts q us r d = of_kind (tok.Word word.Ints) (λ o. kind_of_token o ≡ Some OfInts) (λ at. refl)
+    (head (us ++ r)) (begins_token (tok.Word word.Ints) q us r d)
 kind_first OfClass q us r d = kind_named (head (us ++ r)) (begins_both name (λ c. groups) IsName begins_name q us r d)
 
 -- a kind of object begins here
@@ -184,7 +212,8 @@ unique_kind_form OfClass = unique_then name groups (Isnt (tok.Sign sign.Less)) u
 
 pub unique_kind : Unique kind (Isnt (tok.Sign sign.Less))
 unique_kind = unique_choice KindParts kind_form kind_tree kind (Isnt (tok.Sign sign.Less)) kind_cases
-    (by_first KindParts kind_form (Isnt (tok.Sign sign.Less)) kind_of_token (λ t q us r d f. kind_first t q us r d)) unique_kind_form
+    (by_first KindParts kind_form (Isnt (tok.Sign sign.Less)) kind_of_token (λ t q us r d f. kind_first t q us r
+    d)) unique_kind_form
 
 -- ---- types
 
@@ -208,7 +237,8 @@ type_tree OfInt q = ty.Int q
 type_tree OfBool q = ty.Bool q
 type_tree OfObject q = ty.Object q.0 q.1
 
-type_cases : (y : Ty) (us : Tokens) → type_ y us → (t : TypeForm) × (q : TypeParts t) × (y ≡ type_tree t q) × type_form t q us
+type_cases : (y : Ty) (us : Tokens) → type_ y us → (t : TypeForm) × (q : TypeParts t) × (y ≡ type_tree t q)
+    × type_form t q us
 type_cases (ty.Int at) us d = (OfInt, at, refl, d)
 type_cases (ty.Bool at) us d = (OfBool, at, refl, d)
 type_cases (ty.Object p k) us d = (OfObject, (p, k), refl, d)
@@ -250,9 +280,12 @@ type_is : (k : Lexical) (t : TypeForm) → kind_type k ≡ Some t → (o : Optio
 type_is k t e = of_kind k (λ o. type_at o ≡ Some t) (λ at. e)
 
 type_first : (t : TypeForm) (q : TypeParts t) (us r : Tokens) → type_form t q us → type_at (head (us ++ r)) ≡ Some t
-type_first OfInt q us r d = type_is (tok.Word word.Int) OfInt refl (head (us ++ r)) (begins_token (tok.Word word.Int) q us r d)
-type_first OfBool q us r d = type_is (tok.Word word.Bool) OfBool refl (head (us ++ r)) (begins_token (tok.Word word.Bool) q us r d)
-type_first OfObject q us r d = object_at (head (us ++ r)) (begins_both permission (λ c. kind) IsPermission begins_permission q us r d)
+type_first OfInt q us r d = type_is (tok.Word word.Int) OfInt refl (head (us ++ r))
+    (begins_token (tok.Word word.Int) q us r d)
+type_first OfBool q us r d = type_is (tok.Word word.Bool) OfBool refl (head (us ++ r))
+    (begins_token (tok.Word word.Bool) q us r d)
+type_first OfObject q us r d = object_at (head (us ++ r))
+    (begins_both permission (λ c. kind) IsPermission begins_permission q us r d)
 
 -- a type begins here
 abbrev pub IsType : Follow
@@ -268,4 +301,5 @@ unique_type_form OfObject = unique_then permission kind (Isnt (tok.Sign sign.Les
 
 pub unique_type : Unique type_ (Isnt (tok.Sign sign.Less))
 unique_type = unique_choice TypeParts type_form type_tree type_ (Isnt (tok.Sign sign.Less)) type_cases
-    (by_first TypeParts type_form (Isnt (tok.Sign sign.Less)) type_at (λ t q us r d f. type_first t q us r d)) unique_type_form
+    (by_first TypeParts type_form (Isnt (tok.Sign sign.Less)) type_at (λ t q us r d f. type_first t q us r
+    d)) unique_type_form

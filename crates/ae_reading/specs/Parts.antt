@@ -19,7 +19,8 @@ angled gs = a_sign sign.Less ⨾ separated name gs ⨾ a_sign sign.Greater
 
 -- the permission of a group's objects
 abbrev pub shared_permission : PermAt → Tokens → Type 0
-shared_permission p ts = (at : Spot) × (g : NameAt) × (p ≡ perm_at.Shared at g) × (one_at (tok.Word word.Shared) at ⨾ a_sign sign.Less ⨾ name g ⨾ a_sign sign.Greater) ts
+shared_permission p ts = (at : Spot) × (g : NameAt) × (p ≡ perm_at.Shared at g)
+    × (one_at (tok.Word word.Shared) at ⨾ a_sign sign.Less ⨾ name g ⨾ a_sign sign.Greater) ts
 
 -- a class with its groups
 abbrev pub class : KindAt → Tokens → Type 0

@@ -82,13 +82,15 @@ abbrev pub IsNearlyWithin : {A : Type 0} → (Limit → A → Type 0) → A → 
 IsNearlyWithin W x = (l : Limit) → W (early l) x
 
 -- x was read, and rest is left. All that begins with the same tokens, the next one counted, begins with x.
-pub record Took {A : Type 0} (D : A → Tokens → Type 0) (W : Limit → A → Type 0) (F : Option Lexeme → Type 0) (ts : Tokens) (x : A) (rest : Tokens) : Type 0 where
+pub record Took {A : Type 0} (D : A → Tokens → Type 0) (W : Limit → A → Type 0) (F : Option Lexeme → Type 0)
+    (ts : Tokens) (x : A) (rest : Tokens) : Type 0 where
   pub taken : Tokens
   pub whole : ts ≡ taken ++ rest
   pub derives : D x taken
   pub within : IsWithinAll W x
   pub no_end : EndIsNone taken
-  pub only : (y : A) (us r other : Tokens) → D y us → us ++ r ≡ taken ++ other → head other ≡ head rest → F (head r) → (y ≡ x) × (r ≡ other)
+  pub only : (y : A) (us r other : Tokens) → D y us → us ++ r ≡ taken ++ other → head other ≡ head rest → F (head r)
+      → (y ≡ x) × (r ≡ other)
 
 -- where a token is unexpected, trees of any size count, and where it is over a limit, those that keep to it
 abbrev pub Counts : Why → (Limit → Type 0) → Type 0
@@ -96,7 +98,8 @@ Counts Unexpected keeps = Unit {0}
 Counts (Over l) keeps = keeps l
 
 -- a tree within the limits named before this one goes on with the next token, which this limit can refuse
-pub record Larger {A : Type 0} (l : Limit) (D : A → Tokens → Type 0) (W : Limit → A → Type 0) (before rest : Tokens) : Type 0 where
+pub record Larger {A : Type 0} (l : Limit) (D : A → Tokens → Type 0) (W : Limit → A → Type 0) (before rest : Tokens)
+    : Type 0 where
   pub next : Lexeme
   pub later : Tokens
   pub rest_is : rest ≡ next ∷ later
@@ -125,7 +128,8 @@ pub record Lead {A : Type 0} (D : A → Tokens → Type 0) (W : Limit → A → 
 
 -- The tokens before `rest` begin a tree within the limits, but for those that are decided early. With the next token no tree goes on;
 -- where a limit is the cause, one within the limits named before it does, and none that keeps to it. From the next token on, `left` tokens are left.
-pub record Stopped {A : Type 0} (D : A → Tokens → Type 0) (W : Limit → A → Type 0) (F : Option Lexeme → Type 0) (ts : Tokens) (why : Why) (left : ℕ) : Type 0 where
+pub record Stopped {A : Type 0} (D : A → Tokens → Type 0) (W : Limit → A → Type 0) (F : Option Lexeme → Type 0)
+    (ts : Tokens) (why : Why) (left : ℕ) : Type 0 where
   pub before : Tokens
   pub rest : Tokens
   pub whole : ts ≡ before ++ rest
@@ -137,19 +141,23 @@ pub record Stopped {A : Type 0} (D : A → Tokens → Type 0) (W : Limit → A �
   pub within : IsNearlyWithin W tree
   pub lead : Lead D W before
   pub no_end : EndIsNone before
-  pub stuck : (y : A) (us r other : Tokens) → D y us → us ++ r ≡ before ++ other → head other ≡ head rest → F (head r) → Counts why (λ l. W l y) → ⊥
+  pub stuck : (y : A) (us r other : Tokens) → D y us → us ++ r ≡ before ++ other → head other ≡ head rest → F (head r)
+      → Counts why (λ l. W l y) → ⊥
   pub beyond : Beyond D W before rest why
 
-abbrev pub Fails : {A : Type 0} → (A → Tokens → Type 0) → (Limit → A → Type 0) → (Option Lexeme → Type 0) → Tokens → Fail → Type 0
+abbrev pub Fails : {A : Type 0} → (A → Tokens → Type 0) → (Limit → A → Type 0) → (Option Lexeme → Type 0) → Tokens
+    → Fail → Type 0
 Fails D W F ts (Refused why left) = Stopped D W F ts why left
 Fails D W F ts Memory = Unit {0}
 
 -- the same as a record
-pub record Failed {A : Type 0} (D : A → Tokens → Type 0) (W : Limit → A → Type 0) (F : Option Lexeme → Type 0) (ts : Tokens) (e : Fail) : Type 0 where
+pub record Failed {A : Type 0} (D : A → Tokens → Type 0) (W : Limit → A → Type 0) (F : Option Lexeme → Type 0)
+    (ts : Tokens) (e : Fail) : Type 0 where
   pub why : Fails D W F ts e
 
 -- a tree in the form of the program, shown as plain data, and what is left behind it; or why there is none
-abbrev pub Reads : {T A : Type 0} → (T → A) → (A → Tokens → Type 0) → (Limit → A → Type 0) → (Option Lexeme → Type 0) → Tokens → Result (T × Bor Tokens) Fail → Type 0
+abbrev pub Reads : {T A : Type 0} → (T → A) → (A → Tokens → Type 0) → (Limit → A → Type 0) → (Option Lexeme → Type 0)
+    → Tokens → Result (T × Bor Tokens) Fail → Type 0
 Reads show D W F ts (Ok x) = Took D W F ts (show x.0) x.1.now
 Reads show D W F ts (Err e) = Failed D W F ts e
 

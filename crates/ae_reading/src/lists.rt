@@ -6,10 +6,10 @@ ghost use Rattle.ae_tree.specs.Grammar as grammar;
 ghost use Rattle.ae_reading.specs.Reads.{Reads, itself, Always, Free, Isnt};
 ghost use Rattle.ae_reading.specs.Parts as parts;
 
-use ae_tree::{Lexeme, NameAt};
 use crate::fail::Fail;
 use crate::terminals::{expect_sign, is_sign_next, name};
 use ae_text::{Items, Sign};
+use ae_tree::{Lexeme, NameAt};
 use std::alloc::{AllocError, Global};
 
 /// A list whose first item is `first`, with the items of `more` behind it.
@@ -32,7 +32,8 @@ fn further_name<'a>(ts: &'a [Lexeme]) -> Result<(NameAt, &'a [Lexeme]), Fail>
 }
 
 fn further_names<'a>(alloc: Global, ts: &'a [Lexeme]) -> Result<(Items<NameAt>, &'a [Lexeme]), Fail>
-    ensures { Reads itself (grammar.one_by_one (grammar.further grammar.name)) Free (Isnt (tok.Sign sign.Comma)) ts.now result }
+    ensures { Reads itself (grammar.one_by_one (grammar.further grammar.name)) Free
+        (Isnt (tok.Sign sign.Comma)) ts.now result }
 {
     let mut names = Items::new(alloc);
     let mut rest = ts;

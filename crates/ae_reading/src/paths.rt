@@ -4,10 +4,10 @@ ghost use Rattle.ae_tree.specs.declared.lexeme.Lexical.TheVariants as tok;
 ghost use Rattle.ae_tree.specs.Grammar as grammar;
 ghost use Rattle.ae_reading.specs.Reads.{Reads, itself, Always, Free, Isnt};
 
-use ae_tree::{Lexeme, Name, NameAt, Path};
 use crate::fail::Fail;
 use crate::terminals::{expect_sign, expect_word, is_sign_next, is_word_next, name};
 use ae_text::{Items, Keyword, Sign};
+use ae_tree::{Lexeme, Name, NameAt, Path};
 use std::alloc::Global;
 
 const THIS: Name = 2;

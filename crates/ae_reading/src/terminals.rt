@@ -4,8 +4,8 @@ ghost use Rattle.ae_tree.specs.Grammar as grammar;
 ghost use Rattle.ae_reading.specs.Reads.{Reads, itself, Always, Free, Is, IsName, Token, head};
 
 use crate::fail::{Fail, Why};
-use ae_tree::{Lexeme, Lexical, NameAt};
 use ae_text::{Keyword, Sign, Spot};
+use ae_tree::{Lexeme, Lexical, NameAt};
 
 /// The next token, and those behind it.
 pub fn next<'a>(ts: &'a [Lexeme]) -> Option<(&'a Lexeme, &'a [Lexeme])>

@@ -5,11 +5,11 @@ ghost use Rattle.ae_tree.specs.Grammar as grammar;
 ghost use Rattle.ae_reading.specs.Reads.{Reads, itself, Always, Free, Isnt};
 ghost use Rattle.ae_reading.specs.Parts as parts;
 
-use crate::lists::groups;
-use ae_tree::{KindAt, Lexeme, PermAt, Ty};
 use crate::fail::Fail;
+use crate::lists::groups;
 use crate::terminals::{expect_sign, expect_word, is_word_next, name};
 use ae_text::{Keyword, Sign};
+use ae_tree::{KindAt, Lexeme, PermAt, Ty};
 use std::alloc::Global;
 
 fn shared<'a>(ts: &'a [Lexeme]) -> Result<(PermAt, &'a [Lexeme]), Fail>

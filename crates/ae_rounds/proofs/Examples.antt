@@ -1,7 +1,8 @@
 -- A round worked out: two tasks with an edge from the first to the second, one cell, and two seats.
 use Rattle.std.proofs.Common.{◌≡◌, refl, ap, sym, arith, ℕ, zero, suc, true, false, List, [], ◌∷◌, None, Some}
 use Rattle.ae_text.specs.declared.refusal.Edge.{Edge}
-use Rattle.ae_rounds.specs.Rounds.{Round, IsEdge, IsShape, Waiting, Running, Finished, Configuration, first, RoundEvent, Begin, Finish, Take, Leave, Needs, Course, changed}
+use Rattle.ae_rounds.specs.Rounds.{Round, IsEdge, IsShape, Waiting, Running, Finished, Configuration, first}
+use Rattle.ae_rounds.specs.Rounds.{RoundEvent, Begin, Finish, Take, Leave, Needs, Course, changed}
 
 -- all tasks may run
 abbrev two : Round
@@ -78,7 +79,15 @@ ends : Needs two (after first (Begin 0 0 ∷ Take 0 0 ∷ Leave 0 0 ∷ Finish 0
 ends = ((1, refl), refl)
 
 course : Course two first whole (after first whole)
-course = (_, (begins, refl), (_, (takes, refl), (_, (leaves, refl), (_, (finishes, refl), (_, (goes_on, refl), (_, (ends, refl), refl))))))
+course = (
+  _,
+  (begins, refl),
+  (
+    _,
+    (takes, refl),
+    (_, (leaves, refl), (_, (finishes, refl), (_, (goes_on, refl), (_, (ends, refl), refl)))),
+  ),
+)
 
 -- ---- what may not happen
 

@@ -1,8 +1,10 @@
 -- A plan worked out: one task, which takes its cell once, and what may come of it.
-use Rattle.std.proofs.Common.{◌≡◌, ◌≤◌, ◌⊎◌, inl, inr, refl, sym, ◌∙◌, subst, arith, ℕ, zero, suc, true, false, List, [], ◌∷◌, None, Some, Contains}
+use Rattle.std.proofs.Common.{◌≡◌, ◌≤◌, ◌⊎◌, inl, inr, refl, sym, ◌∙◌, subst, arith, ℕ, zero, suc, true, false, List}
+use Rattle.std.proofs.Common.{[], ◌∷◌, None, Some, Contains}
 use Rattle.std.specs.Prelude.{slice_get}
 use Rattle.ae_rounds.specs.Rounds.{IsEdge, MayRun}
-use Rattle.ae_rounds.specs.Flow.{Work, Plan, TaskEnd, Never, Finished, Stopped, Aside, Result, round_of, IsInput, IsEnd, IsOutput, IsGiven, HasAdded, HasDrawn, stamps_in, entries_in, GoesOn, Flow}
+use Rattle.ae_rounds.specs.Flow.{Work, Plan, TaskEnd, Never, Finished, Stopped, Aside, Result, round_of, IsInput}
+use Rattle.ae_rounds.specs.Flow.{IsEnd, IsOutput, IsGiven, HasAdded, HasDrawn, stamps_in, entries_in, GoesOn, Flow}
 use Rattle.ae_text.specs.Numbers.{times}
 use Rattle.ae_rounds.proofs.from_text.Basics.{none_is_no_some}
 
@@ -53,7 +55,8 @@ not_aside : (e : TaskEnd ℕ ℕ ℕ) (b : ℕ) → e ≡ Aside b → e ≡ Fini
 not_aside e b p q = cc
 
 is_output : (t o : ℕ) → IsOutput result t o → (t ≡ 0) × (o ≡ 1)
-is_output t o (inl i) = let p : (t ≡ 0) × (Finished o ≡ Finished 1) = one_end t (Finished o) i in (p.0, went (Finished o) o refl p.1)
+is_output t o (inl i) = let p : (t ≡ 0) × (Finished o ≡ Finished 1) = one_end t
+    (Finished o) i in (p.0, went (Finished o) o refl p.1)
 is_output t o (inr i) = absurd (not_stopped (Stopped o) o refl (one_end t (Stopped o) i).1)
 
 no_edge : (f t : ℕ) → IsEdge (round_of plan) f t → ⊥
@@ -90,7 +93,16 @@ drawn t s d =
     (p.0, subst (λ e. Contains (stamps_in work e) s) p.1 d.6)
 
 draws : (t s : ℕ) → t ≡ 0 → Contains (5 ∷ 6 ∷ 7 ∷ []) s → HasDrawn work plan result t s
-draws t s q h = (0, [], Finished 1, is_given t q, subst (λ u. IsEnd result u (Finished 1)) (sym q) refl, tt, h, (λ m. nothing m, λ c m k. no_carry c m))
+draws t s q h = (
+  0,
+  [],
+  Finished 1,
+  is_given t q,
+  subst (λ u. IsEnd result u (Finished 1)) (sym q) refl,
+  tt,
+  h,
+  (λ m. nothing m, λ c m k. no_carry c m),
+)
   where
     nothing : Contains [] s → ⊥
     nothing (k, l, e) = omega (arith, l)
@@ -113,10 +125,14 @@ goes_on k =
       added = 6 ∷ [];
       whole = refl;
       rising = tt;
-      exact = λ e. ((λ h. (0, 6 ∷ [], (0, Finished 1, refl, refl, refl), h)), (λ x. subst (λ xs. Contains xs e) (has_added x.0 k x.1 x.2).1 x.3));
+      exact = λ e. (
+        (λ h. (0, 6 ∷ [], (0, Finished 1, refl, refl, refl), h)),
+        (λ x. subst (λ xs. Contains xs e) (has_added x.0 k x.1 x.2).1 x.3),
+      );
       once = λ t u i j es fs e g h m n. (
         ((has_added t k es g).0 ∙ sym (has_added u k fs h).0),
-        (first_place i e (subst (λ xs. slice_get xs i ≡ Some e) (has_added t k es g).1 m) ∙ sym (first_place j e (subst (λ xs. slice_get xs j ≡ Some e) (has_added u k fs h).1 n))),
+        (first_place i e (subst (λ xs. slice_get xs i ≡ Some e) (has_added t k es g).1 m)
+            ∙ sym (first_place j e (subst (λ xs. slice_get xs j ≡ Some e) (has_added u k fs h).1 n))),
       );
     }
 
@@ -125,8 +141,10 @@ goes_on k =
 old_is : (xs old : List ℕ) → Some xs ≡ Some old → xs ≡ old
 old_is xs old h = cc
 
-cells : (k : ℕ) (old new : List ℕ) → slice_get plan.cells k ≡ Some old → slice_get result.cells k ≡ Some new → GoesOn work plan result k old new
-cells zero old new g h = subst (λ n. GoesOn work plan result 0 old n) (old_is (3 ∷ 6 ∷ []) new h) (subst (λ o. GoesOn work plan result 0 o (3 ∷ 6 ∷ [])) (old_is (3 ∷ []) old g) (goes_on 0))
+cells : (k : ℕ) (old new : List ℕ) → slice_get plan.cells k ≡ Some old → slice_get result.cells k ≡ Some new
+    → GoesOn work plan result k old new
+cells zero old new g h = subst (λ n. GoesOn work plan result 0 old n) (old_is (3 ∷ 6 ∷ []) new h)
+    (subst (λ o. GoesOn work plan result 0 o (3 ∷ 6 ∷ [])) (old_is (3 ∷ []) old g) (goes_on 0))
 cells (suc k) old new g h = absurd (none_is_no_some g)
 
 may_come : Flow work plan result
@@ -143,9 +161,11 @@ may_come =
       never = λ t x i. absurd (not_never (Never x) x refl (one_end t (Never x) i).1);
       cells = cells;
       drawn_by_one = λ t u s d e. (drawn t s d).0 ∙ sym (drawn u s e).0;
-      drawn_once = λ t s e d i. subst (λ x. times s (stamps_in work x) ≡ 1) (sym (one_end t e i).1) (stamp_once s (is_stamp s (drawn t s d).1));
+      drawn_once = λ t s e d i. subst (λ x. times s (stamps_in work x) ≡ 1) (sym (one_end t e i).1)
+          (stamp_once s (is_stamp s (drawn t s d).1));
       began_before = λ t o i. omega arith;
-      in_time = λ t s d. let p : (5 ≤ s) × (s ≤ 7) = stamp_between s (is_stamp s (drawn t s d).1) in (p.0, omega (arith, p.1));
+      in_time = λ t s d. let p : (5 ≤ s) × (s ≤ 7) = stamp_between s
+          (is_stamp s (drawn t s d).1) in (p.0, omega (arith, p.1));
       clock = omega arith;
       above = λ f t s z o g d i h. absurd (no_edge f t g);
       began_drawn = λ t o i. draws t 5 (is_output t o i).0 (0, omega arith, refl);

@@ -1,5 +1,6 @@
 -- What may come of a round, whoever ran its tasks and in whatever order: a relation between a plan and a result.
-use Rattle.std.specs.Prelude.{◌≡◌, ◌≤◌, ◌<◌, ◌+◌, ◌++◌, ◌↔◌, ◌⊎◌, ℕ, nat_eq, if◌then◌else◌, Bool, true, false, List, [], ◌∷◌, length, map, slice_get, count_by, Contains, Option, None, Some, option_map}
+use Rattle.std.specs.Prelude.{◌≡◌, ◌≤◌, ◌<◌, ◌+◌, ◌++◌, ◌↔◌, ◌⊎◌, ℕ, nat_eq, if◌then◌else◌, Bool, true, false, List}
+use Rattle.std.specs.Prelude.{[], ◌∷◌, length, map, slice_get, count_by, Contains, Option, None, Some, option_map}
 use Rattle.ae_text.specs.declared.refusal.Edge.{Edge}
 use Rattle.ae_rounds.specs.Rounds.{Round, IsEdge, MayRun}
 use Rattle.ae_text.specs.Numbers.{times}
@@ -62,7 +63,13 @@ may_run (Some task) = task.may
 
 -- the shape of the round
 abbrev pub round_of : {I E : Type 0} → Plan I E → Round
-round_of p = record { tasks = length p.tasks; may = λ t. may_run (slice_get p.tasks t); edges = p.edges; cells = length p.cells }
+round_of p = record {
+  tasks = length p.tasks;
+  may = λ t. may_run (slice_get p.tasks t);
+  edges = p.edges;
+  cells =
+      length p.cells;
+}
 
 -- this is the input of the task
 abbrev pub IsInput : {I E : Type 0} → Plan I E → ℕ → I → Type 0
@@ -98,7 +105,8 @@ AreRising (x ∷ y ∷ xs) = (x < y) × AreRising (y ∷ xs)
 -- each of these edges comes from a task that went through, and the carries are those of their outputs
 abbrev pub AreCarries : {I C O B E : Type 0} → Work I C O B E → Result I O B E → List (ℕ × ℕ) → List C → Type 0
 AreCarries w r [] cs = cs ≡ []
-AreCarries {I} {C} {O} {B} {E} w r (x ∷ xs) cs = (o : O) × (rest : List C) × IsEnd r x.1 (Finished o) × (cs ≡ w.carry o x.0 ∷ rest) × AreCarries w r xs rest
+AreCarries {I} {C} {O} {B} {E} w r (x ∷ xs) cs = (o : O) × (rest : List C) × IsEnd r x.1 (Finished o)
+    × (cs ≡ w.carry o x.0 ∷ rest) × AreCarries w r xs rest
 
 -- the task was given this input and these carries
 abbrev pub IsGiven : {I C O B E : Type 0} → Work I C O B E → Plan I E → Result I O B E → ℕ → I → List C → Type 0
@@ -119,24 +127,29 @@ stamps_in w (Aside b) = w.body_stamps b
 
 -- the task has added these entries to the cell in this round
 abbrev pub HasAdded : {I C O B E : Type 0} → Work I C O B E → Plan I E → Result I O B E → ℕ → ℕ → List E → Type 0
-HasAdded {I} {C} {O} {B} {E} w p r t k es = (x : I) × (e : TaskEnd I O B) × IsInput p t x × IsEnd r t e × (entries_in w e k ≡ w.input_entries x k ++ es)
+HasAdded {I} {C} {O} {B} {E} w p r t k es = (x : I) × (e : TaskEnd I O B) × IsInput p t x × IsEnd r t e
+    × (entries_in w e k ≡ w.input_entries x k ++ es)
 
 -- no stamp of these carries
 abbrev pub IsNewTo : {I C O B E : Type 0} → Work I C O B E → I → List C → ℕ → Type 0
-IsNewTo {I} {C} {O} {B} {E} w x cs s = (Contains (w.input_stamps x) s → ⊥) × ((c : C) → Contains cs c → Contains (w.carry_stamps c) s → ⊥)
+IsNewTo {I} {C} {O} {B} {E} w x cs s = (Contains (w.input_stamps x) s → ⊥)
+    × ((c : C) → Contains cs c → Contains (w.carry_stamps c) s → ⊥)
 
 -- the stamp is one that the task has added in this round: it stands in what became of the task, and not in what it was given
 abbrev pub HasDrawn : {I C O B E : Type 0} → Work I C O B E → Plan I E → Result I O B E → ℕ → ℕ → Type 0
 HasDrawn {I} {C} {O} {B} {E} w p r t s =
-    (x : I) × (cs : List C) × (e : TaskEnd I O B) × IsGiven w p r t x cs × IsEnd r t e × HasBegun e × Contains (stamps_in w e) s × IsNewTo w x cs s
+    (x : I) × (cs : List C) × (e : TaskEnd I O B) × IsGiven w p r t x cs × IsEnd r t e × HasBegun e
+    × Contains (stamps_in w e) s × IsNewTo w x cs s
 
 -- The history of a cell goes on with what tasks have added to it: by rising stamp, all of it, and nothing twice.
-pub record GoesOn {I C O B E : Type 0} (w : Work I C O B E) (p : Plan I E) (r : Result I O B E) (k : ℕ) (old new : List E) : Type 0 where
+pub record GoesOn {I C O B E : Type 0} (w : Work I C O B E) (p : Plan I E) (r : Result I O B E) (k : ℕ)
+    (old new : List E) : Type 0 where
   pub added : List E
   pub whole : new ≡ old ++ added
   pub rising : AreRising (map w.stamp added)
   pub exact : (e : E) → Contains added e ↔ ((t : ℕ) × (es : List E) × HasAdded w p r t k es × Contains es e)
-  pub once : (t u i j : ℕ) (es fs : List E) (e : E) → HasAdded w p r t k es → HasAdded w p r u k fs → slice_get es i ≡ Some e → slice_get fs j ≡ Some e → (t ≡ u) × (i ≡ j)
+  pub once : (t u i j : ℕ) (es fs : List E) (e : E) → HasAdded w p r t k es → HasAdded w p r u k fs
+      → slice_get es i ≡ Some e → slice_get fs j ≡ Some e → (t ≡ u) × (i ≡ j)
 
 -- ---- the relation
 
@@ -154,7 +167,8 @@ pub record Flow {I C O B E : Type 0} (w : Work I C O B E) (p : Plan I E) (r : Re
   pub bodies : (t : ℕ) (b : B) → IsEnd r t (Aside b) → (x : I) × (cs : List C) × IsGiven w p r t x cs × w.pauses x cs b
   -- what has not begun has its own input
   pub never : (t : ℕ) (x : I) → IsEnd r t (Never x) → IsInput p t x
-  pub cells : (k : ℕ) (old new : List E) → slice_get p.cells k ≡ Some old → slice_get r.cells k ≡ Some new → GoesOn w p r k old new
+  pub cells : (k : ℕ) (old new : List E) → slice_get p.cells k ≡ Some old → slice_get r.cells k ≡ Some new
+      → GoesOn w p r k old new
   -- the stamps that tasks have added differ from each other, and lie between the two clocks
   pub drawn_by_one : (t u s : ℕ) → HasDrawn w p r t s → HasDrawn w p r u s → t ≡ u
   pub drawn_once : (t s : ℕ) (e : TaskEnd I O B) → HasDrawn w p r t s → IsEnd r t e → times s (stamps_in w e) ≡ 1

@@ -1,6 +1,7 @@
 -- What follows from the definitions of a round.
 use Rattle.std.specs.Prelude.{◌≢◌, ◌<◌, ◌≤◌, ℕ, suc, nat_eq, if◌then◌else◌, List, [], ◌∷◌}
-use Rattle.ae_rounds.specs.Rounds.{Round, IsShape, IsChain, Waiting, Configuration, first, RoundEvent, Begin, Finish, Take, Leave, SetAside, Happens, Course, Lawful, ConflictFree, IsSound, IsCalm}
+use Rattle.ae_rounds.specs.Rounds.{Round, IsShape, IsChain, Waiting, Configuration, first, RoundEvent, Begin, Finish}
+use Rattle.ae_rounds.specs.Rounds.{Take, Leave, SetAside, Happens, Course, Lawful, ConflictFree, IsSound, IsCalm}
 
 -- chains lead to higher numbers
 abbrev pub ChainsRise : Type 0
@@ -20,15 +21,18 @@ LawfulIsFree = (r : Round) (c : Configuration) → Lawful r c → ConflictFree r
 
 -- all that is reached from a lawful configuration is lawful and free of conflicts
 abbrev pub ReachedIsFree : Type 0
-ReachedIsFree = (r : Round) (c d : Configuration) (es : List RoundEvent) → Lawful r c → Course r c es d → Lawful r d × ConflictFree r d
+ReachedIsFree = (r : Round) (c d : Configuration) (es : List RoundEvent) → Lawful r c → Course r c es d
+    → Lawful r d × ConflictFree r d
 
 -- in a sound round no two tasks in conflict run together, in whatever is reached
 abbrev pub SoundIsCalm : (Conflict Ordered : ℕ → ℕ → Type 0) → Type 0
-SoundIsCalm Conflict Ordered = (r : Round) (c d : Configuration) (es : List RoundEvent) → IsSound r Conflict Ordered → Lawful r c → Course r c es d → IsCalm d Conflict Ordered
+SoundIsCalm Conflict Ordered = (r : Round) (c d : Configuration) (es : List RoundEvent) → IsSound r Conflict Ordered
+    → Lawful r c → Course r c es d → IsCalm d Conflict Ordered
 
 -- a task that has begun never waits again
 abbrev pub BegunStays : Type 0
-BegunStays = (r : Round) (c d : Configuration) (es : List RoundEvent) (t : ℕ) → Course r c es d → c.stage t ≢ Waiting → d.stage t ≢ Waiting
+BegunStays = (r : Round) (c d : Configuration) (es : List RoundEvent) (t : ℕ) → Course r c es d → c.stage t ≢ Waiting
+    → d.stage t ≢ Waiting
 
 -- how often the task begins
 abbrev pub begins : ℕ → List RoundEvent → ℕ

@@ -1,5 +1,6 @@
 -- A round of tasks, and how it goes on: which task runs on which seat, and which seat holds which cell.
-use Rattle.std.specs.Prelude.{◌≡◌, ◌≢◌, ◌<◌, ◌⊎◌, ℕ, zero, suc, nat_eq, Bool, true, false, if◌then◌else◌, List, [], ◌∷◌, Option, None, Some, Contains}
+use Rattle.std.specs.Prelude.{◌≡◌, ◌≢◌, ◌<◌, ◌⊎◌, ℕ, zero, suc, nat_eq, Bool, true, false, if◌then◌else◌, List, []}
+use Rattle.std.specs.Prelude.{◌∷◌, Option, None, Some, Contains}
 use Rattle.ae_text.specs.declared.refusal.Edge.{Edge}
 
 -- ---- the shape of a round
@@ -85,16 +86,34 @@ put k x f n = if nat_eq n k then x else f n
 -- the seat no more runs this task, which is now in that stage
 abbrev pub released : Configuration → ℕ → Option ℕ → Stage → Configuration
 released c s None stage = c
-released c s (Some t) stage = record { stage = put t stage c.stage; held = c.held; runs = put s None c.runs; holds = c.holds }
+released c s (Some t) stage = record {
+  stage = put t stage c.stage;
+  held = c.held;
+  runs = put s None c.runs;
+  holds =
+      c.holds;
+}
 
 abbrev pub ended_as : Bool → Stage
 ended_as stopped = if stopped then Stopped else Finished
 
 -- what the event makes of a configuration
 abbrev pub changed : Configuration → RoundEvent → Configuration
-changed c (Begin s t) = record { stage = put t Running c.stage; held = c.held; runs = put s (Some t) c.runs; holds = c.holds }
+changed c (Begin s t) = record {
+  stage = put t Running c.stage;
+  held = c.held;
+  runs = put s (Some t) c.runs;
+  holds =
+      c.holds;
+}
 changed c (Finish s stopped) = released c s (c.runs s) (ended_as stopped)
-changed c (Take s k) = record { stage = c.stage; held = put k true c.held; runs = c.runs; holds = put s (Some k) c.holds }
+changed c (Take s k) = record {
+  stage = c.stage;
+  held = put k true c.held;
+  runs = c.runs;
+  holds =
+      put s (Some k) c.holds;
+}
 changed c (Leave s k) = record { stage = c.stage; held = put k false c.held; runs = c.runs; holds = put s None c.holds }
 changed c (SetAside s) = released c s (c.runs s) Aside
 

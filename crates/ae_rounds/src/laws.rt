@@ -1,6 +1,7 @@
 // Laws over the definitions of a round alone.
 ghost use Rattle.std.specs.Prelude.{ℕ};
-ghost use Rattle.ae_rounds.specs.Laws.{ChainsRise, FirstIsLawful, EventsKeep, LawfulIsFree, ReachedIsFree, SoundIsCalm, BegunStays, BeginsOnce};
+ghost use Rattle.ae_rounds.specs.Laws.{ChainsRise, FirstIsLawful, EventsKeep, LawfulIsFree, ReachedIsFree};
+ghost use Rattle.ae_rounds.specs.Laws.{SoundIsCalm, BegunStays, BeginsOnce};
 
 /// What may not run together, and in which order, for the tasks of a round by their numbers.
 pub trait Tasks {

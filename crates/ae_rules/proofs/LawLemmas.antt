@@ -1,5 +1,6 @@
 -- Proofs of the laws.
-use Rattle.std.proofs.Common.{◌≡◌, ◌⊎◌, inl, inr, refl, ap, subst, ℕ, arith, nat_eq, nat_lt, ◌+◌, ◌-◌, ◌&&◌, Bool, true, false, if◌then◌else◌, Option, None, Some}
+use Rattle.std.proofs.Common.{◌≡◌, ◌⊎◌, inl, inr, refl, ap, subst, ℕ, arith, nat_eq, nat_lt, ◌+◌, ◌-◌, ◌&&◌, Bool}
+use Rattle.std.proofs.Common.{true, false, if◌then◌else◌, Option, None, Some}
 use Rattle.std.proofs.lemmas.Bool.{eq-eqb}
 use Rattle.std.proofs.lemmas.Bool.Decides.{nat_tests}
 use Rattle.ae_text.specs.declared.refusal.Spot.{Spot}
@@ -12,7 +13,8 @@ use Rattle.ae_rules.specs.Verdict.{Verdict, Holds, Broken}
 use Rattle.ae_rules.specs.Shares.{Share, most_lent, splits, joins, lend, lend_more, one_less}
 use Rattle.ae_rules.specs.Statements.{judge_statement}
 use Rattle.ae_rules.specs.Judges.{verdict}
-use Rattle.ae_rules.specs.Laws.{JudgedOrBroken, NeverBoth, AcceptedOrBroken, NeverAcceptedAndBroken, FirstIsOne, TakenIsGivenBack, NothingToTake}
+use Rattle.ae_rules.specs.Laws.{JudgedOrBroken, NeverBoth, AcceptedOrBroken, NeverAcceptedAndBroken, FirstIsOne}
+use Rattle.ae_rules.specs.Laws.{TakenIsGivenBack, NothingToTake}
 
 -- ---- verdicts
 
@@ -32,7 +34,8 @@ judged_or_broken p m at a c = held_or_broken (judge_statement p m at a c)
 pub never_both : NeverBoth
 never_both p m at a c d rule spot h b = not_both (judge_statement p m at a c) d rule spot h b
 
-accepted : (v : Verdict (Unit {0})) → IsHeldOrBroken v → (v ≡ Holds tt) ⊎ ((rule : Rule) × (spot : Spot) × (v ≡ Broken rule spot))
+accepted : (v : Verdict (Unit {0})) → IsHeldOrBroken v
+    → (v ≡ Holds tt) ⊎ ((rule : Rule) × (spot : Spot) × (v ≡ Broken rule spot))
 accepted v (inl h) = inl h.1
 accepted v (inr b) = inr b
 
@@ -42,7 +45,8 @@ accepted_or_broken p = accepted (verdict p) (held_or_broken (verdict p))
 pub never_accepted_and_broken : NeverAcceptedAndBroken
 never_accepted_and_broken p rule spot h b = not_both (verdict p) tt rule spot h b
 
-one_break : (v : Verdict (Unit {0})) (r s : Rule) (at spot : Spot) → v ≡ Broken r at → v ≡ Broken s spot → (r ≡ s) × (at ≡ spot)
+one_break : (v : Verdict (Unit {0})) (r s : Rule) (at spot : Spot) → v ≡ Broken r at → v ≡ Broken s spot
+    → (r ≡ s) × (at ≡ spot)
 one_break v r s at spot b c = (cc, cc)
 
 pub first_is_one : FirstIsOne
@@ -58,15 +62,18 @@ Rejoins whole (Some share) = joins share.1 share.0 ≡ Some whole
 abbrev no_held : Option Held
 no_held = None
 
-lent_back_if : (a b : Bool) (n k : ℕ) → a ≡ false → b ≡ false → k ≡ n → (if a then no_held else Some (if b then held.Unique else held.Split k)) ≡ Some (held.Split n)
+lent_back_if : (a b : Bool) (n k : ℕ) → a ≡ false → b ≡ false → k ≡ n
+    → (if a then no_held else Some (if b then held.Unique else held.Split k)) ≡ Some (held.Split n)
 lent_back_if true b n k e h i = absurd (cc)
 lent_back_if false true n k e h i = absurd (cc)
 lent_back_if false false n k e h i = ap (λ (x : ℕ). Some (held.Split x)) i
 
 lent_back : (n : ℕ) → nat_lt 0 n ≡ true → one_less (n + 1) ≡ Some (held.Split n)
-lent_back n h = lent_back_if (nat_eq (n + 1) 0) (nat_eq (n + 1) 1) n ((n + 1) - 1) (grind (arith, nat_tests, h)) (grind (arith, nat_tests, h)) (omega arith)
+lent_back n h = lent_back_if (nat_eq (n + 1) 0) (nat_eq (n + 1) 1) n ((n + 1) - 1) (grind (arith, nat_tests, h))
+    (grind (arith, nat_tests, h)) (omega arith)
 
-lent_rejoins : (a b : Bool) (n : ℕ) → nat_lt 0 n ≡ a → Rejoins (held.Split n) (if a && b then lend (held.Split (n + 1)) else None)
+lent_rejoins : (a b : Bool) (n : ℕ) → nat_lt 0 n ≡ a
+    → Rejoins (held.Split n) (if a && b then lend (held.Split (n + 1)) else None)
 lent_rejoins true true n h = lent_back n h
 lent_rejoins true false n h = tt
 lent_rejoins false b n h = tt

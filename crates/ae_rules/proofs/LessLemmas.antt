@@ -10,7 +10,8 @@ use Rattle.ae_rules.specs.declared.held.GroupPerm.{GroupPerm}
 use Rattle.ae_rules.specs.declared.held.GroupPerm.TheVariants as group
 use Rattle.ae_rules.specs.Verdict.{Verdict, Holds, Broken, given}
 use Rattle.ae_rules.specs.Context.{Context}
-use Rattle.ae_rules.specs.Uses.{nothing, same_resource, use_alone, stronger, ◌∪◌, of_each, of_judged, of_found, is_seen, outside, all_but}
+use Rattle.ae_rules.specs.Uses.{nothing, same_resource, use_alone, stronger, ◌∪◌, of_each, of_judged, of_found}
+use Rattle.ae_rules.specs.Uses.{is_seen, outside, all_but}
 use Rattle.ae_rules.specs.EdgeLaws.{is_of_local, group_allows, is_allowed}
 use Rattle.ae_rules.specs.Instances.{renamed}
 use Rattle.ae_rules.proofs.SeenLemmas.{Within}
@@ -70,7 +71,8 @@ less_left u v w h = record { at = λ r. then_less (u r) (v r) (stronger (v r) (w
 pub less_right : (u v w : Uses) → Less u w → Less u (v ∪ w)
 less_right u v w h = record { at = λ r. then_less (u r) (w r) (stronger (v r) (w r)) (h.at r) (in_right (v r) (w r)) }
 
-strong_one : (b : Bool) (m n l : Mode) → (is_strong m ≡ true → is_strong l ≡ true) → (is_strong n ≡ true → is_strong l ≡ true) → is_strong (if b then m else n) ≡ true → is_strong l ≡ true
+strong_one : (b : Bool) (m n l : Mode) → (is_strong m ≡ true → is_strong l ≡ true)
+    → (is_strong n ≡ true → is_strong l ≡ true) → is_strong (if b then m else n) ≡ true → is_strong l ≡ true
 strong_one true m n l h k e = h e
 strong_one false m n l h k e = k e
 
@@ -104,27 +106,32 @@ hidden_less false o q h = h
 pub less_all_but : (s : Resource) (u v : Uses) → Less u v → Less (all_but s u) (all_but s v)
 less_all_but s u v h = record { at = λ r. hidden_less (same_resource s r) (u r) (v r) (h.at r) }
 
-one_less : (b : Bool) (m n : Mode) → (is_strong m ≡ true → is_strong n ≡ true) → IsLess (if b then Some m else None) (if b then Some n else None)
+one_less : (b : Bool) (m n : Mode) → (is_strong m ≡ true → is_strong n ≡ true)
+    → IsLess (if b then Some m else None) (if b then Some n else None)
 one_less true m n h = h
 one_less false m n h = tt
 
-pub less_one : (m n : Mode) (r : Resource) → (is_strong m ≡ true → is_strong n ≡ true) → Less (use_alone m r) (use_alone n r)
+pub less_one : (m n : Mode) (r : Resource) → (is_strong m ≡ true → is_strong n ≡ true)
+    → Less (use_alone m r) (use_alone n r)
 less_one m n r h = record { at = λ s. one_less (same_resource r s) m n h }
 
 pub less_renamed : (o : Option Mode) (n : Mode) (r : Resource) → is_strong n ≡ true → Less (renamed o r) (use_alone n r)
 less_renamed None n r h = less_nothing (use_alone n r)
 less_renamed (Some m) n r h = less_one m n r (λ _. h)
 
-pub less_found : {A : Type 0} (o : Option A) (u : A → Uses) (v : Uses) → ((x : A) → o ≡ Some x → Less (u x) v) → Less (of_found o u) v
+pub less_found : {A : Type 0} (o : Option A) (u : A → Uses) (v : Uses) → ((x : A) → o ≡ Some x → Less (u x) v)
+    → Less (of_found o u) v
 less_found None u v h = less_nothing v
 less_found (Some x) u v h = h x refl
 
-pub less_each : {A : Type 0} (u : A → Uses) (v : Uses) → ((x : A) → Less (u x) v) → (xs : List A) → Less (of_each u xs) v
+pub less_each : {A : Type 0} (u : A → Uses) (v : Uses) → ((x : A) → Less (u x) v) → (xs : List A)
+    → Less (of_each u xs) v
 less_each u v h [] = less_nothing v
 less_each u v h (x ∷ xs) = less_both (u x) (of_each u xs) v (h x) (less_each u v h xs)
 
 -- each of a zipped list against the second of the pair
-pub less_zip : {A B : Type 0} (u : A × B → Uses) (v : B → Uses) → ((x : A × B) → Less (u x) (v x.1)) → (xs : List A) (ys : List B) → Less (of_each u (zip xs ys)) (of_each v ys)
+pub less_zip : {A B : Type 0} (u : A × B → Uses) (v : B → Uses) → ((x : A × B) → Less (u x) (v x.1))
+    → (xs : List A) (ys : List B) → Less (of_each u (zip xs ys)) (of_each v ys)
 less_zip u v h [] ys = less_nothing (of_each v ys)
 less_zip u v h (x ∷ xs) [] = less_nothing nothing
 less_zip u v h (x ∷ xs) (y ∷ ys) = less_both (u (x, y)) (of_each u (zip xs ys)) (v y ∪ of_each v ys)
@@ -152,7 +159,8 @@ group_fits group.None n e = absurd (cc)
 group_fits q mode.GroupShared e = refl
 group_fits q mode.GroupWhole e = refl
 
-given_fits : (o : Option GroupPerm) (n : Mode) → given o false (λ q. group_allows q n) ≡ true → not (is_of_local n) ≡ true
+given_fits : (o : Option GroupPerm) (n : Mode) → given o false (λ q. group_allows q n) ≡ true
+    → not (is_of_local n) ≡ true
 given_fits None n e = absurd (cc)
 given_fits (Some q) n e = group_fits q n e
 
@@ -166,7 +174,8 @@ fit_within c u h r n e = allowed_fits c r n (h r n e)
 pub fit_nothing : Fit nothing
 fit_nothing r n e = absurd (cc)
 
-weak_apart : (r : Resource) (m n : Mode) → fits r m ≡ true → fits r n ≡ true → is_strong m ≡ false → is_strong n ≡ false → are_compatible m n ≡ false → ⊥
+weak_apart : (r : Resource) (m n : Mode) → fits r m ≡ true → fits r n ≡ true → is_strong m ≡ false
+    → is_strong n ≡ false → are_compatible m n ≡ false → ⊥
 weak_apart r mode.Write n f g s t e = cc
 weak_apart r mode.GroupWhole n f g s t e = cc
 weak_apart r mode.Read mode.Write f g s t e = cc
@@ -181,19 +190,23 @@ weak_apart (resource.Local x) mode.GroupShared mode.Read f g s t e = cc
 weak_apart (resource.Group x) mode.GroupShared mode.Read f g s t e = cc
 
 -- what conflicts still does, where both are used at least as strongly
-modes_conflict : (r : Resource) (m n k l : Mode) (a b : Bool) → is_strong m ≡ a → is_strong n ≡ b → fits r m ≡ true → fits r n ≡ true → are_compatible m n ≡ false
+modes_conflict : (r : Resource) (m n k l : Mode) (a b : Bool) → is_strong m ≡ a → is_strong n ≡ b → fits r m ≡ true
+    → fits r n ≡ true → are_compatible m n ≡ false
     → (is_strong m ≡ true → is_strong k ≡ true) → (is_strong n ≡ true → is_strong l ≡ true) → are_compatible k l ≡ false
 modes_conflict r m n k l true b s t f g e h i = strong_before k l (h s)
 modes_conflict r m n k l false true s t f g e h i = strong_after k l (i t)
 modes_conflict r m n k l false false s t f g e h i = absurd (weak_apart r m n f g s t e)
 
-more_conflict : (r : Resource) (o q v w : Option Mode) → ((m : Mode) → o ≡ Some m → fits r m ≡ true) → ((m : Mode) → q ≡ Some m → fits r m ≡ true)
+more_conflict : (r : Resource) (o q v w : Option Mode) → ((m : Mode) → o ≡ Some m → fits r m ≡ true)
+    → ((m : Mode) → q ≡ Some m → fits r m ≡ true)
     → IsConflict o q → IsLess o v → IsLess q w → IsConflict v w
 more_conflict r None q v w f g e h i = absurd e
 more_conflict r (Some m) None v w f g e h i = absurd e
 more_conflict r (Some m) (Some n) None w f g e h i = absurd h
 more_conflict r (Some m) (Some n) (Some k) None f g e h i = absurd i
-more_conflict r (Some m) (Some n) (Some k) (Some l) f g e h i = modes_conflict r m n k l (is_strong m) (is_strong n) refl refl (f m refl) (g n refl) e h i
+more_conflict r (Some m) (Some n) (Some k) (Some l) f g e h i = modes_conflict r m n k l (is_strong m)
+    (is_strong n) refl refl (f m refl) (g n refl) e h i
 
-pub conflict_more : (r : Resource) (u v x y : Uses) → Fit u → Fit v → Less u x → Less v y → IsConflict (u r) (v r) → IsConflict (x r) (y r)
+pub conflict_more : (r : Resource) (u v x y : Uses) → Fit u → Fit v → Less u x → Less v y → IsConflict (u r) (v r)
+    → IsConflict (x r) (y r)
 conflict_more r u v x y f g h i e = more_conflict r (u r) (v r) (x r) (y r) (f r) (g r) e (h.at r) (i.at r)

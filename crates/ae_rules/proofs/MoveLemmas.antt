@@ -18,12 +18,14 @@ after_it : {A : Type 0} (v : Verdict ⊤) (x y : A) → (v >> Holds x) ≡ Holds
 after_it (Holds t) x y e = cc
 after_it (Broken rule at) x y e = absurd (cc)
 
-source_moves_it : (p : Code) (c : Context) (q : Perm) (k : Kind) (s : Source) (at : Spot) (name : Option ℕ) → source_into p c q k s at ≡ Holds name → name ≡ source_moves q s
+source_moves_it : (p : Code) (c : Context) (q : Perm) (k : Kind) (s : Source) (at : Spot) (name : Option ℕ)
+    → source_into p c q k s at ≡ Holds name → name ≡ source_moves q s
 source_moves_it p c q k Null at name e = cc
 source_moves_it p c q k (From path) at name e = after_it (path_into p c q k path at) (moves q path) name e
 
 found_moves_it : (p : Code) (c : Context) (q : Perm) (k : Kind) (o : Option Source) (at : Spot) (name : Option ℕ)
-    → (found o rule.TypeMismatch at >>= λ s. source_into p c q k s at) ≡ Holds name → name ≡ given o None (source_moves q)
+    → (found o rule.TypeMismatch at >>= λ s. source_into p c q k s at) ≡ Holds name
+    → name ≡ given o None (source_moves q)
 found_moves_it p c q k None at name e = absurd (cc)
 found_moves_it p c q k (Some s) at name e = source_moves_it p c q k s at name e
 

@@ -1,5 +1,7 @@
 -- The list of the statements for which a statement waits.
-use Rattle.std.proofs.Common.{◌≡◌, ◌<◌, ◌⊎◌, inl, inr, refl, sym, ap, ◌∙◌, subst, arith, ℕ, zero, suc, nat_lt, Bool, true, false, ◌&&◌, ◌||◌, not, if◌then◌else◌, List, [], ◌∷◌, ◌++◌, length, Option, None, Some}
+use Rattle.std.proofs.Common.{◌≡◌, ◌<◌, ◌⊎◌, inl, inr, refl, sym, ap, ◌∙◌, subst, arith, ℕ, zero, suc, nat_lt, Bool}
+use Rattle.std.proofs.Common.{true, false, ◌&&◌, ◌||◌, not, if◌then◌else◌, List, [], ◌∷◌, ◌++◌, length, Option, None}
+use Rattle.std.proofs.Common.{Some}
 use Rattle.std.specs.List.{Contains}
 use Rattle.std.specs.Prelude.{slice_index_or}
 use Rattle.std.proofs.lemmas.List.{append-nil}
@@ -26,7 +28,8 @@ all_at (suc n) test i e l = elim (below_or_last i n l) [
 
 all_of : (n : ℕ) (test : ℕ → Bool) → ((i : ℕ) → i < n → test i ≡ true) → all_below n test ≡ true
 all_of zero test h = refl
-all_of (suc n) test h = and_from (test n) (all_below n test) (h n (omega arith)) (all_of n test (λ i l. h i (omega (arith, l))))
+all_of (suc n) test h = and_from (test n) (all_below n test) (h n (omega arith))
+    (all_of n test (λ i l. h i (omega (arith, l))))
 
 any_at : (n : ℕ) (test : ℕ → Bool) → any_below n test ≡ true → (i : ℕ) × (test i ≡ true)
 any_at zero test e = absurd (cc)
@@ -73,7 +76,8 @@ put : (n : ℕ) (test : ℕ → Bool) (i : ℕ) → i < n → test i ≡ true �
 put zero test i l e = absurd (omega (arith, l))
 put (suc n) test i l e = elim (below_or_last i n l) [
   | inl m ↦ Contains-append_left (those_below n test) (last_if (test n) n) i (put n test i m e)
-  | inr q ↦ Contains-append_right (those_below n test) (last_if (test n) n) i (subst (λ (x : ℕ). Contains (last_if (test n) n) x) (sym q) (last_put (test n) n (sym (ap test q) ∙ e)))
+  | inr q ↦ Contains-append_right (those_below n test) (last_if (test n) n) i
+      (subst (λ (x : ℕ). Contains (last_if (test n) n) x) (sym q) (last_put (test n) n (sym (ap test q) ∙ e)))
 ]
 
 rising_more : (xs : List ℕ) (n : ℕ) → IsRising xs → ((x : ℕ) → Contains xs x → x < n) → IsRising (xs ++ (n ∷ []))
@@ -81,7 +85,8 @@ rising_more [] n r h = tt
 rising_more (x ∷ []) n r h = (h x (here x []), tt)
 rising_more (x ∷ y ∷ xs) n r h = (r.0, rising_more (y ∷ xs) n r.1 (λ z k. h z (there x (y ∷ xs) z k)))
 
-rising_last : (b : Bool) (xs : List ℕ) (n : ℕ) → IsRising xs → ((x : ℕ) → Contains xs x → x < n) → IsRising (xs ++ last_if b n)
+rising_last : (b : Bool) (xs : List ℕ) (n : ℕ) → IsRising xs → ((x : ℕ) → Contains xs x → x < n)
+    → IsRising (xs ++ last_if b n)
 rising_last true xs n r h = rising_more xs n r h
 rising_last false xs n r h = subst IsRising (sym (append-nil xs)) r
 
@@ -133,19 +138,24 @@ clear_at uses i r k = not (nat_lt i k) || is_weak (uses k r)
 
 edge_from : (uses : BlockUses) (i j : ℕ) (r : Resource) → i < j → edge_on uses i j r ≡ true → Edge uses i j
 edge_from uses i j r l e =
-    let c : conflicts (uses i r) (uses j r) ≡ true = first_of_both (conflicts (uses i r) (uses j r)) (all_below j (clear_at uses i r)) e in
-    let w : all_below j (clear_at uses i r) ≡ true = second_of_both (conflicts (uses i r) (uses j r)) (all_below j (clear_at uses i r)) e in
+    let c : conflicts (uses i r) (uses j r) ≡ true = first_of_both (conflicts (uses i r) (uses j r))
+    (all_below j (clear_at uses i r)) e in
+    let w : all_below j (clear_at uses i r) ≡ true = second_of_both (conflicts (uses i r) (uses j r))
+    (all_below j (clear_at uses i r)) e in
     record {
       before = l;
       on = r;
       conflict = conflict_from (uses i r) (uses j r) c;
-      clear = λ k after until. weak_from (uses k r) (between i k (is_weak (uses k r)) (all_at j (clear_at uses i r) k w until) after);
+      clear = λ k after until. weak_from (uses k r)
+          (between i k (is_weak (uses k r)) (all_at j (clear_at uses i r) k w until) after);
     }
 
 edge_to : (uses : BlockUses) (i j : ℕ) (e : Edge uses i j) → edge_on uses i j e.on ≡ true
 edge_to uses i j e =
-    and_from (conflicts (uses i e.on) (uses j e.on)) (all_below j (clear_at uses i e.on)) (conflict_to (uses i e.on) (uses j e.on) e.conflict)
-    (all_of j (clear_at uses i e.on) (λ k until. not_between i k (is_weak (uses k e.on)) (λ after. weak_to (uses k e.on) (e.clear k after until))))
+    and_from (conflicts (uses i e.on) (uses j e.on)) (all_below j (clear_at uses i e.on))
+    (conflict_to (uses i e.on) (uses j e.on) e.conflict)
+    (all_of j (clear_at uses i e.on)
+    (λ k until. not_between i k (is_weak (uses k e.on)) (λ after. weak_to (uses k e.on) (e.clear k after until))))
 
 abbrev on_name : BlockUses → ℕ → ℕ → ℕ → Bool
 on_name uses i j x = edge_on uses i j (resource.Local x) || edge_on uses i j (resource.Group x)
@@ -158,14 +168,18 @@ listed n uses i j l e =
       | inr h ↦ edge_from uses i j (resource.Group x.0) l h
     ]
 
-on_its_name : (uses : BlockUses) (i j : ℕ) (r : Resource) → edge_on uses i j r ≡ true → on_name uses i j (name_of_resource r) ≡ true
-on_its_name uses i j (resource.Local x) e = or_left (edge_on uses i j (resource.Local x)) (edge_on uses i j (resource.Group x)) e
-on_its_name uses i j (resource.Group x) e = or_right (edge_on uses i j (resource.Local x)) (edge_on uses i j (resource.Group x)) e
+on_its_name : (uses : BlockUses) (i j : ℕ) (r : Resource) → edge_on uses i j r ≡ true
+    → on_name uses i j (name_of_resource r) ≡ true
+on_its_name uses i j (resource.Local x) e = or_left (edge_on uses i j (resource.Local x))
+    (edge_on uses i j (resource.Group x)) e
+on_its_name uses i j (resource.Group x) e = or_right (edge_on uses i j (resource.Local x))
+    (edge_on uses i j (resource.Group x)) e
 
 unlisted : (n : ℕ) (uses : BlockUses) → NamesBelow n uses → (i j : ℕ) → Edge uses i j → is_edge n uses i j ≡ true
 unlisted n uses h i j e =
     let u : (m : Mode) × (uses i e.on ≡ Some m) = used_first (uses i e.on) (uses j e.on) e.conflict in
-    any_of n (on_name uses i j) (name_of_resource e.on) (h i e.on u.0 u.1) (on_its_name uses i j e.on (edge_to uses i j e))
+    any_of n (on_name uses i j) (name_of_resource e.on) (h i e.on u.0 u.1)
+    (on_its_name uses i j e.on (edge_to uses i j e))
 
 pub preds_are_edges : PredsAreEdges
 preds_are_edges n uses h j = record {

@@ -17,17 +17,20 @@ pub breaks : {A : Type 0} {P : A → Type 0} {rule : Rule} {at : Spot} → Yield
 breaks = record { value = λ y e. absurd (cc) }
 
 -- one premise, and what the next gives then
-pub next : {A B : Type 0} {P : B → Type 0} (v : Verdict A) {f : A → Verdict B} → ((x : A) → v ≡ Holds x → Yields P (f x)) → Yields P (v >>= f)
+pub next : {A B : Type 0} {P : B → Type 0} (v : Verdict A) {f : A → Verdict B}
+    → ((x : A) → v ≡ Holds x → Yields P (f x)) → Yields P (v >>= f)
 next (Holds x) h = h x refl
 next (Broken rule at) h = breaks
 
 -- a test, and what the next gives where it holds
-pub asks : {B : Type 0} {P : B → Type 0} (b : Bool) (rule : Rule) (at : Spot) {w : Verdict B} → (b ≡ true → Yields P w) → Yields P (require b rule at >> w)
+pub asks : {B : Type 0} {P : B → Type 0} (b : Bool) (rule : Rule) (at : Spot) {w : Verdict B}
+    → (b ≡ true → Yields P w) → Yields P (require b rule at >> w)
 asks true rule at h = h refl
 asks false rule at h = breaks
 
 -- what holds of the first state and stays at each step
-pub turns : {A S : Type 0} {P : S → Type 0} (f : A → S → Verdict S) → ((x : A) (s : S) → P s → Yields P (f x s)) → (xs : List A) (s : S) → P s → Yields P (in_turn f xs s)
+pub turns : {A S : Type 0} {P : S → Type 0} (f : A → S → Verdict S) → ((x : A) (s : S) → P s → Yields P (f x s))
+    → (xs : List A) (s : S) → P s → Yields P (in_turn f xs s)
 turns f h [] s k = gives k
 turns f h (x ∷ xs) s k = next (f x s) (λ t e. turns f h xs t ((h x s k).value t e))
 

@@ -1,5 +1,6 @@
 -- What follows from the rules on the blocks of a program and on the contexts in them.
-use Rattle.std.specs.Prelude.{◌≡◌, ℕ, nat_eq, Bool, true, false, if◌then◌else◌, List, [], ◌∷◌, ◌++◌, length, map, Option, Some, option_map}
+use Rattle.std.specs.Prelude.{◌≡◌, ℕ, nat_eq, Bool, true, false, if◌then◌else◌, List, [], ◌∷◌, ◌++◌, length, map}
+use Rattle.std.specs.Prelude.{Option, Some, option_map}
 use Rattle.std.specs.List.{All}
 use Rattle.ae_tree.specs.Limits.{statement_count}
 use Rattle.ae_text.specs.declared.refusal.Spot.{Spot}
@@ -73,4 +74,5 @@ groups_in_lines (Next at a rest) = group_in_line a ++ groups_in_lines rest
 -- after judged lines the locals are those before and those that the lines declare, and the groups those before and those that the lines declare
 abbrev pub LinesDeclare : Type 0
 LinesDeclare = (p : Code) (m : Definition) (b : Lines) (c d : Context) → judge_lines p m b c ≡ Holds d
-    → ((x : ℕ) → shape_of d x ≡ with_lets b (shape_of c) x) × (in_turn declare (groups_in_lines b) c.group ≡ Holds d.group)
+    → ((x : ℕ) → shape_of d x ≡ with_lets b (shape_of c) x)
+    × (in_turn declare (groups_in_lines b) c.group ≡ Holds d.group)

@@ -1,8 +1,10 @@
 -- The blocks of a method in the order in which they are opened, each with the context in which it begins, and the graph of each.
-use Rattle.std.specs.Prelude.{ℕ, nat_eq, Bool, true, false, if◌then◌else◌, List, [], ◌∷◌, ◌++◌, length, Option, None, Some, option_map}
+use Rattle.std.specs.Prelude.{ℕ, nat_eq, Bool, true, false, if◌then◌else◌, List, [], ◌∷◌, ◌++◌, length, Option, None}
+use Rattle.std.specs.Prelude.{Some, option_map}
 use Rattle.ae_rules.specs.Edges.{BlockUses}
 use Rattle.ae_tree.specs.Limits.{statement_count}
-use Rattle.ae_tree.specs.Plain.{Action, Chooses, ChoosesElse, Repeats, Splits, Locks, Lines, End, Next, Definition, Code}
+use Rattle.ae_tree.specs.Plain.{Action, Chooses, ChoosesElse, Repeats, Splits, Locks, Lines, End, Next, Definition}
+use Rattle.ae_tree.specs.Plain.{Code}
 use Rattle.ae_rules.specs.Verdict.{given, judged}
 use Rattle.ae_rules.specs.Lookups.{method_at}
 use Rattle.ae_rules.specs.Context.{Context}
@@ -63,16 +65,20 @@ abbrev mutual
   -- the blocks in a statement in the same order, from the context before it
   pub scenes_in : Code → Definition → Bool → Action → Context → List Opened
   scenes_in p m atomic (Chooses e n b) c = (n, block_at m b c) ∷ scenes_among p m atomic b c
-  scenes_in p m atomic (ChoosesElse e n b k b') c = ((n, block_at m b c) ∷ scenes_among p m atomic b c) ++ ((k, block_at m b' c) ∷ scenes_among p m atomic b' c)
+  scenes_in p m atomic (ChoosesElse e n b k b') c = ((n, block_at m b c) ∷ scenes_among p m atomic b c)
+      ++ ((k, block_at m b' c) ∷ scenes_among p m atomic b' c)
   scenes_in p m atomic (Repeats e n b) c = (n, block_at m b c) ∷ scenes_among p m atomic b c
-  scenes_in p m atomic (Splits gs n b) c = (n, block_at m b (while_split gs c)) ∷ scenes_among p m atomic b (while_split gs c)
-  scenes_in p m atomic (Locks g n b) c = if atomic then (n, block_at m b (while_locked g.name c)) ∷ scenes_among p m atomic b (while_locked g.name c) else []
+  scenes_in p m atomic (Splits gs n b) c = (n, block_at m b (while_split gs c)) ∷ scenes_among p m atomic b
+      (while_split gs c)
+  scenes_in p m atomic (Locks g n b) c = if atomic then (n, block_at m b (while_locked g.name c))
+      ∷ scenes_among p m atomic b (while_locked g.name c) else []
   scenes_in p m atomic _ c = []
 
   -- the blocks in statements in order, as far as the statements are judged
   pub scenes_among : Code → Definition → Bool → Lines → Context → List Opened
   scenes_among p m atomic End c = []
-  scenes_among p m atomic (Next at a rest) c = scenes_in p m atomic a c ++ judged (judge_statement p m at a c) [] (scenes_among p m atomic rest)
+  scenes_among p m atomic (Next at a rest) c = scenes_in p m atomic a c ++ judged (judge_statement p m at a c) []
+      (scenes_among p m atomic rest)
 
 -- all blocks of a method, its body first
 abbrev pub all_scenes : Code → Definition → List Opened
@@ -102,4 +108,5 @@ scene_graph p s = graph (length p.names) (scene_uses p s) (statement_count s.lin
 
 -- For each statement of this block of the method with this number, the statements for which it waits. A block inside an atomic block has no graph.
 abbrev pub graph_of : Code → ℕ → ℕ → Option (List (List ℕ))
-graph_of p k n = given (method_at p k) None (λ (m : Definition). option_map (scene_graph p) (scene_numbered n (scenes p m)))
+graph_of p k n = given (method_at p k) None
+    (λ (m : Definition). option_map (scene_graph p) (scene_numbered n (scenes p m)))

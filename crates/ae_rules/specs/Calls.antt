@@ -1,5 +1,6 @@
 -- New objects and calls: the arguments, the needs of a method, and what comes back.
-use Rattle.std.specs.Prelude.{ℕ, nat_eq, Bool, true, false, ◌&&◌, ◌||◌, not, if◌then◌else◌, List, [], ◌∷◌, ◌++◌, map, zip, length, filter_map, Option, None, Some, is_some, option_map, ⊤}
+use Rattle.std.specs.Prelude.{ℕ, nat_eq, Bool, true, false, ◌&&◌, ◌||◌, not, if◌then◌else◌, List, [], ◌∷◌, ◌++◌, map}
+use Rattle.std.specs.Prelude.{zip, length, filter_map, Option, None, Some, is_some, option_map, ⊤}
 use Rattle.ae_text.specs.declared.refusal.Spot.{Spot}
 use Rattle.ae_text.specs.declared.refusal.Rule.TheVariants as rule
 use Rattle.ae_tree.specs.declared.tree.NameAt.{NameAt}
@@ -21,7 +22,8 @@ use Rattle.ae_rules.specs.declared.held.Held.TheVariants as held
 use Rattle.ae_rules.specs.Verdict.{Verdict, Holds, Broken, ◌>>=◌, ◌>>◌, require, found, in_turn, given}
 use Rattle.ae_rules.specs.Shares.{Share, splits, joins}
 use Rattle.ae_rules.specs.Forms.{same_perm, is_object, is_object_of, is_unique, in_place, form_with}
-use Rattle.ae_rules.specs.Lookups.{Names, class_called, class_of, groups_of, method_at, method_number, top_number, field_form, own_kind}
+use Rattle.ae_rules.specs.Lookups.{Names, class_called, class_of, groups_of, method_at, method_number, top_number}
+use Rattle.ae_rules.specs.Lookups.{field_form, own_kind}
 use Rattle.ae_rules.specs.Types.{groups_fit}
 use Rattle.ae_rules.specs.Table.{no_names, and_also}
 use Rattle.ae_rules.specs.Groups.{known, wanted_need, needs_met}
@@ -41,7 +43,8 @@ abbrev pub no_roots : Roots
 no_roots = record { used = no_names; alone = no_names }
 
 abbrev pub with_root : Bool → ℕ → Roots → Roots
-with_root unique x before = record { used = and_also x before.used; alone = if unique then and_also x before.alone else before.alone }
+with_root unique x before = record
+    { used = and_also x before.used; alone = if unique then and_also x before.alone else before.alone }
 
 -- an argument's root was used before, and one of the two uses is for a unique place
 abbrev pub meets : Bool → ℕ → Roots → Bool
@@ -88,7 +91,8 @@ judge_new p c x gs args =
     found (class_called p x.name) rule.UnknownClass x.at >>= λ (k : Class).
     groups_fit (known c.group) (length k.groups) x.at gs >>
     require (nat_eq (length args) (length k.fields)) rule.ArgumentCount x.at >>
-    in_turn (fills p c) (zip (map (field_form k (bare_names gs)) k.fields) args) (record { roots = no_roots; after = c }) >>= λ filled.
+    in_turn (fills p c) (zip (map (field_form k (bare_names gs)) k.fields) args)
+    (record { roots = no_roots; after = c }) >>= λ filled.
     Holds (record { value = unique_of (kind.Class x.name (bare_names gs)); after = filled.after })
 
 -- ---- the method that is called
@@ -101,7 +105,8 @@ pub record Callee : Type 0 where
   pub groups : List ℕ
 
 abbrev pub callee_at : Code → List ℕ → List ℕ → ℕ → Option Callee
-callee_at p names groups n = option_map (λ m. record { number = n; method = m; names = names; groups = groups }) (method_at p n)
+callee_at p names groups n = option_map (λ m. record { number = n; method = m; names = names; groups = groups })
+    (method_at p n)
 
 abbrev pub callee_in : Code → Kind → ℕ → Class → Option Callee
 callee_in p k x c = given (method_number p c x) None (callee_at p (bare_names c.groups) (groups_of k))
@@ -251,7 +256,11 @@ judge_callee_with p c i m =
     let pairs : List (ParamSlot × Expression) = zip (slots p new m.method) (givens i) in
     in_turn (to_slot p c) pairs no_roots >>= λ roots.
     needs_met c.group i.method.at (map (wanted_need new) m.method.needs) >>
-    Holds (record { result = option_map (λ (t : Ty). form_with new (form t)) m.method.result; after = after_call (argument_parts c pairs) c })
+    Holds (record {
+      result = option_map (λ (t : Ty). form_with new (form t)) m.method.result;
+      after = after_call
+          (argument_parts c pairs) c;
+    })
 
 abbrev pub judge_call : Code → Context → Invocation → Verdict Called
 judge_call p c i = judge_callee p c i.on i.method >>= judge_callee_with p c i

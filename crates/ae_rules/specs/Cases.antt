@@ -33,5 +33,6 @@ BuiltDeclaresOne = (tokens : List Token) (p : Code) → Derives tokens p → Bui
 
 -- the statements of the one body of an accepted program use the same by today's rules and the whole ones
 abbrev pub TodaysUsesAreACase : Type 0
-TodaysUsesAreACase = (p : Code) → Accepted p → DeclaresOne p → (m : Definition) → p.methods ≡ m ∷ [] → (s : Scene) → scene p m m.no ≡ Some s
+TodaysUsesAreACase = (p : Code) → Accepted p → DeclaresOne p → (m : Definition) → p.methods ≡ m ∷ [] → (s : Scene)
+    → scene p m m.no ≡ Some s
     → (i : ℕ) (r : Resource) → scene_uses p s i r ≡ use_at m.body i r

@@ -1,5 +1,6 @@
 -- What is known at a statement: each visible local with its form and what is held of it, and each known group with its permission.
-use Rattle.std.specs.Prelude.{ℕ, zero, suc, nat_eq, Bool, true, false, ◌&&◌, ◌||◌, not, if◌then◌else◌, length, Option, None, Some, is_some, option_map, ⊤}
+use Rattle.std.specs.Prelude.{ℕ, zero, suc, nat_eq, Bool, true, false, ◌&&◌, ◌||◌, not, if◌then◌else◌, length}
+use Rattle.std.specs.Prelude.{Option, None, Some, is_some, option_map, ⊤}
 use Rattle.ae_text.specs.declared.refusal.Spot.{Spot}
 use Rattle.ae_text.specs.declared.refusal.Rule.TheVariants as rule
 use Rattle.ae_tree.specs.declared.form.Perm.{Perm}
@@ -69,11 +70,16 @@ each_name p = all_below (length p.names)
 -- ---- changes
 
 abbrev pub with_local : ℕ → Form → Context → Context
-with_local x form c = record c { local = λ y. if nat_eq x y then Some (record { form = form; held = held_of form; stays = false }) else c.local y }
+with_local x form c = record c {
+  local = λ y. if nat_eq x y then Some (record { form = form; held = held_of form; stays = false }) else c.local y;
+}
 
 -- another thing is held of this local
 abbrev pub with_held : ℕ → Held → Context → Context
-with_held x h c = record c { local = λ y. if nat_eq x y then option_map (λ (l : Local). record l { held = h }) (c.local y) else c.local y }
+with_held x h c = record c {
+  local = λ y. if nat_eq x y then option_map (λ (l : Local). record l { held = h })
+      (c.local y) else c.local y;
+}
 
 -- a name that is moved holds nothing any more
 abbrev pub with_name_moved : Option ℕ → Context → Context
@@ -82,7 +88,11 @@ with_name_moved (Some x) c = with_held x held.None c
 
 -- a block ends: what is held of the locals from outside stays, and the groups are as outside
 abbrev pub closed : Context → Context → Context
-closed outside inside = record { local = λ x. if is_some (outside.local x) then inside.local x else None; group = outside.group }
+closed outside inside = record {
+  local = λ x. if is_some (outside.local x) then inside.local x else None;
+  group =
+      outside.group;
+}
 
 -- each local from outside holds the same in both
 abbrev pub hold_alike : Code → Context → Context → Context → Bool

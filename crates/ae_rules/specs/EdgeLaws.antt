@@ -26,7 +26,8 @@ ChainsGoForward = (uses : BlockUses) (i j : ℕ) → Before uses i j → i < j
 
 -- two statements that use a resource in ways that do not go together are joined by a chain
 abbrev pub ConflictsAreOrdered : Type 0
-ConflictsAreOrdered = (uses : BlockUses) (i j : ℕ) (r : Resource) → i < j → IsConflict (uses i r) (uses j r) → Before uses i j
+ConflictsAreOrdered = (uses : BlockUses) (i j : ℕ) (r : Resource) → i < j → IsConflict (uses i r) (uses j r)
+    → Before uses i j
 
 -- a local is read or written
 abbrev pub is_of_local : Mode → Bool

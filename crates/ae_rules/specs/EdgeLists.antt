@@ -1,5 +1,6 @@
 -- The edges of a block as a test and as lists.
-use Rattle.std.specs.Prelude.{ℕ, zero, suc, nat_lt, Bool, true, false, ◌&&◌, ◌||◌, not, if◌then◌else◌, List, [], ◌∷◌, ◌++◌, map, Option, None, Some}
+use Rattle.std.specs.Prelude.{ℕ, zero, suc, nat_lt, Bool, true, false, ◌&&◌, ◌||◌, not, if◌then◌else◌, List, [], ◌∷◌}
+use Rattle.std.specs.Prelude.{◌++◌, map, Option, None, Some}
 use Rattle.ae_rules.specs.declared.uses.Resource.{Resource}
 use Rattle.ae_rules.specs.declared.uses.Resource.TheVariants as resource
 use Rattle.ae_rules.specs.declared.uses.Mode.{Mode}
@@ -26,7 +27,8 @@ any_below zero test = false
 any_below (suc n) test = any_below n test || test n
 
 abbrev pub is_edge : ℕ → BlockUses → ℕ → ℕ → Bool
-is_edge names uses i j = any_below names (λ x. edge_on uses i j (resource.Local x) || edge_on uses i j (resource.Group x))
+is_edge names uses i j = any_below names
+    (λ x. edge_on uses i j (resource.Local x) || edge_on uses i j (resource.Group x))
 
 -- the numbers below a bound that pass, rising
 abbrev pub those_below : ℕ → (ℕ → Bool) → List ℕ

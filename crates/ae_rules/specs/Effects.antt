@@ -5,8 +5,10 @@ use Rattle.ae_tree.specs.declared.tree.Path.{Path}
 use Rattle.ae_tree.specs.declared.tree.Class.{Class}
 use Rattle.ae_tree.specs.declared.form.Form.{Form}
 use Rattle.ae_tree.specs.Form.{form, bare_names}
-use Rattle.ae_tree.specs.Plain.{Expression, Invocation, RightSide, Value, Taken, Zeros, Made, Returned, Lines, End, Next, Definition, Code}
-use Rattle.ae_tree.specs.Plain.{Action, Declares, Assigns, Stores, StoresAt, Calls, Chooses, ChoosesElse, Repeats, Groups, Splits, Locks, Freezes, Shares, Prints, PrintsText, Asserts, Returns}
+use Rattle.ae_tree.specs.Plain.{Expression, Invocation, RightSide, Value, Taken, Zeros, Made, Returned, Lines, End}
+use Rattle.ae_tree.specs.Plain.{Next, Definition, Code}
+use Rattle.ae_tree.specs.Plain.{Action, Declares, Assigns, Stores, StoresAt, Calls, Chooses, ChoosesElse, Repeats}
+use Rattle.ae_tree.specs.Plain.{Groups, Splits, Locks, Freezes, Shares, Prints, PrintsText, Asserts, Returns}
 use Rattle.ae_rules.specs.declared.held.Held.TheVariants as held
 use Rattle.ae_rules.specs.declared.held.GroupPerm.TheVariants as group
 use Rattle.ae_rules.specs.Verdict.{given}
@@ -21,7 +23,10 @@ use Rattle.ae_rules.specs.Statements.{while_split, while_locked}
 
 -- nothing is held of these any more
 abbrev pub all_moved : List ℕ → Context → Context
-all_moved xs c = record c { local = λ y. if has_name xs y then option_map (λ (l : Local). record l { held = held.None }) (c.local y) else c.local y }
+all_moved xs c = record c {
+  local =
+      λ y. if has_name xs y then option_map (λ (l : Local). record l { held = held.None }) (c.local y) else c.local y;
+}
 
 -- the form of the place that these steps lead to
 abbrev pub form_along : Code → Form → List NameAt → Option Form
@@ -48,7 +53,8 @@ call_effect p c i = given (callee_for p c i.on i.method) c (λ (m : Callee).
 -- a new object takes the names that go into its unique fields
 abbrev pub made_effect : Code → Context → NameAt → List NameAt → List Expression → Context
 made_effect p c x gs args = given (class_called p x.name) c (λ (k : Class).
-    all_moved (filter_map (λ (y : Form × Expression). name_into y.0 y.1) (zip (map (field_form k (bare_names gs)) k.fields) args)) c)
+    all_moved (filter_map (λ (y : Form × Expression). name_into y.0 y.1)
+    (zip (map (field_form k (bare_names gs)) k.fields) args)) c)
 
 -- a right side that goes into a form
 abbrev pub right_effect : Code → Context → Form → RightSide → Context
@@ -61,7 +67,8 @@ right_effect p c target (Returned i) = call_effect p c i
 -- ---- statements
 
 abbrev pub assign_effect : Code → Context → NameAt → RightSide → Context
-assign_effect p c x e = given (c.local x.name) c (λ (l : Local). with_held x.name (held_of l.form) (right_effect p c l.form e))
+assign_effect p c x e = given (c.local x.name) c
+    (λ (l : Local). with_held x.name (held_of l.form) (right_effect p c l.form e))
 
 abbrev pub store_effect : Code → Context → Path → Expression → Context
 store_effect p c path e = given (form_at p c path) c (λ (t : Form). with_name_moved (name_into t e) c)

@@ -7,7 +7,8 @@ use Rattle.ae_tree.specs.declared.tree.Op.{Op}
 use Rattle.ae_tree.specs.declared.tree.Op.TheVariants as op
 use Rattle.ae_tree.specs.declared.form.Form.{Form}
 use Rattle.ae_tree.specs.declared.form.Form.TheVariants as f
-use Rattle.ae_tree.specs.Plain.{Expression, Number, Truth, Nothing, Read, Item, Length, Grouped, Negated, Minus, Binary, Code}
+use Rattle.ae_tree.specs.Plain.{Expression, Number, Truth, Nothing, Read, Item, Length, Grouped, Negated, Minus}
+use Rattle.ae_tree.specs.Plain.{Binary, Code}
 use Rattle.ae_rules.specs.declared.held.Held.TheVariants as held
 use Rattle.ae_rules.specs.Verdict.{Verdict, Holds, Broken, ◌>>=◌, ◌>>◌, require}
 use Rattle.ae_rules.specs.Forms.{same_value, is_object, is_ints}
@@ -101,7 +102,8 @@ abbrev pub both_have : Form → Verdict Form → Spot → Verdict Form → Spot 
 both_have wanted left left_at right right_at = has_form wanted left left_at >> has_form wanted right right_at
 
 -- the operands of an operator, which are judged so, the left one first
-abbrev pub judge_operands : Code → Context → Operands → Expression → Expression → Verdict Form → Verdict Form → Verdict ⊤
+abbrev pub judge_operands : Code → Context → Operands → Expression → Expression → Verdict Form → Verdict Form
+    → Verdict ⊤
 judge_operands p c Numbers a b left right = both_have f.Int left (expression_spot a) right (expression_spot b)
 judge_operands p c Truths a b left right = both_have f.Bool left (expression_spot a) right (expression_spot b)
 judge_operands p c Equals a b left right = equal_operands p c (beside_null a b) left right (expression_spot b)

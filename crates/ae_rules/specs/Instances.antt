@@ -1,5 +1,6 @@
 -- Statements as they run, by paths of numbers: where two of them part, which is first, and which conflict.
-use Rattle.std.specs.Prelude.{◌≡◌, ◌<◌, ◌⊎◌, ℕ, zero, suc, nat_eq, Bool, true, false, if◌then◌else◌, List, [], ◌∷◌, ◌++◌, map, zip, Option, None, Some, option_map}
+use Rattle.std.specs.Prelude.{◌≡◌, ◌<◌, ◌⊎◌, ℕ, zero, suc, nat_eq, Bool, true, false, if◌then◌else◌, List, [], ◌∷◌}
+use Rattle.std.specs.Prelude.{◌++◌, map, zip, Option, None, Some, option_map}
 use Rattle.ae_tree.specs.declared.tree.Me.{Me}
 use Rattle.ae_tree.specs.declared.tree.Param.{Param}
 use Rattle.ae_rules.specs.declared.uses.Resource.{Resource}
@@ -11,7 +12,8 @@ use Rattle.ae_tree.specs.Names.{io, main, this}
 use Rattle.ae_rules.specs.BuiltUses.{statement_at}
 use Rattle.ae_tree.specs.Limits.{statement_count}
 use Rattle.ae_rules.specs.Edges.{IsConflict, Uses, Before}
-use Rattle.ae_tree.specs.Plain.{Expression, Invocation, RightSide, Value, Taken, Zeros, Made, Returned, Definition, Code}
+use Rattle.ae_tree.specs.Plain.{Expression, Invocation, RightSide, Value, Taken, Zeros, Made, Returned, Definition}
+use Rattle.ae_tree.specs.Plain.{Code}
 use Rattle.ae_tree.specs.Plain.{Action, Declares, Assigns, Calls, Chooses, ChoosesElse, Repeats, Splits, Locks}
 use Rattle.ae_rules.specs.Verdict.{given, judged}
 use Rattle.ae_rules.specs.Forms.{is_unique, is_object}
@@ -21,7 +23,8 @@ use Rattle.ae_rules.specs.Into.{Source, Null, From, source}
 use Rattle.ae_rules.specs.Calls.{Callee, judge_callee, ParamSlot, group_in, if_some, slots, givens}
 use Rattle.ae_rules.specs.Statements.{while_split, while_locked}
 use Rattle.ae_rules.specs.Judges.{start}
-use Rattle.ae_rules.specs.Uses.{nothing, use_alone, read_use, together, ◌∪◌, of_each, of_judged, of_found, outside, all_but, statement_uses, context_at}
+use Rattle.ae_rules.specs.Uses.{nothing, use_alone, read_use, together, ◌∪◌, of_each, of_judged, of_found, outside}
+use Rattle.ae_rules.specs.Uses.{all_but, statement_uses, context_at}
 use Rattle.ae_rules.specs.Blocks.{Scene, block_at, body_scene, scene_uses}
 
 -- A statement as it runs: the numbers of the statements that lead to it, each inside the one before. After an `if` stands
@@ -44,7 +47,8 @@ pub data Point : Type 0 where
 
 -- inside a call stands the body of the method
 abbrev pub in_call : Code → Bool → Context → Invocation → Point
-in_call p locked c i = judged (judge_callee p c i.on i.method) Nowhere (λ (k : Callee). InBlock locked (body_scene p k.method))
+in_call p locked c i = judged (judge_callee p c i.on i.method) Nowhere
+    (λ (k : Callee). InBlock locked (body_scene p k.method))
 
 abbrev pub in_right : Code → Bool → Context → RightSide → Point
 in_right p locked c (Returned i) = in_call p locked c i
@@ -105,7 +109,8 @@ parting p q r = parting_from p (first_point p) q r
 -- Inside one atomic block source order holds among what is there; else a chain of edges leads from the one statement to the other, or they are two
 -- turns of a loop.
 abbrev pub IsFirstAt : Code → Point → ℕ → ℕ → Type 0
-IsFirstAt p (InBlock locked s) i j = ((locked ≡ true) × (i < j) × (j < statement_count s.lines)) ⊎ Before (scene_uses p s) i j
+IsFirstAt p (InBlock locked s) i j = ((locked ≡ true) × (i < j) × (j < statement_count s.lines))
+    ⊎ Before (scene_uses p s) i j
 IsFirstAt p (AtChoice locked s other) i j = (locked ≡ true) × (i < j) × (j < 2)
 IsFirstAt p (AtLoop locked uses s) i j = i < j
 IsFirstAt p Nowhere i j = ⊥
@@ -147,7 +152,8 @@ group_names k = io ∷ k.names ++ bare_names k.method.groups
 -- what is used in the body of a method, as it counts at the call: by its parameters and by its groups
 abbrev pub callee_outside : Code → Invocation → Uses → Callee → Uses
 callee_outside p i u k =
-    of_each (λ (x : ℕ × (ParamSlot × Expression)). param_outside x.1.0.form (u (resource.Local x.0)) x.1.1) (params_given p i k)
+    of_each (λ (x : ℕ × (ParamSlot × Expression)). param_outside x.1.0.form (u (resource.Local x.0)) x.1.1)
+    (params_given p i k)
     ∪ of_each (λ g. renamed (u (resource.Group g)) (resource.Group (group_in k i.groups g))) (group_names k)
 
 -- what is declared in the body counts for nothing
@@ -205,4 +211,5 @@ pub record Conflict (p : Code) (first second : Instance) : Type 0 where
   pub fork : Parting
   pub parts : parting p first second ≡ Some fork
   pub on : Resource
-  pub conflict : IsConflict (uses_from p fork.at (fork.left ∷ fork.left_rest) on) (uses_from p fork.at (fork.right ∷ fork.right_rest) on)
+  pub conflict : IsConflict (uses_from p fork.at (fork.left ∷ fork.left_rest) on)
+      (uses_from p fork.at (fork.right ∷ fork.right_rest) on)

@@ -1,5 +1,6 @@
 -- Which programs are accepted, and which rule another one breaks first.
-use Rattle.std.specs.Prelude.{◌≡◌, ℕ, nat_eq, Bool, true, false, ◌&&◌, ◌||◌, not, if◌then◌else◌, List, find, Option, None, Some, is_none, option_map, ⊤}
+use Rattle.std.specs.Prelude.{◌≡◌, ℕ, nat_eq, Bool, true, false, ◌&&◌, ◌||◌, not, if◌then◌else◌, List, find, Option}
+use Rattle.std.specs.Prelude.{None, Some, is_none, option_map, ⊤}
 use Rattle.ae_text.specs.declared.refusal.Spot.{Spot}
 use Rattle.ae_text.specs.declared.refusal.Rule.{Rule}
 use Rattle.ae_text.specs.declared.refusal.Rule.TheVariants as rule
@@ -54,7 +55,8 @@ param_called xs y = find (λ (x : Param). nat_eq x.name.name y) xs
 
 -- `this`, and the parameters
 abbrev pub locals_at_start : Code → Definition → ℕ → Option Local
-locals_at_start p m y = if nat_eq this y then option_map (me_local p m) m.me else option_map param_local (param_called m.params y)
+locals_at_start p m y = if nat_eq this y then option_map (me_local p m) m.me else option_map param_local
+    (param_called m.params y)
 
 abbrev pub permission_needed : Need → GroupPerm
 permission_needed need_of.Exclusive = group.Exclusive
@@ -70,7 +72,8 @@ knows p m g = nat_eq io g || has_name (groups_of (own_kind p m.class)) g || has_
 
 -- a known group has the permission of its need, or None
 abbrev pub groups_at_start : Code → Definition → ℕ → Option GroupPerm
-groups_at_start p m g = if knows p m g then Some (given (need_for m.needs g) group.None (λ (n : GroupNeed). permission_needed n.need)) else None
+groups_at_start p m g = if knows p m g then Some
+    (given (need_for m.needs g) group.None (λ (n : GroupNeed). permission_needed n.need)) else None
 
 -- the context at a method's start
 abbrev pub start : Code → Definition → Context

@@ -40,7 +40,8 @@ NeverAcceptedAndBroken = (p : Code) (rule : Rule) (spot : Spot) → Accepts p �
 
 -- a program breaks one rule first, at one place
 abbrev pub FirstIsOne : Type 0
-FirstIsOne = (p : Code) (r s : Rule) (at spot : Spot) → FirstBroken p r at → FirstBroken p s spot → (r ≡ s) × (at ≡ spot)
+FirstIsOne = (p : Code) (r s : Rule) (at spot : Spot) → FirstBroken p r at → FirstBroken p s spot
+    → (r ≡ s) × (at ≡ spot)
 
 -- what was taken and what was left make the whole again
 abbrev pub TakenIsGivenBack : Type 0
@@ -52,7 +53,8 @@ NothingToTake = (n : Perm) → (splits held.None n ≡ None) × ((g : ℕ) → s
 
 -- the name that moves with an expression is told by its text alone
 abbrev pub MovesByItsText : Type 0
-MovesByItsText = (p : Code) (c : Context) (form : Form) (e : Expression) (name : Option ℕ) → into p c form e ≡ Holds name → name ≡ name_into form e
+MovesByItsText = (p : Code) (c : Context) (form : Form) (e : Expression) (name : Option ℕ)
+    → into p c form e ≡ Holds name → name ≡ name_into form e
 
 -- no part of this local is given away for good
 abbrev pub none_away : List LentPart → ℕ → Bool
@@ -60,7 +62,8 @@ none_away xs y = list_all (λ (x : LentPart). not (nat_eq x.root y && x.away)) x
 
 -- after a call a local of which no part is given away is as before
 abbrev pub CallsGiveBack : Type 0
-CallsGiveBack = (xs : List LentPart) (c : Context) (y : ℕ) → none_away xs y ≡ true → (after_call xs c).local y ≡ c.local y
+CallsGiveBack = (xs : List LentPart) (c : Context) (y : ℕ) → none_away xs y ≡ true → (after_call xs c).local y
+    ≡ c.local y
 
 -- these are no parts of this local
 abbrev pub none_of : List LentPart → ℕ → Bool
@@ -74,7 +77,8 @@ GivenAwayIsGone = (xs ys : List LentPart) (x : LentPart) (c : Context)
 
 -- each local that was visible still is, and differs at most in what is held of it; each group keeps its permission
 pub record Keeps (before after : Context) : Type 0 where
-  pub local : (x : ℕ) (l : Local) → before.local x ≡ Some l → (h : Held) × (after.local x ≡ Some (record l { held = h }))
+  pub local : (x : ℕ) (l : Local) → before.local x ≡ Some l
+      → (h : Held) × (after.local x ≡ Some (record l { held = h }))
   pub group : (g : ℕ) (q : GroupPerm) → before.group g ≡ Some q → after.group g ≡ Some q
 
 -- a judged statement takes nothing out of the context
@@ -83,5 +87,6 @@ StatementsKeep = (p : Code) (m : Definition) (at : Spot) (a : Action) (c d : Con
 
 -- after a split block its groups, with those that the block declares forgotten, are as before
 abbrev pub SplitIsUndone : Type 0
-SplitIsUndone = (gs xs : List NameAt) (before inside after : Groups) → enter_split gs before ≡ Holds inside → in_turn declare xs inside ≡ Holds after
+SplitIsUndone = (gs xs : List NameAt) (before inside after : Groups) → enter_split gs before ≡ Holds inside
+    → in_turn declare xs inside ≡ Holds after
     → exclusive_again gs (forget (bare_names xs) after) ≡ before

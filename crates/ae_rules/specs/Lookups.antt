@@ -1,5 +1,6 @@
 -- What a program declares under a name or a number.
-use Rattle.std.specs.Prelude.{ℕ, nat_eq, Bool, true, false, List, [], ◌∷◌, ◌++◌, map, Option, None, Some, slice_get, find, filter_map, position, option_map}
+use Rattle.std.specs.Prelude.{ℕ, nat_eq, Bool, true, false, List, [], ◌∷◌, ◌++◌, map, Option, None, Some, slice_get}
+use Rattle.std.specs.Prelude.{find, filter_map, position, option_map}
 use Rattle.std.specs.List.{list_any}
 use Rattle.ae_tree.specs.declared.tree.NameAt.{NameAt}
 use Rattle.ae_tree.specs.declared.tree.Field.{Field}
@@ -74,7 +75,8 @@ method_number p c x = find (is_called p x) c.methods
 
 -- what a class has under a name: a field by its place, or else a method by its number
 abbrev pub member_called : Code → Class → ℕ → Option Member
-member_called p c x = given (field_number c x) (option_map member.Method (method_number p c x)) (λ n. Some (member.Field n))
+member_called p c x = given (field_number c x) (option_map member.Method (method_number p c x))
+    (λ n. Some (member.Field n))
 
 -- the names of a class's members, fields first
 abbrev pub member_names : Code → Class → List NameAt
@@ -96,7 +98,8 @@ abbrev pub field_form : Class → List ℕ → Field → Form
 field_form c gs d = form_with (in_place (bare_names c.groups) gs) (form d.ty)
 
 abbrev pub field_of_kind : Code → Kind → ℕ → Option Form
-field_of_kind p k x = given (class_of p k) None (λ (c : Class). option_map (field_form c (groups_of k)) (field_called c x))
+field_of_kind p k x = given (class_of p k) None
+    (λ (c : Class). option_map (field_form c (groups_of k)) (field_called c x))
 
 -- the form of a class's object's field with this name
 abbrev pub field_of : Code → Form → ℕ → Option Form

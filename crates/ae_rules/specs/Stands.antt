@@ -10,4 +10,5 @@ pub record StandsFor (t : ClassTable) (p : Code) : Type 0 where
   pub classes : (x : ℕ) → get nat_eq t.classes x ≡ class_number p x
   pub tops : (x : ℕ) → get nat_eq t.tops x ≡ top_number p x
   pub count : length t.members ≡ length p.classes
-  pub members : (n x : ℕ) (c : Class) → class_at p n ≡ Some c → option_map (λ m. get nat_eq m x) (slice_get t.members n) ≡ Some (member_called p c x)
+  pub members : (n x : ℕ) (c : Class) → class_at p n ≡ Some c
+      → option_map (λ m. get nat_eq m x) (slice_get t.members n) ≡ Some (member_called p c x)

@@ -10,14 +10,18 @@ use Rattle.ae_tree.specs.declared.form.Form.{Form}
 use Rattle.ae_tree.specs.declared.form.Form.TheVariants as f
 use Rattle.ae_tree.specs.Form.{form}
 use Rattle.ae_tree.specs.Names.{io}
-use Rattle.ae_tree.specs.Plain.{Expression, RightSide, Value, Taken, Zeros, Made, Returned, Lines, End, Next, Definition, Code}
-use Rattle.ae_tree.specs.Plain.{Action, Declares, Assigns, Stores, StoresAt, Calls, Chooses, ChoosesElse, Repeats, Groups, Splits, Locks, Freezes, Shares, Prints, PrintsText, Asserts, Returns}
+use Rattle.ae_tree.specs.Plain.{Expression, RightSide, Value, Taken, Zeros, Made, Returned, Lines, End, Next}
+use Rattle.ae_tree.specs.Plain.{Definition, Code}
+use Rattle.ae_tree.specs.Plain.{Action, Declares, Assigns, Stores, StoresAt, Calls, Chooses, ChoosesElse, Repeats}
+use Rattle.ae_tree.specs.Plain.{Groups, Splits, Locks, Freezes, Shares, Prints, PrintsText, Asserts, Returns}
 use Rattle.ae_rules.specs.declared.held.Held.TheVariants as held
 use Rattle.ae_rules.specs.Verdict.{Verdict, Holds, Broken, ◌>>=◌, ◌>>◌, fine, require, found, given}
 use Rattle.ae_rules.specs.Forms.{is_object, is_ints, is_unique}
 use Rattle.ae_rules.specs.Types.{is_group, forms_type}
-use Rattle.ae_rules.specs.Groups.{known, group_access, declare, may_split_all, may_lock, shared_in, while_others_held_back}
-use Rattle.ae_rules.specs.Context.{Local, Context, held_of, same_held, held_in, is_visible, each_name, with_local, with_held, with_name_moved, closed, hold_alike}
+use Rattle.ae_rules.specs.Groups.{known, group_access, declare, may_split_all, may_lock, shared_in}
+use Rattle.ae_rules.specs.Groups.{while_others_held_back}
+use Rattle.ae_rules.specs.Context.{Local, Context, held_of, same_held, held_in, is_visible, each_name, with_local}
+use Rattle.ae_rules.specs.Context.{with_held, with_name_moved, closed, hold_alike}
 use Rattle.ae_rules.specs.Walks.{walk, write_access, owner_write_access}
 use Rattle.ae_rules.specs.Expressions.{expression_spot, judge_value, is_value}
 use Rattle.ae_rules.specs.Into.{into, made_into, unique_of}
@@ -138,7 +142,8 @@ judge_return p m c e at =
 
 -- no local from outside holds what is shared in this group
 abbrev pub none_shared : Code → Context → Context → ℕ → Bool
-none_shared p outside inside g = each_name p (λ x. not (is_some (outside.local x) && same_held (held.Shared g) (held_in inside x)))
+none_shared p outside inside g = each_name p
+    (λ x. not (is_some (outside.local x) && same_held (held.Shared g) (held_in inside x)))
 
 -- no group that the block declares is left in a local from outside
 abbrev pub groups_stay : Code → Context → Context → Lines → Verdict ⊤

@@ -1,5 +1,6 @@
 -- The class table: what must hold of the declarations of a program, clause by clause in order.
-use Rattle.std.specs.Prelude.{◌≡◌, ℕ, zero, suc, nat_eq, Bool, true, false, ◌&&◌, ◌||◌, not, List, [], ◌∷◌, Option, is_none, ⊤}
+use Rattle.std.specs.Prelude.{◌≡◌, ℕ, zero, suc, nat_eq, Bool, true, false, ◌&&◌, ◌||◌, not, List, [], ◌∷◌, Option}
+use Rattle.std.specs.Prelude.{is_none, ⊤}
 use Rattle.ae_text.specs.declared.refusal.Spot.{Spot}
 use Rattle.ae_text.specs.declared.refusal.Rule.{Rule}
 use Rattle.ae_text.specs.declared.refusal.Rule.TheVariants as rule
@@ -21,7 +22,8 @@ use Rattle.ae_tree.specs.declared.form.Form.TheVariants as f
 use Rattle.ae_tree.specs.Form.{perm_of, form}
 use Rattle.ae_tree.specs.Names.{io, main}
 use Rattle.ae_tree.specs.Plain.{Definition, Code}
-use Rattle.ae_rules.specs.Verdict.{Verdict, Holds, Broken, ◌>>=◌, ◌>>◌, fine, require, found, each, in_turn, given, if_there}
+use Rattle.ae_rules.specs.Verdict.{Verdict, Holds, Broken, ◌>>=◌, ◌>>◌, fine, require, found, each, in_turn, given}
+use Rattle.ae_rules.specs.Verdict.{if_there}
 use Rattle.ae_rules.specs.Forms.{is_ints, is_unique}
 use Rattle.ae_rules.specs.Lookups.{Names, is_empty, class_at, method_at, top_called, member_names}
 use Rattle.ae_rules.specs.Types.{forms_perm, forms_type}
@@ -49,7 +51,8 @@ abbrev pub nothing_declared : Declared
 nothing_declared = record { classes = no_names; tops = no_names }
 
 abbrev pub class_is_new : Declared → Class → Verdict Declared
-class_is_new before c = is_new rule.DuplicateClass c.name before.classes >>= λ names. Holds (record before { classes = names })
+class_is_new before c = is_new rule.DuplicateClass c.name before.classes
+    >>= λ names. Holds (record before { classes = names })
 
 abbrev pub top_is_new : Declared → Definition → Verdict Declared
 top_is_new before m = is_new rule.DuplicateMember m.name before.tops >>= λ names. Holds (record before { tops = names })

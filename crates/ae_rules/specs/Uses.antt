@@ -1,5 +1,6 @@
 -- What a statement uses of each local and each group. The context before it says what is held.
-use Rattle.std.specs.Prelude.{ℕ, nat_eq, Bool, false, if◌then◌else◌, List, [], ◌∷◌, map, zip, slice_get, Option, None, Some, is_some}
+use Rattle.std.specs.Prelude.{ℕ, nat_eq, Bool, false, if◌then◌else◌, List, [], ◌∷◌, map, zip, slice_get, Option}
+use Rattle.std.specs.Prelude.{None, Some, is_some}
 use Rattle.ae_text.specs.declared.refusal.Spot.{Spot}
 use Rattle.ae_tree.specs.declared.tree.NameAt.{NameAt}
 use Rattle.ae_tree.specs.declared.tree.Path.{Path}
@@ -17,8 +18,11 @@ use Rattle.ae_tree.specs.Form.{form, bare_names}
 use Rattle.ae_tree.specs.Names.{io}
 use Rattle.ae_rules.specs.BuiltUses.{statement_at}
 use Rattle.ae_rules.specs.Edges.{Uses, is_strong}
-use Rattle.ae_tree.specs.Plain.{Expression, Number, Truth, Nothing, Read, Item, Length, Grouped, Negated, Minus, Binary, Invocation, RightSide, Value, Taken, Zeros, Made, Returned, Lines, End, Next, Definition, Code}
-use Rattle.ae_tree.specs.Plain.{Action, Declares, Assigns, Stores, StoresAt, Calls, Chooses, ChoosesElse, Repeats, Groups, Splits, Locks, Freezes, Shares, Prints, PrintsText, Asserts, Returns}
+use Rattle.ae_tree.specs.Plain.{Expression, Number, Truth, Nothing, Read, Item, Length, Grouped, Negated, Minus}
+use Rattle.ae_tree.specs.Plain.{Binary, Invocation, RightSide, Value, Taken, Zeros, Made, Returned, Lines, End, Next}
+use Rattle.ae_tree.specs.Plain.{Definition, Code}
+use Rattle.ae_tree.specs.Plain.{Action, Declares, Assigns, Stores, StoresAt, Calls, Chooses, ChoosesElse, Repeats}
+use Rattle.ae_tree.specs.Plain.{Groups, Splits, Locks, Freezes, Shares, Prints, PrintsText, Asserts, Returns}
 use Rattle.ae_rules.specs.declared.held.Held.{Held}
 use Rattle.ae_rules.specs.declared.held.Held.TheVariants as held
 use Rattle.ae_rules.specs.Verdict.{Verdict, given, judged}
@@ -114,7 +118,8 @@ steps_use p c at (x ∷ xs) from = reach_use from.held ∪ of_judged (step p c a
 
 -- the steps of a path
 abbrev pub walk_uses : Code → Context → Path → Uses
-walk_uses p c path = of_found (c.local path.root.name) (λ (l : Local). steps_use p c path.root.at path.steps (record { form = l.form; held = l.held }))
+walk_uses p c path = of_found (c.local path.root.name)
+    (λ (l : Local). steps_use p c path.root.at path.steps (record { form = l.form; held = l.held }))
 
 -- a path that is read
 abbrev pub path_uses : Code → Context → Path → Uses
@@ -229,11 +234,14 @@ abbrev mutual
   statement_uses p m (StoresAt path i e) c = write_uses p c path ∪ value_uses p c i ∪ value_uses p c e
   statement_uses p m (Calls i) c = call_uses p c i
   statement_uses p m (Chooses e n b) c = value_uses p c e ∪ outside c (lines_use p m b c)
-  statement_uses p m (ChoosesElse e n b k b') c = value_uses p c e ∪ outside c (lines_use p m b c) ∪ outside c (lines_use p m b' c)
+  statement_uses p m (ChoosesElse e n b k b') c = value_uses p c e ∪ outside c (lines_use p m b c) ∪ outside c
+      (lines_use p m b' c)
   statement_uses p m (Repeats e n b) c = value_uses p c e ∪ outside c (lines_use p m b c)
   statement_uses p m (Groups g) c = whole_group g.name
-  statement_uses p m (Splits gs n b) c = of_each (λ (g : NameAt). whole_group g.name) gs ∪ outside c (lines_use p m b (while_split gs c))
-  statement_uses p m (Locks g n b) c = together g.name ∪ all_but (resource.Group g.name) (outside c (lines_use p m b (while_locked g.name c)))
+  statement_uses p m (Splits gs n b) c = of_each (λ (g : NameAt). whole_group g.name) gs ∪ outside c
+      (lines_use p m b (while_split gs c))
+  statement_uses p m (Locks g n b) c = together g.name ∪ all_but (resource.Group g.name)
+      (outside c (lines_use p m b (while_locked g.name c)))
   statement_uses p m (Freezes x) c = write_use x.name
   statement_uses p m (Shares x g) c = write_use x.name ∪ whole_group g.name
   statement_uses p m (Prints e) c = value_uses p c e ∪ whole_group io
@@ -244,7 +252,8 @@ abbrev mutual
   -- the uses of statements in order, each in the context before it
   pub lines_use : Code → Definition → Lines → Context → Uses
   lines_use p m End c = nothing
-  lines_use p m (Next at a rest) c = statement_uses p m a c ∪ of_judged (judge_statement p m at a c) (lines_use p m rest)
+  lines_use p m (Next at a rest) c = statement_uses p m a c ∪ of_judged (judge_statement p m at a c)
+      (lines_use p m rest)
 
 -- ---- the statements of a block
 

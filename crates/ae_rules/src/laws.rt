@@ -1,8 +1,11 @@
 // Laws over the rules alone.
 ghost use Rattle.ae_rules.specs.BlockLaws.{BlocksAreReached, EffectsAreExact, LinesDeclare};
 ghost use Rattle.ae_rules.specs.Cases.{BuiltDeclaresOne, TodaysJudgementIsACase, TodaysUsesAreACase};
-ghost use Rattle.ae_rules.specs.Laws.{JudgedOrBroken, NeverBoth, AcceptedOrBroken, NeverAcceptedAndBroken, FirstIsOne, TakenIsGivenBack, NothingToTake, CallsGiveBack, GivenAwayIsGone, MovesByItsText, StatementsKeep, SplitIsUndone};
-ghost use Rattle.ae_rules.specs.EdgeLaws.{EdgesGoForward, ChainsGoForward, ConflictsAreOrdered, UsesAreAllowed, PredsAreEdges, ConflictsAreFirst};
+ghost use Rattle.ae_rules.specs.Laws.{JudgedOrBroken, NeverBoth, AcceptedOrBroken, NeverAcceptedAndBroken};
+ghost use Rattle.ae_rules.specs.Laws.{FirstIsOne, TakenIsGivenBack, NothingToTake, CallsGiveBack, GivenAwayIsGone};
+ghost use Rattle.ae_rules.specs.Laws.{MovesByItsText, StatementsKeep, SplitIsUndone};
+ghost use Rattle.ae_rules.specs.EdgeLaws.{EdgesGoForward, ChainsGoForward, ConflictsAreOrdered, UsesAreAllowed};
+ghost use Rattle.ae_rules.specs.EdgeLaws.{PredsAreEdges, ConflictsAreFirst};
 
 /// Each statement is judged, or a premise of it fails first.
 pub fn statements_are_judged_or_broken()

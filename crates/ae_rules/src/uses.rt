@@ -1,6 +1,6 @@
 // What a statement uses, and how.
-use ae_tree::Name;
 use ae_text::Items;
+use ae_tree::Name;
 
 /// A local, or a group of data.
 #[derive(Clone, Copy, Debug, PartialEq, Eq)]

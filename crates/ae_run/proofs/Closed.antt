@@ -1,5 +1,6 @@
 -- Of what went through, all that it conflicts with before it went through.
-use Rattle.std.proofs.Common.{◌≡◌, ◌<◌, ◌≤◌, ◌+◌, ◌-◌, ℕ, zero, suc, Bool, true, false, Option, None, Some, IsSome, refl, arith, subst}
+use Rattle.std.proofs.Common.{◌≡◌, ◌<◌, ◌≤◌, ◌+◌, ◌-◌, ℕ, zero, suc, Bool, true, false, Option, None, Some, IsSome}
+use Rattle.std.proofs.Common.{refl, arith, subst}
 use Rattle.ae_rules.specs.declared.uses.Resource.{Resource}
 use Rattle.ae_rules.specs.declared.uses.Mode.{Mode}
 use Rattle.ae_rules.specs.declared.uses.Mode.TheVariants.{Read, Write, GroupShared, GroupWhole}
@@ -73,7 +74,8 @@ conflict_step : (b : Lines) (went : ℕ → Bool) → IsClosed b went → (r : R
 unfolding strong_at
 conflict_step b went closed r n i k l m law c h (Least d near strong first) =
     let x = i + 1 + d in
-    let past : went x ≡ true = law x k (omega arith) (omega arith) (between_first (use_at b i r) (use_at b k r) (use_at b x r) strong c) h in
+    let past : went x ≡ true = law x k (omega arith) (omega arith)
+    (between_first (use_at b i r) (use_at b k r) (use_at b x r) strong c) h in
     law i x (omega arith) (omega arith) (between_second (use_at b i r) (use_at b k r) (use_at b x r) strong c) past
 conflict_step b went closed r n i k l m law c h (Nowhere none) =
     closed i k (record {
@@ -86,11 +88,13 @@ conflict_step b went closed r n i k l m law c h (Nowhere none) =
           subst (λ (z : ℕ). is_strong_use (use_at b z r) ≡ false) e (none (x - (i + 1)) (omega arith)));
     }) h
 
-conflicts_at : (b : Lines) (went : ℕ → Bool) → IsClosed b went → (r : Resource) (n i k : ℕ) → i < k → k ≤ i + n → IsConflict (use_at b i r) (use_at b k r) → went k ≡ true → went i ≡ true
+conflicts_at : (b : Lines) (went : ℕ → Bool) → IsClosed b went → (r : Resource) (n i k : ℕ) → i < k → k ≤ i + n
+    → IsConflict (use_at b i r) (use_at b k r) → went k ≡ true → went i ≡ true
 conflicts_at b went closed r zero i k l m c h = absurd (omega arith)
-conflicts_at b went closed r (suc n) i k l m c h =
-    conflict_step b went closed r n i k l m (conflicts_at b went closed r n) c h (seek (strong_at b r i) (k - (i + 1)))
+conflicts_at b went closed r (suc n) i k l m c h
+    = conflict_step b went closed r n i k l m (conflicts_at b went closed r n) c h (seek (strong_at b r i) (k - (i + 1)))
 
 -- all before it that a statement that went through conflicts with went through
-pub conflicts_closed : (b : Lines) (went : ℕ → Bool) → IsClosed b went → (r : Resource) (i k : ℕ) → i < k → IsConflict (use_at b i r) (use_at b k r) → went k ≡ true → went i ≡ true
+pub conflicts_closed : (b : Lines) (went : ℕ → Bool) → IsClosed b went → (r : Resource) (i k : ℕ) → i < k
+    → IsConflict (use_at b i r) (use_at b k r) → went k ≡ true → went i ≡ true
 conflicts_closed b went closed r i k l c h = conflicts_at b went closed r k i k l (omega arith) c h

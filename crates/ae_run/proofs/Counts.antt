@@ -1,5 +1,6 @@
 -- Counting in lists of numbers.
-use Rattle.std.proofs.Common.{◌≡◌, ◌≢◌, ◌<◌, ◌≤◌, ◌+◌, inl, inr, ℕ, suc, nat_eq, if◌then◌else◌, Bool, true, false, List, [], ◌∷◌, length, get_or, count_by, Contains, refl, ap, sym, ◌∙◌, arith, subst}
+use Rattle.std.proofs.Common.{◌≡◌, ◌≢◌, ◌<◌, ◌≤◌, ◌+◌, inl, inr, ℕ, suc, nat_eq, if◌then◌else◌, Bool, true, false}
+use Rattle.std.proofs.Common.{List, [], ◌∷◌, length, get_or, count_by, Contains, refl, ap, sym, ◌∙◌, arith, subst}
 use Rattle.std.proofs.lemmas.List.Sums.{sum_by-cons, get_or-le-sum_by}
 use Rattle.std.proofs.lemmas.Bool.{cases_eq, ne_eqb}
 use Rattle.ae_tree.specs.Plain.{Lines}
@@ -44,7 +45,8 @@ count_all p (x ∷ xs) h =
     count-cons p x xs ∙ ap (λ (b : Bool). unit b + count_by p xs) (h x) ∙ ap (λ m. 1 + m) rest ∙ sym n
 
 -- a test that fails at one number more
-pub count_change : (p q : ℕ → Bool) (j : ℕ) (xs : List ℕ) → p j ≡ true → q j ≡ false → ((k : ℕ) → k ≢ j → q k ≡ p k) → count_by p xs ≡ count_by q xs + times j xs
+pub count_change : (p q : ℕ → Bool) (j : ℕ) (xs : List ℕ) → p j ≡ true → q j ≡ false → ((k : ℕ) → k ≢ j → q k ≡ p k)
+    → count_by p xs ≡ count_by q xs + times j xs
 count_change p q j [] a b h = refl
 count_change p q j (x ∷ xs) a b h =
     let rest : count_by p xs ≡ count_by q xs + times j xs = count_change p q j xs a b h in
@@ -107,7 +109,8 @@ once x (y ∷ z ∷ zs) r =
 
 stands : (x : ℕ) (xs : List ℕ) → Contains xs x → 1 ≤ times x xs
 stands x xs (k, l, h) =
-    let m : unit (nat_eq (get_or xs k x) x) ≤ times x xs = get_or-le-sum_by (λ y. if nat_eq y x then 1 else 0) xs k x l in
+    let m : unit (nat_eq (get_or xs k x) x) ≤ times x xs = get_or-le-sum_by (λ y. if nat_eq y x then 1 else 0) xs k x
+    l in
     let u : unit (nat_eq (get_or xs k x) x) ≡ 1 = ap (λ y. unit (nat_eq y x)) h ∙ ap unit (number_is_itself x) in
     omega arith
 
@@ -128,9 +131,10 @@ equal_tests : (m n : ℕ) → m ≤ 1 → n ≤ 1 → (1 ≤ m → 1 ≤ n) → 
 equal_tests m n a b f g = grind (arith, f, g)
 
 -- an edge stands once in the one list and once in the other
-pub times_edges : (b : Lines) (g : Graph) (i j : ℕ) (succs : List ℕ) → ArePreds b j (preds_in g j) → AreSuccs g i succs → times i (preds_in g j) ≡ times j succs
-times_edges b g i j succs p s =
-    equal_tests (times i (preds_in g j)) (times j succs) (once i (preds_in g j) p.rising) (once j succs s.rising)
+pub times_edges : (b : Lines) (g : Graph) (i j : ℕ) (succs : List ℕ) → ArePreds b j (preds_in g j)
+    → AreSuccs g i succs → times i (preds_in g j) ≡ times j succs
+times_edges b g i j succs p s
+    = equal_tests (times i (preds_in g j)) (times j succs) (once i (preds_in g j) p.rising) (once j succs s.rising)
     (λ h. stands j succs ((s.exact j).1 (stands_in i (preds_in g j) h)))
     (λ h. stands i (preds_in g j) ((s.exact j).0 (stands_in j succs h)))
 

@@ -6,7 +6,8 @@ weaker P Q f (Ok x) h = f x h
 weaker P Q f (Err e) h = tt
 
 -- where only the error is another one
-pub handed : {A E D : Type 0} (P : A → Type 0) (N : E → Type 0) (r : Result A E) (s : Result A D) → MatchResult r (λ x. s ≡ Ok x) N → is_ok s ≡ is_ok r → IfOk r P → IfOk s P
+pub handed : {A E D : Type 0} (P : A → Type 0) (N : E → Type 0) (r : Result A E) (s : Result A D)
+    → MatchResult r (λ x. s ≡ Ok x) N → is_ok s ≡ is_ok r → IfOk r P → IfOk s P
 handed P N (Ok x) s m v h = subst (λ (t : Result _ _). IfOk t P) (sym m) h
 handed P N (Err e) (Ok x) m v h = absurd (cc)
 handed P N (Err e) (Err d) m v h = tt

@@ -1,5 +1,6 @@
 -- What became of the statements of a block, against its run in source order.
-use Rattle.std.specs.Prelude.{◌≡◌, ◌<◌, ◌≤◌, ◌⊎◌, ◌++◌, ℕ, Bool, true, false, List, [], ◌∷◌, length, slice_index_or, slice_set, Option, None, Some, Contains}
+use Rattle.std.specs.Prelude.{◌≡◌, ◌<◌, ◌≤◌, ◌⊎◌, ◌++◌, ℕ, Bool, true, false, List, [], ◌∷◌, length, slice_index_or}
+use Rattle.std.specs.Prelude.{slice_set, Option, None, Some, Contains}
 use Rattle.ae_tree.specs.Plain.{Lines}
 use Rattle.ae_tree.specs.Limits.{statement_count}
 use Rattle.ae_meaning.specs.declared.report.Ending.{Ending}
@@ -65,7 +66,8 @@ IsFate b first j fate.Stopped = IsAtOrBehind first j ⊎ (turn b j ≡ Stops [])
 -- a known ending is that of its statement in source order
 abbrev pub IsFirst : Lines → List Fate → Option First → Type 0
 IsFirst b fates None = Unit {0}
-IsFirst b fates (Some first) = (first.at < length fates) × (fate_at fates first.at ≡ fate.Stopped) × (turn b first.at ≡ Ends first.ending [])
+IsFirst b fates (Some first) = (first.at < length fates) × (fate_at fates first.at ≡ fate.Stopped)
+    × (turn b first.at ≡ Ends first.ending [])
 
 -- all that is kept between two statements
 pub record IsRight (b : Lines) (all : List Fate) (known : Option First) (s : TodayState) : Type 0 where
@@ -104,4 +106,5 @@ course_end (Some first) n = first.at
 
 -- the turn of each statement came for which all that it waits for went through
 abbrev pub IsOver : Graph → List Fate → Type 0
-IsOver g fates = (j : ℕ) → j < length g → ((i : ℕ) → Contains (preds_in g j) i → went fates i ≡ true) → was_taken fates j ≡ true
+IsOver g fates = (j : ℕ) → j < length g → ((i : ℕ) → Contains (preds_in g j) i → went fates i ≡ true)
+    → was_taken fates j ≡ true

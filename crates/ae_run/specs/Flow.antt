@@ -24,7 +24,8 @@ locals_after (Stops log) env = env
 abbrev pub found_from : Env → Lines → ℕ → Env
 found_from env b zero = env
 found_from env End (suc j) = env
-found_from env (Next at a rest) (suc j) = found_from (locals_after (today_one at a (record { env = env; log = [] })) env) rest j
+found_from env (Next at a rest) (suc j) = found_from
+    (locals_after (today_one at a (record { env = env; log = [] })) env) rest j
 
 -- the locals that a statement finds in source order
 abbrev pub found_by : Lines → ℕ → Env

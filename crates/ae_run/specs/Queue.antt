@@ -1,5 +1,6 @@
 -- For how many statements each one waits, and which are ready.
-use Rattle.std.specs.Prelude.{◌≡◌, ◌<◌, ◌+◌, ℕ, nat_eq, Bool, not, if◌then◌else◌, List, length, slice_index, slice_index_or, count_by}
+use Rattle.std.specs.Prelude.{◌≡◌, ◌<◌, ◌+◌, ℕ, nat_eq, Bool, not, if◌then◌else◌, List, length, slice_index}
+use Rattle.std.specs.Prelude.{slice_index_or, count_by}
 use Rattle.ae_graph.specs.Graph.{Graph, preds_in}
 use Rattle.ae_text.specs.Numbers.{times}
 

@@ -5,14 +5,15 @@ ghost use Rattle.ae_meaning.specs.Values.{empty};
 ghost use Rattle.ae_meaning.specs.Meaning.{today_one};
 ghost use Rattle.ae_meaning.specs.Running.{env_of, held};
 ghost use Rattle.ae_run.specs.Flow.{IsReady};
-ghost use Rattle.ae_run.specs.Course.{went, was_taken, fate_at, Gives, IsOnCourse, IsBehind, Settles, piece_of, pieces, course_ending, course_end};
+ghost use Rattle.ae_run.specs.Course.{went, was_taken, fate_at, Gives, IsOnCourse, IsBehind, Settles, piece_of};
+ghost use Rattle.ae_run.specs.Course.{pieces, course_ending, course_end};
 
-use ae_tree::Stmt;
 use ae_meaning::{
     Ending, Locals, RunReport, Running, Stop, run_stmt, statements_change_what_they_write,
     statements_read_what_they_use,
 };
 use ae_text::{Gate, Items};
+use ae_tree::Stmt;
 use std::alloc::{AllocError, Global};
 use std::mem;
 
@@ -70,7 +71,8 @@ fn run_alone<G: Gate>(
     state: &mut Running,
     gate: &G,
 ) -> Result<Outcome, AllocError>
-    ensures { IfOk result (λ o. Gives (today_one stmt.now.at (action stmt.now.kind) (held state.old)) (env_of state.old.locals) o (held state.new)) }
+    ensures { IfOk result (λ o. Gives (today_one stmt.now.at (action stmt.now.kind) (held state.old))
+        (env_of state.old.locals) o (held state.new)) }
 {
     gate.enter(j);
     let ran = run_stmt(alloc, stmt, state);
@@ -186,7 +188,8 @@ impl Course {
     pub fn report(&self, alloc: Global) -> Result<RunReport, AllocError>
         requires { course_end self.now.first (length self.now.fates.items) ≤ length self.now.fates.items }
         ensures ending { IfOk result (λ r. r.ending ≡ course_ending self.now.first) }
-        ensures out { IfOk result (λ r. r.out ≡ pieces (take (course_end self.now.first (length self.now.fates.items)) self.now.fates.items)) }
+        ensures out { IfOk result (λ r. r.out
+            ≡ pieces (take (course_end self.now.first (length self.now.fates.items)) self.now.fates.items)) }
     {
         let (ending, end) = match self.first {
             Some(first) => (first.ending, first.at as usize),

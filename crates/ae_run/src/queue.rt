@@ -1,5 +1,7 @@
 // Which statements can be run.
-ghost use Rattle.std.specs.Prelude.{◌≡◌, ◌<◌, ◌≤◌, ◌+◌, ℕ, nat_eq, if◌then◌else◌, length, All, IfOk, IfSome, OnOk, MatchOption, IsPermutation, [], ◌∷◌, ◌++◌, slice_index, slice_index_or, slice_set};
+ghost use Rattle.std.specs.Prelude.{◌≡◌, ◌<◌, ◌≤◌, ◌+◌, ℕ, nat_eq, if◌then◌else◌, length, All, IfOk, IfSome, OnOk};
+ghost use Rattle.std.specs.Prelude.{MatchOption, IsPermutation, [], ◌∷◌, ◌++◌, slice_index, slice_index_or};
+ghost use Rattle.std.specs.Prelude.{slice_set};
 ghost use Rattle.std.specs.BinaryHeap.{heap_items, IsHeap};
 ghost use Rattle.std.specs.Ordering.{nat_cmp};
 ghost use Rattle.std.proofs.Props.{props};
@@ -43,7 +45,8 @@ impl Queue {
     // The statement is ready where it waits for none.
     fn admit(&mut self, j: u32, left: usize) -> Result<(), AllocError>
         ensures waits { self.new.waits.items ≡ self.old.waits.items }
-        ensures ready { OnOk result ((i : ℕ) → times i (heap_items self.new.ready) ≡ (if nat_eq j i then zero_as_one left else 0) + times i (heap_items self.old.ready)) }
+        ensures ready { OnOk result ((i : ℕ) → times i (heap_items self.new.ready)
+            ≡ (if nat_eq j i then zero_as_one left else 0) + times i (heap_items self.old.ready)) }
     {
         if left == 0 {
             self.ready.push(j)?;
@@ -55,8 +58,10 @@ impl Queue {
     pub fn new(alloc: Global, graph: &BlockGraph, count: u32) -> Result<Queue, AllocError>
         requires { length graph.now ≡ count }
         ensures size { IfOk result (λ q. length q.waits.items ≡ count) }
-        ensures waits { IfOk result (λ q. (j : ℕ) → j < count → slice_index q.waits.items j ≡ length (preds_in graph.now j)) }
-        ensures ready { IfOk result (λ q. (j : ℕ) → times j (heap_items q.ready) ≡ zero_as_one (waits_of q.waits.items j)) }
+        ensures waits { IfOk result (λ q. (j : ℕ) → j < count → slice_index q.waits.items j
+            ≡ length (preds_in graph.now j)) }
+        ensures ready { IfOk result (λ q. (j : ℕ) → times j (heap_items q.ready)
+            ≡ zero_as_one (waits_of q.waits.items j)) }
     {
         let mut queue = Queue::empty(alloc);
         for j in 0..count {
@@ -70,7 +75,8 @@ impl Queue {
     /// Takes the ready statement with the greatest number.
     pub fn take(&mut self) -> Option<u32>
         ensures waits { self.new.waits.items ≡ self.old.waits.items }
-        ensures ready { MatchOption result (length (heap_items self.old.ready) ≡ 0) (λ j. IsPermutation (heap_items self.old.ready) (j ∷ heap_items self.new.ready)) }
+        ensures ready { MatchOption result (length (heap_items self.old.ready) ≡ 0)
+            (λ j. IsPermutation (heap_items self.old.ready) (j ∷ heap_items self.new.ready)) }
         ensures greatest { IfSome result (λ j. All (λ i. i ≤ j) (heap_items self.new.ready)) }
     {
         self.ready.pop()
@@ -93,8 +99,11 @@ impl Queue {
     pub fn release(&mut self, succs: &[u32]) -> Result<(), AllocError>
         requires { (j : ℕ) → times j succs.now ≤ slice_index_or self.old.waits.items j 0 }
         ensures size { length self.new.waits.items ≡ length self.old.waits.items }
-        ensures waits { OnOk result ((j : ℕ) → waits_of self.new.waits.items j + times j succs.now ≡ waits_of self.old.waits.items j) }
-        ensures ready { OnOk result ((j : ℕ) → times j (heap_items self.new.ready) + zero_as_one (waits_of self.old.waits.items j) ≡ times j (heap_items self.old.ready) + zero_as_one (waits_of self.new.waits.items j)) }
+        ensures waits { OnOk result ((j : ℕ) → waits_of self.new.waits.items j + times j succs.now
+            ≡ waits_of self.old.waits.items j) }
+        ensures ready { OnOk result ((j : ℕ) → times j (heap_items self.new.ready) + zero_as_one
+            (waits_of self.old.waits.items j) ≡ times j (heap_items self.old.ready) + zero_as_one
+            (waits_of self.new.waits.items j)) }
     {
         for succ in succs {
             let left = self.lower(*succ);

@@ -9,12 +9,12 @@ ghost use Rattle.ae_run.specs.Course.{IsOnCourse, IsOver};
 
 use crate::course::Course;
 use crate::queue::Queue;
-use ae_tree::{Program, Stmt};
 use ae_graph::BlockGraph;
 use ae_meaning::{
     RunReport, accepted_programs_end, statements_add_to_the_log, statements_change_what_they_write,
 };
 use ae_text::{Gate, Memory};
+use ae_tree::{Program, Stmt};
 use std::alloc::{AllocError, Global};
 use std::thread::Threads;
 
@@ -54,7 +54,8 @@ fn run_main<G: Gate>(
     requires size { length graph.now ≡ count }
     requires graph { IsGraph (Some (lines_from stmts.now)) graph.now }
     requires ends { IsSome (meaning_of_run (today_many (lines_from stmts.now) begin)).ending }
-    ensures ending { IfOk result (λ r. Some r.ending ≡ (meaning_of_run (today_many (lines_from stmts.now) begin)).ending) }
+    ensures ending { IfOk result (λ r. Some r.ending
+        ≡ (meaning_of_run (today_many (lines_from stmts.now) begin)).ending) }
     ensures out { IfOk result (λ r. r.out ≡ (meaning_of_run (today_many (lines_from stmts.now) begin)).out) }
 {
     statements_add_to_the_log();

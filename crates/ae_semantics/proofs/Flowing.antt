@@ -1,6 +1,7 @@
 -- The run past what stopped beside the run up to the first ending, with the same observer: where that goes through, both are the same;
 -- where it ends or stops, the other one does so too, or its first stop is that one.
-use Rattle.std.proofs.Common.{◌≡◌, ◌⊎◌, inl, inr, refl, ap, sym, subst, ◌∙◌, ℕ, suc, ℤ, Bool, true, false, List, [], ◌∷◌, ◌++◌, Option, None, Some}
+use Rattle.std.proofs.Common.{◌≡◌, ◌⊎◌, inl, inr, refl, ap, sym, subst, ◌∙◌, ℕ, suc, ℤ, Bool, true, false, List, []}
+use Rattle.std.proofs.Common.{◌∷◌, ◌++◌, Option, None, Some}
 use Rattle.std.specs.Prelude.{⊤}
 use Rattle.std.proofs.lemmas.List.{append_assoc, append-nil}
 use Rattle.ae_tree.specs.Plain.{Lines, End, Next, Code}
@@ -9,8 +10,10 @@ use Rattle.ae_rules.specs.Instances.{Instance}
 use Rattle.ae_rules.specs.Verdict as rules
 use Rattle.ae_semantics.specs.Places.{State}
 use Rattle.ae_semantics.specs.Contexts.{after}
-use Rattle.ae_semantics.specs.Observations.{Origin, Mark, Ran, Turned, Entered, Asked, Used, Stopped, Ending, Seen, Notes, Observer}
-use Rattle.ae_semantics.specs.Runs.{Run, Went, Ends, Stops, Act, and_then, chosen, marked, deeper, Where, knowing, Below, stopping, flowing, flow_step, flow_close, is_left_out, absent, gone_on}
+use Rattle.ae_semantics.specs.Observations.{Origin, Mark, Ran, Turned, Entered, Asked, Used, Stopped, Ending, Seen}
+use Rattle.ae_semantics.specs.Observations.{Notes, Observer}
+use Rattle.ae_semantics.specs.Runs.{Run, Went, Ends, Stops, Act, and_then, chosen, marked, deeper, Where, knowing}
+use Rattle.ae_semantics.specs.Runs.{Below, stopping, flowing, flow_step, flow_close, is_left_out, absent, gone_on}
 use Rattle.ae_semantics.specs.Blocks.{used}
 use Rattle.ae_semantics.specs.Meaning.{begun, one, many, below}
 use Rattle.ae_semantics.specs.Means.{run, notes_of}
@@ -47,7 +50,8 @@ pub record FirstStop {W : Type 0} (before : List Mark) (e : Option Ending) (r : 
   pub stops : r ≡ Stops notes
   pub marks : notes.marks ≡ before ++ (Stopped path e ∷ more)
 
-first_of : {W : Type 0} (before more : List Mark) (path place : Instance) (e f : Option Ending) (n : Notes W) (r : Run W) → n.marks ≡ before ++ (Stopped path e ∷ more)
+first_of : {W : Type 0} (before more : List Mark) (path place : Instance) (e f : Option Ending) (n : Notes W)
+    (r : Run W) → n.marks ≡ before ++ (Stopped path e ∷ more)
     → IsStopped r × Grows (n.marks ++ (Stopped place f ∷ [])) r → FirstStop before e r
 first_of before more path place e f n r d (s, g) = record {
   path = path;
@@ -55,7 +59,8 @@ first_of before more path place e f n r d (s, g) = record {
   notes = s.0;
   stops = s.1;
   marks = sym (ap (λ (x : Run _). (notes_of x).marks) s.1) ∙ g.1 ∙ append_assoc n.marks (Stopped place f ∷ []) g.0
-      ∙ ap (λ (ms : List Mark). ms ++ ((Stopped place f ∷ []) ++ g.0)) d ∙ append_assoc before (Stopped path e ∷ more) ((Stopped place f ∷ []) ++ g.0);
+      ∙ ap (λ (ms : List Mark). ms ++ ((Stopped place f ∷ []) ++ g.0)) d ∙ append_assoc before (Stopped path e ∷ more)
+      ((Stopped place f ∷ []) ++ g.0);
 }
 
 -- ---- the run up to the first ending tells of no stop

@@ -26,25 +26,36 @@ Same h (Stops n) r = Unit {0}
 
 -- where the two runs may begin, and what they come to
 abbrev same : {V W : Type 0} → (V → W) → Noted V W
-same h = record { Start = λ n m. m ≡ carry h n; Rel = λ a n m r q. Same h r q; Ok = λ q. Unit {0}; Bars = λ xs. Unit {0} }
+same h = record {
+  Start = λ n m. m ≡ carry h n;
+  Rel = λ a n m r q. Same h r q;
+  Ok = λ q. Unit {0};
+  Bars =
+      λ xs. Unit {0};
+}
 
-same_then : {V W : Type 0} (h : V → W) (r : Run V) (q : Run W) → Same h r q → (a : Act V) (b : Act W) → ((s : State) (n : Notes V) (m : Notes W) → m ≡ carry h n → Same h (a s n) (b s m))
+same_then : {V W : Type 0} (h : V → W) (r : Run V) (q : Run W) → Same h r q → (a : Act V) (b : Act W)
+    → ((s : State) (n : Notes V) (m : Notes W) → m ≡ carry h n → Same h (a s n) (b s m))
     → Same h (and_then r a) (and_then q b)
 same_then h (Went s n) q e a b k = subst (λ (x : Run _). Same h (a s n) (and_then x b)) (sym e) (k s n (carry h n) refl)
 same_then h (Ends ending n) q e a b k = ap (λ (x : Run _). and_then x b) e
 same_then h (Stops n) q e a b k = tt
 
-same_answer : {V W : Type 0} (h : V → W) (from : Origin) (v : V) (w : W) (n : Notes V) (m : Notes W) (r : Run V) (q : Run W) → IsNoted (same h) Quiet from v w n m r q → Same h r q
+same_answer : {V W : Type 0} (h : V → W) (from : Origin) (v : V) (w : W) (n : Notes V) (m : Notes W) (r : Run V)
+    (q : Run W) → IsNoted (same h) Quiet from v w n m r q → Same h r q
 same_answer h from v w n m r q (inl e) = subst (λ (x : Run _). Same h x q) (sym e.0) tt
 same_answer h from v w n m r q (inr e) = e
 
-same_observed : {V W : Type 0} (h : V → W) (o : Option (Seen × V)) (u : Option (Seen × W)) (n : Notes V) (m : Notes W) (f : Seen × V → Run V) (g : Seen × W → Run W)
+same_observed : {V W : Type 0} (h : V → W) (o : Option (Seen × V)) (u : Option (Seen × W)) (n : Notes V) (m : Notes W)
+    (f : Seen × V → Run V) (g : Seen × W → Run W)
     → ((x : Seen) (v : V) → o ≡ Some (x, v) → u ≡ Some (x, h v)) → ((x : Seen) (v : V) → Same h (f (x, v)) (g (x, h v)))
     → Same h (rules.given o (Stops n) f) (rules.given u (Stops m) g)
 same_observed h None u n m f g a k = tt
-same_observed h (Some x) u n m f g a k = subst (λ (y : Option (Seen × _)). Same h (f x) (rules.given y (Stops m) g)) (sym (a x.0 x.1 refl)) (k x.0 x.1)
+same_observed h (Some x) u n m f g a k = subst (λ (y : Option (Seen × _)). Same h (f x) (rules.given y (Stops m) g))
+    (sym (a x.0 x.1 refl)) (k x.0 x.1)
 
-same_kept : {V W : Type 0} (h : V → W) (o : Observer V) (u : Observer W) → Answers h o u → Keeps (same h) o u stopping stopping
+same_kept : {V W : Type 0} (h : V → W) (o : Observer V) (u : Observer W) → Answers h o u
+    → Keeps (same h) o u stopping stopping
 same_kept h o u a = record {
   inner = λ q i e. tt;
   went = λ s n m e. ap (λ (k : Notes _). Went s k) e;
@@ -63,11 +74,14 @@ same_kept h o u a = record {
   cells = λ n m e. sym (ap (λ (k : Notes _). k.cell) e);
   relogs = λ y z s n m e. ap (λ (k : Notes _). Went s (record k { log = y; cell = z })) e;
   no_bars = tt;
-  step = λ here all j bars b f g e go ho k z s n m d. same_then h (f s n) (g s m) (e s n m d) (go bars) (ho bars) (k bars tt);
+  step = λ here all j bars b f g e go ho k z s n m d. same_then h (f s n) (g s m) (e s n m d) (go bars) (ho bars)
+      (k bars tt);
   close = λ bars b s n m e. ap (λ (k : Notes _). Went s k) e;
 }
 
 -- a whole run
-pub same_run : {V W : Type 0} (h : V → W) (p : Code) (o : Observer V) (u : Observer W) → Answers h o u → (ints : List ℤ) (fuel : ℕ) (v : V)
+pub same_run : {V W : Type 0} (h : V → W) (p : Code) (o : Observer V) (u : Observer W) → Answers h o u
+    → (ints : List ℤ) (fuel : ℕ) (v : V)
     → Same h (run (stops_at p o) ints fuel v) (run (stops_at p u) ints fuel (h v))
-same_run h p o u a ints fuel v = along_run (same h) p o u stopping stopping (same_kept h o u a) (λ q. tt) ints fuel v (h v) refl (Same h) (λ b r q e. e)
+same_run h p o u a ints fuel v = along_run (same h) p o u stopping stopping (same_kept h o u a) (λ q. tt) ints fuel v
+    (h v) refl (Same h) (λ b r q e. e)

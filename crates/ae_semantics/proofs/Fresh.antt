@@ -1,5 +1,6 @@
 -- The tree before anything ran stands for the meaning past what stopped.
-use Rattle.std.proofs.Common.{◌≡◌, ℕ, zero, suc, nat_eq, ℤ, Bool, true, false, ◌&&◌, List, [], ◌∷◌, ◌++◌, map, Option, None, Some, Contains, inl, inr, refl, ap, sym, subst, ◌∙◌, arith}
+use Rattle.std.proofs.Common.{◌≡◌, ℕ, zero, suc, nat_eq, ℤ, Bool, true, false, ◌&&◌, List, [], ◌∷◌, ◌++◌, map}
+use Rattle.std.proofs.Common.{Option, None, Some, Contains, inl, inr, refl, ap, sym, subst, ◌∙◌, arith}
 use Rattle.std.proofs.lemmas.Bool.{eq-eqb}
 use Rattle.std.proofs.lemmas.List.Elements.{Contains-append_left}
 use Rattle.ae_tree.specs.Names.{main}
@@ -11,10 +12,17 @@ use Rattle.ae_rules.specs.Instances.{Instance}
 use Rattle.ae_semantics.specs.Observations.{Seen, Query, Mark, Ran, Turned, Entered, Asked, Used, Stopped}
 use Rattle.ae_semantics.specs.Runs.{Run, Stops, whole_block}
 use Rattle.ae_semantics.specs.Meaning.{block, below}
-use Rattle.ae_semantics.specs.Means.{Start, run_start, start_at, main_here, main_state, no_notes, notes_of, At, ran_in, Meant}
+use Rattle.ae_semantics.specs.Means.{Start, run_start, start_at, main_here, main_state, no_notes, notes_of, At}
+use Rattle.ae_semantics.specs.Means.{ran_in, Meant}
 use Rattle.ae_semantics.specs.Atom.{part}
 use Rattle.ae_rules.specs.Paths.{is_prefix_of}
-use Rattle.ae_semantics.specs.Unfolding.{Only, LiesIn, under_way, BlockFrame, Begun, FrameStage, Waiting, all_wait, nodes_from, nodes, gathered_from, Extent, Within, unfinished_at, unfinished, halted, unfolded, halt_place, observed, Passage, Trail, passage, watching_machine, no_trail, watched_run, trail, IsFrameEntered, StandsFor, how_many, results, results_at, turns, turns_at, betweens, betweens_at, unfolded_at, frames_at, halted_at, left_out, left_out_at, events, events_at, cells, cells_at}
+use Rattle.ae_semantics.specs.Unfolding.{Only, LiesIn, under_way, BlockFrame, Begun, FrameStage, Waiting, all_wait}
+use Rattle.ae_semantics.specs.Unfolding.{nodes_from, nodes, gathered_from, Extent, Within, unfinished_at, unfinished}
+use Rattle.ae_semantics.specs.Unfolding.{halted, unfolded, halt_place, observed, Passage, Trail, passage}
+use Rattle.ae_semantics.specs.Unfolding.{watching_machine, no_trail, watched_run, trail, IsFrameEntered, StandsFor}
+use Rattle.ae_semantics.specs.Unfolding.{how_many, results, results_at, turns, turns_at, betweens, betweens_at}
+use Rattle.ae_semantics.specs.Unfolding.{unfolded_at, frames_at, halted_at, left_out, left_out_at, events, events_at}
+use Rattle.ae_semantics.specs.Unfolding.{cells, cells_at}
 use Rattle.ae_semantics.specs.Laws.{FreshStandsFor}
 use Rattle.ae_semantics.proofs.Watched.{watching_changes_nothing}
 use Rattle.ae_semantics.proofs.Kept.{MayMark, Kept, kept_block, kept_from_first}
@@ -23,9 +31,11 @@ use Rattle.ae_semantics.proofs.Alongside.{MayRun}
 -- ---- a tree in which all statements wait
 
 -- nothing is in the tree that no waiting statement gives
-none_given : {A : Type 0} (give : Instance → FrameStage → List A) → ((q : Instance) → give q Waiting ≡ []) → (q : Instance) (j : ℕ) (x : Lines) → gathered_from give (nodes_from q j (all_wait x)) ≡ []
+none_given : {A : Type 0} (give : Instance → FrameStage → List A) → ((q : Instance) → give q Waiting ≡ [])
+    → (q : Instance) (j : ℕ) (x : Lines) → gathered_from give (nodes_from q j (all_wait x)) ≡ []
 none_given give w q j End = refl
-none_given give w q j (Next at a rest) = ap (λ xs. xs ++ gathered_from give (nodes_from q (suc j) (all_wait rest))) (w (q ++ (j ∷ []))) ∙ none_given give w q (suc j) rest
+none_given give w q j (Next at a rest) = ap (λ xs. xs ++ gathered_from give (nodes_from q (suc j) (all_wait rest)))
+    (w (q ++ (j ∷ []))) ∙ none_given give w q (suc j) rest
 
 -- what holds of each thing of an empty list
 of_none : {A : Type 0} (P : A → Type 0) (xs : List A) → xs ≡ [] → (x : A) → Contains xs x → P x
@@ -56,7 +66,8 @@ and_still false c d k e = e
 begins_inside : (x q : Instance) (i : ℕ) → is_prefix_of x q ≡ true → is_prefix_of x (q ++ (i ∷ [])) ≡ true
 begins_inside [] q i e = refl
 begins_inside (a ∷ x) [] i e = absurd (cc e)
-begins_inside (a ∷ x) (b ∷ q) i e = and_still (nat_eq a b) (is_prefix_of x q) (is_prefix_of x (q ++ (i ∷ []))) (begins_inside x q i) e
+begins_inside (a ∷ x) (b ∷ q) i e = and_still (nat_eq a b) (is_prefix_of x q) (is_prefix_of x (q ++ (i ∷ [])))
+    (begins_inside x q i) e
 
 -- the path lies in an instance that is one of these places
 record IsWithin (places : List Extent) (q : Instance) : Type 0 where
@@ -75,10 +86,16 @@ is_under_way tree q w = (
 
 -- each statement of a block that waits lies in one of the unfinished tasks
 waiting : (places : List Extent) (q : Instance) (j : ℕ) (x : Lines)
-    → ((y : Extent) → Contains (gathered_from unfinished_at (nodes_from q j (all_wait x))) y → Contains places y) → MayRun (IsWithin places) q j x
+    → ((y : Extent) → Contains (gathered_from unfinished_at (nodes_from q j (all_wait x))) y → Contains places y)
+    → MayRun (IsWithin places) q j x
 waiting places q j End sub = tt
 waiting places q j (Next at a rest) sub = (
-  record { of = q ++ (j ∷ []); there = sub (Within (q ++ (j ∷ []))) (0, omega arith, refl); starts = begins_with_itself (q ++ (j ∷ [])) },
+  record {
+    of = q ++ (j ∷ []);
+    there = sub (Within (q ++ (j ∷ []))) (0, omega arith, refl);
+    starts =
+        begins_with_itself (q ++ (j ∷ []));
+  },
   waiting places q (suc j) rest (λ y c. sub y (suc c.0, omega (arith, c.1), c.2)),
 )
 
@@ -89,7 +106,8 @@ abbrev AllMay : (Instance → Type 0) → List Mark → Type 0
 AllMay ok [] = Unit {0}
 AllMay ok (m ∷ ms) = MayMark ok m × AllMay ok ms
 
-all_may_push : (ok : Instance → Type 0) (ms : List Mark) (m : Mark) → MayMark ok m → AllMay ok ms → AllMay ok (ms ++ (m ∷ []))
+all_may_push : (ok : Instance → Type 0) (ms : List Mark) (m : Mark) → MayMark ok m → AllMay ok ms
+    → AllMay ok (ms ++ (m ∷ []))
 all_may_push ok [] m d h = (d, tt)
 all_may_push ok (x ∷ ms) m d h = (h.0, all_may_push ok ms m d h.1)
 
@@ -140,10 +158,12 @@ started_at p ints n m = Some (record { here = main_here p n m; method = m; state
 
 -- its body, run
 abbrev main_run : Code → List ℤ → ℕ → (Query → Option Seen) → ℕ → Definition → Lines → Run Trail
-main_run p ints fuel table n m x = block (watching_machine p table) (below (watching_machine p table) fuel) (main_here p n m) x (main_state p m ints) (no_notes no_trail)
+main_run p ints fuel table n m x = block (watching_machine p table) (below (watching_machine p table) fuel)
+    (main_here p n m) x (main_state p m ints) (no_notes no_trail)
 
 -- the method that is called has a number
-numbered : (p : Code) (m : Definition) (o : Option ℕ) → given o None (method_at p) ≡ Some m → (n : ℕ) × (o ≡ Some n) × (method_at p n ≡ Some m)
+numbered : (p : Code) (m : Definition) (o : Option ℕ) → given o None (method_at p) ≡ Some m
+    → (n : ℕ) × (o ≡ Some n) × (method_at p n ≡ Some m)
 numbered p m None e = absurd (cc e)
 numbered p m (Some n) e = (n, refl, e)
 
@@ -158,17 +178,21 @@ run_is : (p : Code) (m : Definition) (ints : List ℤ) (fuel : ℕ) (table : Que
     → run_start p ints ≡ started_at p ints n m
     → watched_run p ints fuel table ≡ main_run p ints fuel table n m m.body
 run_is p m ints fuel table n e = ap (λ (o : Option Start). given o (Stops (no_notes no_trail))
-    (λ (x : Start). block (watching_machine p table) (below (watching_machine p table) fuel) x.here x.method.body x.state (no_notes no_trail))) e
+    (λ (x : Start). block (watching_machine p table) (below (watching_machine p table) fuel) x.here x.method.body
+    x.state (no_notes no_trail))) e
 
 -- the first statement of main finds what the tree was entered with
 entered : (p : Code) (m : Definition) (ints : List ℤ) (fuel : ℕ) (table : Query → Option Seen) (n : ℕ) (x : Lines)
-    → IsFrameEntered p (notes_of (main_run p ints fuel table n m x)).watch [] (Begun (record { state = main_state p m ints; log = [] }) (all_wait x))
+    → IsFrameEntered p (notes_of (main_run p ints fuel table n m x)).watch []
+    (Begun (record { state = main_state p m ints; log = [] }) (all_wait x))
 entered p m ints fuel table n End = tt
 entered p m ints fuel table n (Next at a rest) =
-    let y : Passage = passage (main_here p n m) (whole_block (Next at a rest) (main_here p n m)) 0 (main_state p m ints) (no_notes no_trail) in (
+    let y : Passage = passage (main_here p n m) (whole_block (Next at a rest) (main_here p n m)) 0
+    (main_state p m ints) (no_notes no_trail) in (
       y,
       kept_from_first (λ ms w. Contains w.found y) (λ q. Unit {0}) (found_kept y) p table fuel
-          (main_here p n m) at a rest (all_free [] 0 (Next at a rest)) (main_state p m ints) (no_notes no_trail) (0, omega arith, refl),
+          (main_here p n m) at a rest (all_free [] 0 (Next at a rest)) (main_state p m ints) (no_notes no_trail)
+          (0, omega arith, refl),
       refl,
       counted (Next at a rest),
       record { locals = λ z h. refl; groups = λ g h. refl; result = refl; log = λ h. refl },
@@ -176,7 +200,8 @@ entered p m ints fuel table n (Next at a rest) =
 
 -- all statements that main runs lie in those that wait
 all_inside : (p : Code) (m : Definition) (ints : List ℤ) (fuel : ℕ) (table : Query → Option Seen) (n : ℕ) (x : At)
-    → Contains (ran_in (notes_of (main_run p ints fuel table n m m.body)).marks) x → IsWithin (unfinished (tree_of p m ints)) x.path
+    → Contains (ran_in (notes_of (main_run p ints fuel table n m m.body)).marks) x
+    → IsWithin (unfinished (tree_of p m ints)) x.path
 all_inside p m ints fuel table n x c =
     let places : List Extent = unfinished (tree_of p m ints) in
     let ok : Instance → Type 0 = IsWithin places in
@@ -186,12 +211,16 @@ all_inside p m ints fuel table n x c =
     x c
 
 -- what the meaning past what stopped runs is what main's body runs
-ran_by_main : (p : Code) (m : Definition) (ints : List ℤ) (fuel : ℕ) (table : Query → Option Seen) (n : ℕ) → run_start p ints ≡ started_at p ints n m
-    → (x : At) → Contains (part p ints fuel table).ran x → Contains (ran_in (notes_of (main_run p ints fuel table n m m.body)).marks) x
-ran_by_main p m ints fuel table n e x c = subst (λ (r : Run Trail). Contains (ran_in (notes_of r).marks) x) (run_is p m ints fuel table n e)
+ran_by_main : (p : Code) (m : Definition) (ints : List ℤ) (fuel : ℕ) (table : Query → Option Seen) (n : ℕ)
+    → run_start p ints ≡ started_at p ints n m
+    → (x : At) → Contains (part p ints fuel table).ran x
+    → Contains (ran_in (notes_of (main_run p ints fuel table n m m.body)).marks) x
+ran_by_main p m ints fuel table n e x c = subst (λ (r : Run Trail). Contains (ran_in (notes_of r).marks) x)
+    (run_is p m ints fuel table n e)
     (subst (λ (y : Meant). Contains y.ran x) (sym (watching_changes_nothing p ints fuel table)) c)
 
-stands : (p : Code) (m : Definition) (ints : List ℤ) (fuel : ℕ) (n : ℕ) → run_start p ints ≡ started_at p ints n m → StandsFor p ints fuel (tree_of p m ints)
+stands : (p : Code) (m : Definition) (ints : List ℤ) (fuel : ℕ) (n : ℕ) → run_start p ints ≡ started_at p ints n m
+    → StandsFor p ints fuel (tree_of p m ints)
 unfolding trail
 stands p m ints fuel n e =
     let tree : BlockFrame = tree_of p m ints in
@@ -203,13 +232,15 @@ stands p m ints fuel n e =
       each_between = of_none _ (betweens tree) (none_given betweens_at (λ q. refl) [] 0 m.body);
       each_unfolded = of_none _ (unfolded tree) (none_given unfolded_at (λ q. refl) [] 0 m.body);
       each_entered = of_first _ (record { path = []; frame = tree }) (gathered_from frames_at (nodes tree))
-          (subst (λ (r : Run Trail). IsFrameEntered p (notes_of r).watch [] tree) (sym d) (entered p m ints fuel table n m.body))
+          (subst (λ (r : Run Trail). IsFrameEntered p (notes_of r).watch [] tree) (sym d)
+          (entered p m ints fuel table n m.body))
           (none_given frames_at (λ q. refl) [] 0 m.body);
       each_halt = of_none _ (halted tree) (none_given halted_at (λ q. refl) [] 0 m.body);
       each_left_out = of_none _ (left_out tree) (none_given left_out_at (λ q. refl) [] 0 m.body);
       each_event = of_none _ (events tree) (none_given events_at (λ q. refl) [] 0 m.body);
       each_cell = of_none _ (cells tree) (none_given cells_at (λ q. refl) [] 0 m.body);
-      all_others = λ x c. inr (inl (is_under_way tree x.path (all_inside p m ints fuel table n x (ran_by_main p m ints fuel table n e x c))));
+      all_others = λ x c. inr (inl (is_under_way tree x.path
+          (all_inside p m ints fuel table n x (ran_by_main p m ints fuel table n e x c))));
     }
 
 pub fresh_stands_for : FreshStandsFor
@@ -217,6 +248,7 @@ fresh_stands_for p m ints fuel e =
     let x : (n : ℕ) × (top_number p main ≡ Some n) × (method_at p n ≡ Some m) = numbered p m (top_number p main) e in
     let s : run_start p ints ≡ started_at p ints x.0 m = started p m ints x.0 x.1 x.2 in (
       tree_of p m ints,
-      ap (λ (o : Option Start). given o None (λ (y : Start). Some (Begun (record { state = y.state; log = [] }) (all_wait y.method.body)))) s,
+      ap (λ (o : Option Start). given o None
+          (λ (y : Start). Some (Begun (record { state = y.state; log = [] }) (all_wait y.method.body)))) s,
       stands p m ints fuel x.0 s,
     )

@@ -27,14 +27,16 @@ longer : (more : List Seen) → Answers (λ (w : List Seen). w ++ more) in_order
 longer more [] q x v e = absurd (cc e)
 longer more (y ∷ ys) q x v e = ap (option_map (λ (z : Seen × List Seen). (z.0, z.1 ++ more))) e
 
-same_meant : {V W : Type 0} (h : V → W) (r : Run V) (q : Run W) → Same h r q → (e : Ending) → ending_of r ≡ Some e → meant q ≡ meant r
+same_meant : {V W : Type 0} (h : V → W) (r : Run V) (q : Run W) → Same h r q → (e : Ending) → ending_of r ≡ Some e
+    → meant q ≡ meant r
 same_meant h (Went s n) q d e c = ap meant d
 same_meant h (Ends ending n) q d e c = ap meant d
 same_meant h (Stops n) q d e c = absurd (cc c)
 
 pub more_changes_nothing : MoreChangesNothing
 unfolding mean
-more_changes_nothing p ints fuel seen more e d = same_meant (λ (w : List Seen). w ++ more) (run (source_machine p) ints fuel seen) (run (source_machine p) ints fuel (seen ++ more))
+more_changes_nothing p ints fuel seen more e d = same_meant (λ (w : List Seen). w ++ more)
+    (run (source_machine p) ints fuel seen) (run (source_machine p) ints fuel (seen ++ more))
     (same_run (λ (w : List Seen). w ++ more) p in_order in_order (longer more) ints fuel seen) e d
 
 -- ---- the list of answers
@@ -45,7 +47,8 @@ kept_with xs z = (z.0, (z.1, xs ++ (z.0 ∷ [])))
 abbrev without_list : {V : Type 0} → Seen × (V × List Seen) → Seen × V
 without_list y = (y.0, y.1.0)
 
-kept_of : {V : Type 0} (o : Option (Seen × V)) (xs : List Seen) (x : Seen) (v : V × List Seen) → option_map (kept_with xs) o ≡ Some (x, v) → o ≡ Some (x, v.0)
+kept_of : {V : Type 0} (o : Option (Seen × V)) (xs : List Seen) (x : Seen) (v : V × List Seen)
+    → option_map (kept_with xs) o ≡ Some (x, v) → o ≡ Some (x, v.0)
 kept_of None xs x v e = absurd (cc e)
 kept_of (Some z) xs x v e = ap (option_map without_list) e
 
@@ -54,7 +57,8 @@ forgets : {V : Type 0} (o : Observer V) → Answers (λ (w : V × List Seen). w.
 forgets o w q x v e = kept_of (o w.0 q) w.1 x v e
 
 -- with exactly the answers that it got, the run by a list is the run that got them
-list_meant : {V : Type 0} (r : Run (V × List Seen)) (q : Run (List Seen)) → Sim r [] (notes_of r).watch.1 q → (e : Ending) → ending_of r ≡ Some e → meant q ≡ meant r
+list_meant : {V : Type 0} (r : Run (V × List Seen)) (q : Run (List Seen)) → Sim r [] (notes_of r).watch.1 q
+    → (e : Ending) → ending_of r ≡ Some e → meant q ≡ meant r
 list_meant (Went s n) q d e c = ap meant (d.2 [] (d.1 ∙ sym (append-nil d.0)))
 list_meant (Ends x n) q d e c = ap meant (d.2 [] (d.1 ∙ sym (append-nil d.0)))
 list_meant (Stops n) q d e c = absurd (cc c)
@@ -62,7 +66,11 @@ list_meant (Stops n) q d e c = absurd (cc c)
 pub goes_by_its_answers : GoesByItsAnswers
 unfolding mean
 goes_by_its_answers p ints fuel table e d = (
-  same_meant (λ (w : ⊤ × List Seen). w.0) (gathered p ints fuel table) (run (stops_at p (by_query table)) ints fuel tt) (same_run (λ (w : ⊤ × List Seen). w.0) p (gathering (by_query table)) (by_query table) (forgets (by_query table)) ints fuel (tt, [])) e d,
+  same_meant (λ (w : ⊤ × List Seen). w.0) (gathered p ints fuel table)
+      (run (stops_at p (by_query table)) ints fuel tt)
+      (same_run (λ (w : ⊤ × List Seen). w.0) p (gathering (by_query table)) (by_query table)
+      (forgets (by_query table)) ints fuel (tt, [])) e
+      d,
   list_meant (gathered p ints fuel table) (run (source_machine p) ints fuel (answers (gathered p ints fuel table)))
       (sim_run p (by_query table) ints fuel tt (answers (gathered p ints fuel table))) e d,
 )

@@ -1,6 +1,7 @@
 -- What a statement reads: from two states that agree on what it uses it goes alike, and leaves states that agree again.
 -- How runs are put together keeps this; what is left is what each form of statement has to keep.
-use Rattle.std.proofs.Common.{◌≡◌, inl, inr, refl, ap, sym, subst, ℕ, suc, nat_eq, Bool, true, false, List, Option, None, Some}
+use Rattle.std.proofs.Common.{◌≡◌, inl, inr, refl, ap, sym, subst, ℕ, suc, nat_eq, Bool, true, false, List, Option}
+use Rattle.std.proofs.Common.{None, Some}
 use Rattle.std.specs.Prelude.{is_some}
 use Rattle.ae_text.specs.declared.refusal.Spot.{Spot}
 use Rattle.ae_rules.specs.declared.uses.Resource.{Resource}
@@ -22,7 +23,8 @@ use Rattle.ae_semantics.specs.Observations.{Origin, Seen, Notes, Observer}
 use Rattle.ae_semantics.specs.Runs.{Run, Went, Ends, Stops, Act, and_then, deeper, Where, knowing, stopping}
 use Rattle.ae_semantics.specs.Meaning.{one, below}
 use Rattle.ae_semantics.specs.Gathering.{stops_at}
-use Rattle.ae_semantics.proofs.Related.{Stretch, Both, Relation, IsAnswered, HasTest, IsTested, Forms, Link, related_one, related_below}
+use Rattle.ae_semantics.proofs.Related.{Stretch, Both, Relation, IsAnswered, HasTest, IsTested, Forms, Link}
+use Rattle.ae_semantics.proofs.Related.{related_one, related_below}
 
 -- what two states agree on, and the context that both fit
 pub record Known : Type 0 where
@@ -53,6 +55,7 @@ pub record Stands (p : Code) (logs : Bool) (k l : Known) (here : Where) (at : Sp
   pub uses : (r : Resource) → is_some (statement_uses p here.method a here.context r) ≡ true → k.agreed r ≡ true
   pub logged : is_some (statement_uses p here.method a here.context (resource.Group io)) ≡ true → logs ≡ true
   pub unseen_locals : (y : ℕ) → is_seen here.context (resource.Local y) ≡ false → k.agreed (resource.Local y) ≡ true
-  pub unseen_groups : (g : ℕ) → nat_eq io g ≡ false → is_seen here.context (resource.Group g) ≡ false → k.agreed (resource.Group g) ≡ true
+  pub unseen_groups : (g : ℕ) → nat_eq io g ≡ false → is_seen here.context (resource.Group g) ≡ false
+      → k.agreed (resource.Group g) ≡ true
 
 -- ---- the first of what each form has to keep: tests

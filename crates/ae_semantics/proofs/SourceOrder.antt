@@ -1,5 +1,6 @@
 -- Runs that begin things in source order.
-use Rattle.std.proofs.Common.{◌≡◌, ◌<◌, inl, inr, refl, ap, sym, subst, ◌∙◌, arith, ℕ, zero, suc, nat_eq, nat_lt, Bool, true, false, ◌&&◌, ◌||◌, if◌then◌else◌, List, [], ◌∷◌, ◌++◌, map, Contains}
+use Rattle.std.proofs.Common.{◌≡◌, ◌<◌, inl, inr, refl, ap, sym, subst, ◌∙◌, arith, ℕ, zero, suc, nat_eq, nat_lt}
+use Rattle.std.proofs.Common.{Bool, true, false, ◌&&◌, ◌||◌, if◌then◌else◌, List, [], ◌∷◌, ◌++◌, map, Contains}
 use Rattle.std.proofs.lemmas.List.{append_assoc, append-nil}
 use Rattle.std.proofs.lemmas.List.Elements.{Contains-append_cases}
 use Rattle.std.proofs.lemmas.Bool.{eqb-true, eq-eqb}
@@ -75,7 +76,8 @@ pub by_either : {A : Type 0} (b : Bool) → (b ≡ true → A) → (b ≡ false 
 by_either true f g = f refl
 by_either false f g = g refl
 
-by_number : (i j k : ℕ) (a b c : Bool) → (nat_lt j i || (nat_eq j i && a)) ≡ false → (nat_lt k j || (nat_eq k j && b)) ≡ false → (a ≡ false → b ≡ false → c ≡ false)
+by_number : (i j k : ℕ) (a b c : Bool) → (nat_lt j i || (nat_eq j i && a)) ≡ false → (nat_lt k j || (nat_eq k j && b))
+    ≡ false → (a ≡ false → b ≡ false → c ≡ false)
     → (nat_lt k i || (nat_eq k i && c)) ≡ false
 by_number i j k a b c e d h =
     let l : i < suc j = is_least j i (first_of_neither _ _ e) in
@@ -83,7 +85,8 @@ by_number i j k a b c e d h =
     neither _ _ (not_less k i (omega (arith, l, m)))
     (by_either (nat_eq k i)
     (λ q. let x : k ≡ i = eqb-true k i q in
-    no_and _ _ (h (and_then_false _ _ (second_of_neither _ _ e) (eq-eqb j i (omega (arith, l, m, x)))) (and_then_false _ _ (second_of_neither _ _ d) (eq-eqb k j (omega (arith, l, m, x))))))
+    no_and _ _ (h (and_then_false _ _ (second_of_neither _ _ e) (eq-eqb j i (omega (arith, l, m, x))))
+    (and_then_false _ _ (second_of_neither _ _ d) (eq-eqb k j (omega (arith, l, m, x))))))
     (λ q. no_and_left _ _ q))
 
 pub up_to_up_to : (q r s : Instance) → IsUpTo q r → IsUpTo r s → IsUpTo q s
@@ -100,7 +103,8 @@ before_not_after (i ∷ q) (j ∷ r) h = by_either (nat_lt i j)
     (λ e. earlier_up_to i j q r (is_less i j e))
     (λ e. let d : (nat_eq i j && comes_before q r) ≡ true = other (nat_lt i j) (nat_eq i j && comes_before q r) e h in
     let x : i ≡ j = eqb-true i j (first_of_both (nat_eq i j) (comes_before q r) d) in
-    neither _ _ (not_less j i (omega (arith, x))) (no_and _ _ (before_not_after q r (second_of_both (nat_eq i j) (comes_before q r) d))))
+    neither _ _ (not_less j i (omega (arith, x)))
+    (no_and _ _ (before_not_after q r (second_of_both (nat_eq i j) (comes_before q r) d))))
 
 -- neither of two is after the later one
 left_up_to_later : (q a b : Instance) → IsUpTo q a → IsUpTo q (later_of a b)
@@ -136,9 +140,13 @@ abbrev pub Rises : List Instance → Type 0
 Rises [] = Unit {0}
 Rises (x ∷ xs) = Every (IsUpTo x) xs × Rises xs
 
-rises_append : (P Q : Instance → Type 0) (xs ys : List Instance) → ((x y : Instance) → P x → Q y → IsUpTo x y) → Rises xs → Every P xs → Rises ys → Every Q ys → Rises (xs ++ ys)
+rises_append : (P Q : Instance → Type 0) (xs ys : List Instance) → ((x y : Instance) → P x → Q y → IsUpTo x y)
+    → Rises xs → Every P xs → Rises ys → Every Q ys → Rises (xs ++ ys)
 rises_append P Q [] ys f r h s k = s
-rises_append P Q (x ∷ xs) ys f r h s k = (every_append (IsUpTo x) xs ys r.0 (every_as Q (IsUpTo x) ys (λ y. f x y h.0) k), rises_append P Q xs ys f r.1 h.1 s k)
+rises_append P Q (x ∷ xs) ys f r h s k = (
+  every_append (IsUpTo x) xs ys r.0 (every_as Q (IsUpTo x) ys (λ y. f x y h.0) k),
+  rises_append P Q xs ys f r.1 h.1 s k,
+)
 
 -- each is up to the last one
 up_to_last : (xs : List Instance) → Rises xs → Every (λ q. IsUpTo q (last_path xs)) xs
@@ -179,14 +187,18 @@ pub record Adds {W : Type 0} (P : Instance → Type 0) (before : List Mark) (r :
   pub rises : Rises (places new)
   pub each : Every P (places new)
 
-pub adds_none : {W : Type 0} (P : Instance → Type 0) (before : List Mark) (r : Run W) → (notes_of r).marks ≡ before → Adds P before r
+pub adds_none : {W : Type 0} (P : Instance → Type 0) (before : List Mark) (r : Run W) → (notes_of r).marks ≡ before
+    → Adds P before r
 adds_none P before r e = record { new = []; added = e ∙ sym (append-nil before); rises = tt; each = tt }
 
-pub adds_as : {W : Type 0} (P Q : Instance → Type 0) (before : List Mark) (r : Run W) → ((x : Instance) → P x → Q x) → Adds P before r → Adds Q before r
-adds_as P Q before r f a = record { new = a.new; added = a.added; rises = a.rises; each = every_as P Q (places a.new) f a.each }
+pub adds_as : {W : Type 0} (P Q : Instance → Type 0) (before : List Mark) (r : Run W) → ((x : Instance) → P x → Q x)
+    → Adds P before r → Adds Q before r
+adds_as P Q before r f a = record
+    { new = a.new; added = a.added; rises = a.rises; each = every_as P Q (places a.new) f a.each }
 
 -- one run after another, whose places come later
-pub adds_then : {W : Type 0} (P Q R : Instance → Type 0) (before : List Mark) (r : Run W) (go : Act W) → ((x y : Instance) → P x → Q y → IsUpTo x y) → ((x : Instance) → P x → R x) → ((x : Instance) → Q x → R x)
+pub adds_then : {W : Type 0} (P Q R : Instance → Type 0) (before : List Mark) (r : Run W) (go : Act W)
+    → ((x y : Instance) → P x → Q y → IsUpTo x y) → ((x : Instance) → P x → R x) → ((x : Instance) → Q x → R x)
     → Adds P before r → ((s : State) (n : Notes W) → Adds Q n.marks (go s n)) → Adds R before (and_then r go)
 adds_then P Q R before (Ends ending n) go f g h a k = adds_as P R before (Ends ending n) g a
 adds_then P Q R before (Stops n) go f g h a k = adds_as P R before (Stops n) g a
@@ -197,11 +209,14 @@ adds_then P Q R before (Went s n) go f g h a k =
       new = a.new ++ b.new;
       added = b.added ∙ ap (λ (ms : List Mark). ms ++ b.new) a.added ∙ append_assoc before a.new b.new;
       rises = subst Rises (sym e) (rises_append P Q (places a.new) (places b.new) f a.rises a.each b.rises b.each);
-      each = subst (Every R) (sym e) (every_append R (places a.new) (places b.new) (every_as P R (places a.new) g a.each) (every_as Q R (places b.new) h b.each));
+      each = subst (Every R) (sym e)
+          (every_append R (places a.new) (places b.new) (every_as P R (places a.new) g a.each)
+          (every_as Q R (places b.new) h b.each));
     }
 
 -- a mark without a place
-pub adds_silent : {W : Type 0} (P : Instance → Type 0) (before : List Mark) (m : Mark) (r : Run W) → ((ms : List Mark) → places (m ∷ ms) ≡ places ms) → Adds P (before ++ (m ∷ [])) r → Adds P before r
+pub adds_silent : {W : Type 0} (P : Instance → Type 0) (before : List Mark) (m : Mark) (r : Run W)
+    → ((ms : List Mark) → places (m ∷ ms) ≡ places ms) → Adds P (before ++ (m ∷ [])) r → Adds P before r
 adds_silent P before m r e a = record {
   new = m ∷ a.new;
   added = a.added ∙ append_assoc before (m ∷ []) a.new;
@@ -210,8 +225,10 @@ adds_silent P before m r e a = record {
 }
 
 -- a mark with a place that is not after those that follow
-pub adds_place : {W : Type 0} (P R : Instance → Type 0) (before : List Mark) (m : Mark) (q : Instance) (r : Run W) → ((ms : List Mark) → places (m ∷ ms) ≡ q ∷ places ms)
-    → ((x : Instance) → P x → IsUpTo q x) → R q → ((x : Instance) → P x → R x) → Adds P (before ++ (m ∷ [])) r → Adds R before r
+pub adds_place : {W : Type 0} (P R : Instance → Type 0) (before : List Mark) (m : Mark) (q : Instance) (r : Run W)
+    → ((ms : List Mark) → places (m ∷ ms) ≡ q ∷ places ms)
+    → ((x : Instance) → P x → IsUpTo q x) → R q → ((x : Instance) → P x → R x) → Adds P (before ++ (m ∷ [])) r
+    → Adds R before r
 adds_place P R before m q r e f h g a = record {
   new = m ∷ a.new;
   added = a.added ∙ append_assoc before (m ∷ []) a.new;
@@ -261,12 +278,15 @@ turns_rise (Used q ∷ ms) r = turns_rise ms r
 turns_rise (Stopped q ending ∷ ms) r = turns_rise ms r
 
 -- what the marks tell of is not after the last of the statements and the last of the turns, whichever is later
-pub up_to_end : (ms : List Mark) → Rises (places ms) → (q : Instance) → Contains (paths (ran_in ms) ++ map turn_path (turns_in ms)) q
+pub up_to_end : (ms : List Mark) → Rises (places ms) → (q : Instance)
+    → Contains (paths (ran_in ms) ++ map turn_path (turns_in ms)) q
     → IsUpTo q (later_of (last_path (paths (ran_in ms))) (last_path (map turn_path (turns_in ms))))
 up_to_end ms r q c =
     let a : List Instance = paths (ran_in ms) in
     let b : List Instance = map turn_path (turns_in ms) in
     elim (Contains-append_cases a b q c) [
-      | inl d ↦ left_up_to_later q (last_path a) (last_path b) (every_at (λ x. IsUpTo x (last_path a)) a (up_to_last a (ran_rises ms r)) q d)
-      | inr d ↦ right_up_to_later q (last_path a) (last_path b) (every_at (λ x. IsUpTo x (last_path b)) b (up_to_last b (turns_rise ms r)) q d)
+      | inl d ↦ left_up_to_later q (last_path a) (last_path b)
+          (every_at (λ x. IsUpTo x (last_path a)) a (up_to_last a (ran_rises ms r)) q d)
+      | inr d ↦ right_up_to_later q (last_path a) (last_path b)
+          (every_at (λ x. IsUpTo x (last_path b)) b (up_to_last b (turns_rise ms r)) q d)
     ]

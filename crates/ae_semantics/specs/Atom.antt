@@ -9,7 +9,8 @@ use Rattle.ae_rules.specs.Lookups.{method_at}
 use Rattle.ae_rules.specs.Blocks.{Scene, or_else, scene}
 use Rattle.ae_semantics.specs.Values.{Store}
 use Rattle.ae_semantics.specs.Places.{Here, State, group_of, members}
-use Rattle.ae_semantics.specs.Observations.{Piece, Image, OfStore, OfLog, Ask, Answer, Gave, Trapped, Spent, Seen, Query, Done, Trap, Fuel, Notes, Observer}
+use Rattle.ae_semantics.specs.Observations.{Piece, Image, OfStore, OfLog, Ask, Answer, Gave, Trapped, Spent, Seen}
+use Rattle.ae_semantics.specs.Observations.{Query, Done, Trap, Fuel, Notes, Observer}
 use Rattle.ae_semantics.specs.Runs.{Run, Went, Ends, Stops, Where, Machine, flowing}
 use Rattle.ae_semantics.specs.Blocks.{else_uses, values_out}
 use Rattle.ae_semantics.specs.Meaning.{block, below}
@@ -37,7 +38,8 @@ pub record Located : Type 0 where
   pub block : Scene
 
 abbrev pub located_in : Code → ℕ → Definition → Option Located
-located_in p n m = given (locked_among n m.body) None (λ g. option_map (λ (b : Scene). record { group = g; block = b }) (scene p m n))
+located_in p n m = given (locked_among n m.body) None
+    (λ g. option_map (λ (b : Scene). record { group = g; block = b }) (scene p m n))
 
 abbrev pub located : Code → Ask → Option Located
 located p ask = given (method_at p ask.method) None (located_in p ask.block)
@@ -75,14 +77,28 @@ image_after g image s n = if nat_eq io g then OfLog n.log else given (members (g
 
 -- a block that ends the run leaves the image as it was, and its pieces are lost
 abbrev pub atomed : {W : Type 0} → Uses → ℕ → Image → State → Run W → Atomed
-atomed u g image before (Went s n) = record { out = Some (Gave (values_out u before s n.log)); image = image_after g image s n; asked = asks_in n.marks }
+atomed u g image before (Went s n) =
+    record {
+      out = Some (Gave (values_out u before s n.log));
+      image = image_after g image s n;
+      asked = asks_in n.marks;
+    }
 atomed u g image before (Ends Done n) = record { out = None; image = image; asked = asks_in n.marks }
-atomed u g image before (Ends (Trap code at) n) = record { out = Some (Trapped code at); image = image; asked = asks_in n.marks }
+atomed u g image before (Ends (Trap code at) n) =
+    record { out = Some (Trapped code at); image = image; asked = asks_in n.marks }
 atomed u g image before (Ends (Fuel at) n) = record { out = Some (Spent at); image = image; asked = asks_in n.marks }
 atomed u g image before (Stops n) = record { out = None; image = image; asked = asks_in n.marks }
 
 abbrev pub block_here : Ask → Located → Where
-block_here ask x = record { number = ask.method; method = x.block.method; depth = ask.depth; path = ask.path; context = x.block.start; inside = true }
+block_here ask x = record {
+  number = ask.method;
+  method = x.block.method;
+  depth = ask.depth;
+  path = ask.path;
+  context
+      = x.block.start;
+  inside = true;
+}
 
 abbrev pub atom_at : Code → Ask → Image → List Seen → Located → Atomed
 atom_at p ask image inner x =
@@ -94,7 +110,8 @@ atom_at p ask image inner x =
 -- The statements of the asked block in source order, on the values in, on its group's image,
 -- and on the answers of blocks inside it of groups that are away: there are none in a program whose atomic blocks are not nested.
 unfoldable pub atom : Code → Ask → Image → List Seen → Atomed
-atom p ask image inner = given (located p ask) (record { out = None; image = image; asked = [] }) (atom_at p ask image inner)
+atom p ask image inner = given (located p ask) (record { out = None; image = image; asked = [] })
+    (atom_at p ask image inner)
 
 -- ---- past what stopped
 

@@ -1,6 +1,7 @@
 -- Blocks of groups that are split: what goes away and comes back, what an atomic block asks, and what its answer changes.
 use Rattle.ae_rules.specs.Edges.{Uses}
-use Rattle.std.specs.Prelude.{ℕ, nat_eq, Bool, true, false, ◌&&◌, ◌||◌, not, if◌then◌else◌, List, [], ◌∷◌, ◌++◌, Option, None, Some, is_some, option_map}
+use Rattle.std.specs.Prelude.{ℕ, nat_eq, Bool, true, false, ◌&&◌, ◌||◌, not, if◌then◌else◌, List, [], ◌∷◌, ◌++◌}
+use Rattle.std.specs.Prelude.{Option, None, Some, is_some, option_map}
 use Rattle.ae_text.specs.declared.refusal.Spot.{Spot}
 use Rattle.ae_rules.specs.declared.uses.Resource.TheVariants as resource
 use Rattle.ae_tree.specs.declared.tree.NameAt.{NameAt}
@@ -20,7 +21,9 @@ use Rattle.ae_rules.specs.Blocks.{Scene}
 use Rattle.ae_semantics.specs.Values.{fits, is_low, all_low}
 use Rattle.ae_semantics.specs.Places.{CellName, Group, Here, Away, Bound, State, group_of, with_store, members}
 use Rattle.ae_semantics.specs.Contexts.{after, shuts_out}
-use Rattle.ae_semantics.specs.Observations.{Piece, Image, OfStore, OfLog, Carried, Ask, Answer, Gave, Trapped, Spent, Seen, OfBlock, OfCell, FromBlock, FromCell, Origin, AtBlock, AtEnd, Trap, Fuel, Entered, Asked, Used, Notes}
+use Rattle.ae_semantics.specs.Observations.{Piece, Image, OfStore, OfLog, Carried, Ask, Answer, Gave, Trapped, Spent}
+use Rattle.ae_semantics.specs.Observations.{Seen, OfBlock, OfCell, FromBlock, FromCell, Origin, AtBlock, AtEnd, Trap}
+use Rattle.ae_semantics.specs.Observations.{Fuel, Entered, Asked, Used, Notes}
 use Rattle.ae_semantics.specs.Runs.{Run, Went, Ends, Stops, Act, and_then, marked, Where, locking, whole_block, Machine}
 
 -- ---- split blocks
@@ -71,16 +74,19 @@ used from w n = record (marked (Used from) n) { watch = w }
 abbrev pub cell_back : {W : Type 0} → Where → ℕ → Seen × W → Act W
 cell_back here g (OfBlock a, w) s n = Stops n
 cell_back here g (OfCell image, w) s n = unless_stopped
-    (if nat_eq io g then log_back image s (used (FromCell (cell_of here g)) w n) else store_back g image s (used (FromCell (cell_of here g)) w n)) n
+    (if nat_eq io g then log_back image s (used (FromCell (cell_of here g)) w n) else store_back g image s
+    (used (FromCell (cell_of here g)) w n)) n
 
 abbrev pub image_comes_back : {W : Type 0} → Machine W → Where → ℕ → Image → Act W
-image_comes_back m here g first s n = rules.given (m.observer n.watch (AtEnd (cell_of here g) first)) (Stops n) (λ seen. cell_back here g seen s n)
+image_comes_back m here g first s n = rules.given (m.observer n.watch (AtEnd (cell_of here g) first)) (Stops n)
+    (λ seen. cell_back here g seen s n)
 
 -- the groups come back in written order; what each held at first is told to the observer
 abbrev pub all_come_back : {W : Type 0} → Machine W → Where → List NameAt → State → List Piece → Act W
 all_come_back m here [] before log s n = Went s n
 all_come_back m here (g ∷ gs) before log s n = and_then
-    (rules.given (image_of g.name before (record n { log = log })) (Stops n) (λ first. image_comes_back m here g.name first s n))
+    (rules.given (image_of g.name before (record n { log = log })) (Stops n)
+    (λ first. image_comes_back m here g.name first s n))
     (all_come_back m here gs before log)
 
 -- ---- atomic blocks
@@ -195,7 +201,8 @@ ask_of here number fuel u s = record {
 }
 
 abbrev pub put_to : {W : Type 0} → Machine W → Ask → Uses → Context → Act W
-put_to m ask u later s n = rules.given (m.observer n.watch (AtBlock ask)) (Stops n) (λ seen. block_back m.code u later (FromBlock ask.path) seen s n)
+put_to m ask u later s n = rules.given (m.observer n.watch (AtBlock ask)) (Stops n)
+    (λ seen. block_back m.code u later (FromBlock ask.path) seen s n)
 
 -- a block of a group that is away asks the observer
 abbrev pub asks : {W : Type 0} → Machine W → Where → Spot → CellName → NameAt → ℕ → Lines → ℕ → Act W

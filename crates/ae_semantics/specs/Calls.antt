@@ -1,5 +1,6 @@
 -- A call in two halves: what goes into the method's body, and what comes back from it.
-use Rattle.std.specs.Prelude.{ℕ, ◌+◌, nat_eq, Bool, true, false, ◌&&◌, not, if◌then◌else◌, List, [], ◌∷◌, zip, filter_map, Option, None, Some, option_map}
+use Rattle.std.specs.Prelude.{ℕ, ◌+◌, nat_eq, Bool, true, false, ◌&&◌, not, if◌then◌else◌, List, [], ◌∷◌, zip}
+use Rattle.std.specs.Prelude.{filter_map, Option, None, Some, option_map}
 use Rattle.ae_tree.specs.declared.tree.GroupNeed.{GroupNeed}
 use Rattle.ae_tree.specs.Plain.{Definition, Code, Expression, Read, Invocation}
 use Rattle.ae_rules.specs.Verdict as rules
@@ -9,7 +10,8 @@ use Rattle.ae_rules.specs.Calls.{Callee, top_callee, callee_of, group_in, ParamS
 use Rattle.ae_rules.specs.Judges.{start}
 use Rattle.ae_rules.specs.Instances.{param_names}
 use Rattle.ae_semantics.specs.Values.{Val}
-use Rattle.ae_semantics.specs.Places.{Outcome, Fine, ◌>>=◌, there, Group, As, Bound, State, name_of, with_bound, with_store, Address, walk_to, write}
+use Rattle.ae_semantics.specs.Places.{Outcome, Fine, ◌>>=◌, there, Group, As, Bound, State, name_of, with_bound}
+use Rattle.ae_semantics.specs.Places.{with_store, Address, walk_to, write}
 use Rattle.ae_semantics.specs.Expressions.{value}
 use Rattle.ae_semantics.specs.Runs.{Where}
 
@@ -29,7 +31,8 @@ each_argument p s (e ∷ es) = argument p s e >>= λ x. each_argument p s es >>=
 
 -- the method that is called on an object of the receiver's form, or one at the top
 abbrev pub called_method : Code → State → Invocation → Outcome Callee
-called_method p s i = rules.given i.on (there (top_callee p i.method.name)) (λ path. walk_to p s path >>= λ x. there (callee_of p x.form i.method.name))
+called_method p s i = rules.given i.on (there (top_callee p i.method.name))
+    (λ path. walk_to p s path >>= λ x. there (callee_of p x.form i.method.name))
 
 -- a parameter: its name, and its form in the method with whether the caller gets nothing back
 abbrev pub Taker : Type 0
@@ -68,7 +71,15 @@ frame p here s c groups xs =
       groups = groups;
       takers = ts;
       arguments = xs;
-      here = record { number = c.number; method = c.method; depth = here.depth + 1; path = here.path; context = start p c.method; inside = here.inside };
+      here = record {
+        number = c.number;
+        method = c.method;
+        depth = here.depth + 1;
+        path = here.path;
+        context =
+            start p c.method;
+        inside = here.inside;
+      };
       state = record { locals = taken ts xs; groups = groups_needed groups s c.method.needs; result = None };
     }
 
@@ -78,7 +89,8 @@ group_given s c i g = name_of s (group_in c i.groups g)
 
 -- the first half of a call
 abbrev pub enter : Code → Where → Invocation → State → Outcome CallFrame
-enter p here i s = called_method p s i >>= λ c. each_argument p s (givens i) >>= λ xs. Fine (frame p here s c (group_given s c i) xs)
+enter p here i s = called_method p s i >>= λ c. each_argument p s (givens i)
+    >>= λ xs. Fine (frame p here s c (group_given s c i) xs)
 
 -- ---- what comes back
 
@@ -95,7 +107,8 @@ group_back g c s = with_store g c s
 -- the groups of the needs
 abbrev pub groups_back : (ℕ → ℕ) → List GroupNeed → State → State → State
 groups_back groups [] after s = s
-groups_back groups (n ∷ ns) after s = groups_back groups ns after (group_back (groups n.group.name) (after.groups n.group.name) s)
+groups_back groups (n ∷ ns) after s = groups_back groups ns after
+    (group_back (groups n.group.name) (after.groups n.group.name) s)
 
 abbrev pub is_given_back : ParamSlot → Bool
 is_given_back t = is_unique t.form && not t.away
@@ -116,4 +129,5 @@ given_away x = if x.0.1.away then name_into x.0.1.form x.1 else None
 -- The second half of a call: names that were given away have no value, and groups and unique values come back to their places.
 abbrev pub leave : CallFrame → Invocation → State → State → Outcome State
 leave f i before after = values_back (zip f.takers f.arguments) after
-    (groups_back f.groups f.callee.method.needs after (without_moved (filter_map given_away (zip f.takers (givens i))) before))
+    (groups_back f.groups f.callee.method.needs after
+    (without_moved (filter_map given_away (zip f.takers (givens i))) before))

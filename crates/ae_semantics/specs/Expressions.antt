@@ -1,10 +1,13 @@
 -- What an expression comes to.
-use Rattle.std.specs.Prelude.{ℕ, ◌^◌, ℤ, pos, negsuc, ◌+ℤ◌, ◌-ℤ◌, ◌*ℤ◌, neg_ℤ, int_div, int_rem, int_lt, int_le, nat_lt, nat_eq, Bool, true, false, not, if◌then◌else◌, List, length, slice_get, ⊤}
+use Rattle.std.specs.Prelude.{ℕ, ◌^◌, ℤ, pos, negsuc, ◌+ℤ◌, ◌-ℤ◌, ◌*ℤ◌, neg_ℤ, int_div, int_rem, int_lt, int_le}
+use Rattle.std.specs.Prelude.{nat_lt, nat_eq, Bool, true, false, not, if◌then◌else◌, List, length, slice_get, ⊤}
 use Rattle.ae_tree.specs.declared.tree.Op.{Op}
 use Rattle.ae_tree.specs.declared.tree.Op.TheVariants as op
-use Rattle.ae_tree.specs.Plain.{Code, Expression, Number, Truth, Nothing, Read, Item, Length, Grouped, Negated, Minus, Binary}
+use Rattle.ae_tree.specs.Plain.{Code, Expression, Number, Truth, Nothing, Read, Item, Length, Grouped, Negated}
+use Rattle.ae_tree.specs.Plain.{Minus, Binary}
 use Rattle.ae_semantics.specs.Values.{Val, OfInt, OfBool, Null, Owned, Member, Tree, Object, Array}
-use Rattle.ae_semantics.specs.Places.{Outcome, Fine, Traps, Lacks, ◌>>=◌, there, State, ObjectOpened, walk_to, open_place, reach}
+use Rattle.ae_semantics.specs.Places.{Outcome, Fine, Traps, Lacks, ◌>>=◌, there, State, ObjectOpened, walk_to}
+use Rattle.ae_semantics.specs.Places.{open_place, reach}
 
 -- ---- numbers and truths
 
@@ -110,7 +113,8 @@ value p s (Number n at) = Fine (OfInt n)
 value p s (Truth b at) = Fine (OfBool b)
 value p s (Nothing at) = Fine Null
 value p s (Read path) = walk_to p s path >>= λ x. Fine x.value
-value p s (Item path e) = walk_to p s path >>= λ x. value p s e >>= λ v. number v >>= λ n. open_place p s x >>= λ o. item o n
+value p s (Item path e) = walk_to p s path >>= λ x. value p s e >>= λ v. number v >>= λ n. open_place p s x
+    >>= λ o. item o n
 value p s (Length path at) = reach p s path >>= λ o. numbers o.tree >>= λ ns. Fine (OfInt (pos (length ns)))
 value p s (Grouped e at) = value p s e
 value p s (Negated e at) = value p s e >>= λ v. truth v >>= λ b. Fine (OfBool (not b))

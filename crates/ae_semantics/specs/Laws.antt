@@ -16,7 +16,8 @@ use Rattle.ae_semantics.specs.Unfolding.{BlockFrame, fresh, StandsFor}
 
 -- after a statement that is judged the context is that of the judgement
 abbrev pub ContextsAreJudged : Type 0
-ContextsAreJudged = (p : Code) (m : Definition) (at : Spot) (a : Action) (c d : Context) → Judges p m at a c d → after p m at a c ≡ d
+ContextsAreJudged = (p : Code) (m : Definition) (at : Spot) (a : Action) (c d : Context) → Judges p m at a c d
+    → after p m at a c ≡ d
 
 -- a program has one ending at most
 abbrev pub OneEnding : Type 0

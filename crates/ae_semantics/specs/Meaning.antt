@@ -1,5 +1,6 @@
 -- What statements do, one after another.
-use Rattle.std.specs.Prelude.{ℕ, zero, suc, nat_lt, ℤ, pos, negsuc, Bool, true, false, if◌then◌else◌, List, [], ◌∷◌, ◌++◌, map, zip, filter_map, replicate, codes, Option, None, Some}
+use Rattle.std.specs.Prelude.{ℕ, zero, suc, nat_lt, ℤ, pos, negsuc, Bool, true, false, if◌then◌else◌, List, [], ◌∷◌}
+use Rattle.std.specs.Prelude.{◌++◌, map, zip, filter_map, replicate, codes, Option, None, Some}
 use Rattle.std.specs.Prelude as prelude
 use Rattle.std.specs.Fmt.{signed_decimal}
 use Rattle.ae_text.specs.declared.refusal.Spot.{Spot}
@@ -12,8 +13,10 @@ use Rattle.ae_tree.specs.declared.form.Perm.TheVariants as perm
 use Rattle.ae_tree.specs.declared.form.Form.{Form}
 use Rattle.ae_tree.specs.declared.form.Form.TheVariants as f
 use Rattle.ae_tree.specs.Form.{form, bare_names}
-use Rattle.ae_tree.specs.Plain.{Expression, Invocation, RightSide, Value, Taken, Zeros, Made, Returned, Lines, End, Next, Definition, Code}
-use Rattle.ae_tree.specs.Plain.{Action, Declares, Assigns, Stores, StoresAt, Calls, Chooses, ChoosesElse, Repeats, Groups, Splits, Locks, Freezes, Shares, Prints, PrintsText, Asserts, Returns}
+use Rattle.ae_tree.specs.Plain.{Expression, Invocation, RightSide, Value, Taken, Zeros, Made, Returned, Lines, End}
+use Rattle.ae_tree.specs.Plain.{Next, Definition, Code}
+use Rattle.ae_tree.specs.Plain.{Action, Declares, Assigns, Stores, StoresAt, Calls, Chooses, ChoosesElse, Repeats}
+use Rattle.ae_tree.specs.Plain.{Groups, Splits, Locks, Freezes, Shares, Prints, PrintsText, Asserts, Returns}
 use Rattle.ae_rules.specs.Verdict as rules
 use Rattle.ae_rules.specs.Lookups.{class_called, field_form}
 use Rattle.ae_rules.specs.Context.{Local, Context}
@@ -21,11 +24,14 @@ use Rattle.ae_rules.specs.Into.{name_into}
 use Rattle.ae_rules.specs.Uses.{is_seen}
 use Rattle.ae_rules.specs.Blocks.{Scene}
 use Rattle.ae_semantics.specs.Values.{Val, OfInt, OfBool, Null, Owned, Member, Object, Array, Store, values}
-use Rattle.ae_semantics.specs.Places.{Outcome, Fine, Traps, Lacks, ◌>>=◌, there, Here, Bound, State, with_bound, with_store, store_of, field_value, met, field_place, bind, write_field, write_tree, FieldSlot, slot, reach}
+use Rattle.ae_semantics.specs.Places.{Outcome, Fine, Traps, Lacks, ◌>>=◌, there, Here, Bound, State, with_bound}
+use Rattle.ae_semantics.specs.Places.{with_store, store_of, field_value, met, field_place, bind, write_field}
+use Rattle.ae_semantics.specs.Places.{write_tree, FieldSlot, slot, reach}
 use Rattle.ae_semantics.specs.Expressions.{value, number_of, truth_of, numbers, index}
 use Rattle.ae_semantics.specs.Contexts.{after}
 use Rattle.ae_semantics.specs.Observations.{Trap, Ran, Turned, Notes}
-use Rattle.ae_semantics.specs.Runs.{Run, Went, Ends, Act, and_then, outcome_given, paid, chosen, marked, logged, Where, deeper, knowing, splitting, locking, whole_block, Machine, Below, fuel_of}
+use Rattle.ae_semantics.specs.Runs.{Run, Went, Ends, Act, and_then, outcome_given, paid, chosen, marked, logged}
+use Rattle.ae_semantics.specs.Runs.{Where, deeper, knowing, splitting, locking, whole_block, Machine, Below, fuel_of}
 use Rattle.ae_semantics.specs.Calls.{CallFrame, enter, leave, without_moved}
 use Rattle.ae_semantics.specs.Blocks.{cell_at, all_go_away, all_come_back, asks}
 
@@ -66,7 +72,8 @@ name_moved form e = rules.given (name_into form e) [] (λ x. x ∷ [])
 
 -- the names that move with the arguments of a new object, each into its field
 abbrev pub fields_moved : List NameAt → List Expression → Class → List ℕ
-fields_moved gs args c = filter_map (λ (x : Form × Expression). name_into x.0 x.1) (zip (map (field_form c (bare_names gs)) c.fields) args)
+fields_moved gs args c = filter_map (λ (x : Form × Expression). name_into x.0 x.1)
+    (zip (map (field_form c (bare_names gs)) c.fields) args)
 
 -- the names that move with what stands right of a =, but for a call
 abbrev pub right_moved : Code → Form → RightSide → List ℕ
@@ -79,17 +86,20 @@ right_moved p form (Returned i) = []
 -- ---- calls
 
 -- the body of an entered call, and then what comes back; the result is handed on
-abbrev pub body_run : {W : Type 0} → Spot → Invocation → CallFrame → State → Notes W → (Option Val → Act W) → Below W → Run W
+abbrev pub body_run : {W : Type 0} → Spot → Invocation → CallFrame → State → Notes W → (Option Val → Act W) → Below W
+    → Run W
 body_run at i f s n go below = and_then (below.block f.here f.callee.method.body f.state n)
     (λ t m. outcome_given (leave f i s t) at m (λ u. go t.result u m))
 
 -- at depth 1,000 a call is trap 6, and else it takes one of the fuel
-abbrev pub call_run : {W : Type 0} → Option (Below W) → Where → Spot → Invocation → State → Notes W → (Option Val → Act W) → CallFrame → Run W
+abbrev pub call_run : {W : Type 0} → Option (Below W) → Where → Spot → Invocation → State → Notes W
+    → (Option Val → Act W) → CallFrame → Run W
 call_run below here at i s n go f = chosen (nat_lt here.depth 1000)
     (λ _. paid below at n (body_run at i f s n go))
     (λ _. Ends (Trap 6 at) n)
 
-abbrev pub calls_method : {W : Type 0} → Machine W → Option (Below W) → Where → Spot → Invocation → State → Notes W → (Option Val → Act W) → Run W
+abbrev pub calls_method : {W : Type 0} → Machine W → Option (Below W) → Where → Spot → Invocation → State → Notes W
+    → (Option Val → Act W) → Run W
 calls_method m below here at i s n go = outcome_given (enter m.code here i s) at n (call_run below here at i s n go)
 
 -- ---- statements without blocks
@@ -108,7 +118,8 @@ sets m below here at x form e s n = outcome_given (made m.code e s) at n
     (λ r. assigned at x form r.0 (without_moved (right_moved m.code form e) r.1) n)
 
 abbrev pub assigns : {W : Type 0} → Machine W → Option (Below W) → Where → Spot → ℕ → RightSide → Act W
-assigns m below here at x e s n = outcome_given (there (here.context.local x)) at n (λ (l : Local). sets m below here at x l.form e s n)
+assigns m below here at x e s n = outcome_given (there (here.context.local x)) at n
+    (λ (l : Local). sets m below here at x l.form e s n)
 
 -- `p.f = e`: the expression is evaluated before the path, and a name that moves into the field has no value then
 abbrev pub stored : Code → Path → Expression → State → Outcome State
@@ -135,14 +146,16 @@ with_perm q f.Bool = f.Bool
 with_perm q (f.Object r k) = f.Object q k
 
 abbrev pub frozen : ℕ → State → Outcome State
-frozen x s = there (s.locals x) >>= λ b. Fine (with_bound x (Some (record b { form = with_perm perm.Immutable b.form })) s)
+frozen x s = there (s.locals x)
+    >>= λ b. Fine (with_bound x (Some (record b { form = with_perm perm.Immutable b.form })) s)
 
 abbrev pub shared_as : ℕ → ℕ → Bound → Val → State → State
 shared_as x g b v s = with_bound x (Some (record { form = with_perm (perm.Shared g) b.form; value = v })) s
 
 -- an object becomes the next member of a group; null stays null
 abbrev pub shared_value : ℕ → ℕ → Bound → Val → State → Store → Outcome State
-shared_value x g b (Owned t) s st = Fine (shared_as x g b (Member (prelude.length st)) (with_store g (Some (Here (st ++ (t ∷ [])))) s))
+shared_value x g b (Owned t) s st =
+    Fine (shared_as x g b (Member (prelude.length st)) (with_store g (Some (Here (st ++ (t ∷ [])))) s))
 shared_value x g b Null s st = Fine (shared_as x g b Null s)
 shared_value x g b _ s st = Lacks
 
@@ -206,7 +219,8 @@ splits_groups m here gs inner s n = chosen here.inside (λ _. inner s n) (λ _. 
 
 -- an atomic block of a group that is here is just its statements, and one of a group that is away asks
 abbrev pub locks : {W : Type 0} → Machine W → Option (Below W) → Where → Spot → NameAt → ℕ → Lines → Act W → Act W
-locks m below here at g number b inner s n = rules.given (cell_at g.name s n) (inner s n) (λ cell. asks m here at cell g number b (fuel_of below) s n)
+locks m below here at g number b inner s n = rules.given (cell_at g.name s n) (inner s n)
+    (λ cell. asks m here at cell g number b (fuel_of below) s n)
 
 -- a statement is marked as run where it begins
 abbrev pub begun : {W : Type 0} → Where → Spot → Act W → Act W
@@ -229,12 +243,15 @@ unfoldable mutual
   one m below here at (Repeats e nb b) s n = again m below here 0 at e b s n
   one m below here at (Groups g) s n = Went (with_store g.name (Some (Here [])) s) n
   one m below here at (Splits gs nb b) s n = splits_groups m here gs
-      (λ t k. left (splitting gs here).context (many m below (splitting gs here) (whole_block b (splitting gs here)) 0 b [] t k)) s n
+      (λ t k. left (splitting gs here).context
+      (many m below (splitting gs here) (whole_block b (splitting gs here)) 0 b [] t k)) s n
   one m below here at (Locks g number b) s n = locks m below here at g number b
-      (λ t k. left (locking g here).context (many m below (locking g here) (whole_block b (locking g here)) 0 b [] t k)) s n
+      (λ t k. left (locking g here).context
+      (many m below (locking g here) (whole_block b (locking g here)) 0 b [] t k)) s n
   one m below here at (Freezes x) s n = does at n (frozen x.name s)
   one m below here at (Shares x g) s n = does at n (shares_into x.name g.name s)
-  one m below here at (Prints e) s n = outcome_given (value m.code s e >>= printed_value) at n (λ bytes. prints_piece here bytes s n)
+  one m below here at (Prints e) s n = outcome_given (value m.code s e >>= printed_value) at n
+      (λ bytes. prints_piece here bytes s n)
   one m below here at (PrintsText text) s n = prints_piece here text s n
   one m below here at (Asserts e) s n = outcome_given (truth_of m.code s e) at n (λ test. asserts at test s n)
   one m below here at (Returns e) s n = does at n (returns_value m.code here.method e s)

@@ -9,7 +9,8 @@ use Rattle.ae_rules.specs.Judges as judges
 use Rattle.ae_rules.specs.Instances.{Instance}
 use Rattle.ae_semantics.specs.Values.{Owned, Array}
 use Rattle.ae_semantics.specs.Places.{CellName, State}
-use Rattle.ae_semantics.specs.Observations.{Piece, Image, Ask, Seen, Origin, Ending, Done, Mark, Ran, Turned, Entered, Asked, Used, Stopped, Notes, Observer}
+use Rattle.ae_semantics.specs.Observations.{Piece, Image, Ask, Seen, Origin, Ending, Done, Mark, Ran, Turned}
+use Rattle.ae_semantics.specs.Observations.{Entered, Asked, Used, Stopped, Notes, Observer}
 use Rattle.ae_semantics.specs.Runs.{Run, Went, Ends, Stops, Where, stopping, Machine}
 use Rattle.ae_semantics.specs.Calls.{takers, taken}
 use Rattle.ae_semantics.specs.Meaning.{block, below}

@@ -1,5 +1,6 @@
 -- Where a path leads, and how what stands there is read and changed.
-use Rattle.std.specs.Prelude.{ℕ, nat_eq, Bool, true, false, if◌then◌else◌, List, [], ◌∷◌, ◌++◌, Option, None, Some, option_map, slice_get}
+use Rattle.std.specs.Prelude.{ℕ, nat_eq, Bool, true, false, if◌then◌else◌, List, [], ◌∷◌, ◌++◌, Option, None, Some}
+use Rattle.std.specs.Prelude.{option_map, slice_get}
 use Rattle.std.specs.Prelude as prelude
 use Rattle.ae_tree.specs.declared.tree.NameAt.{NameAt}
 use Rattle.ae_tree.specs.declared.tree.Path.{Path}
@@ -13,7 +14,8 @@ use Rattle.ae_tree.specs.Plain.{Code}
 use Rattle.ae_rules.specs.Verdict.{given}
 use Rattle.ae_rules.specs.Lookups.{class_of, field_number, field_of_kind}
 use Rattle.ae_rules.specs.Walks.{owner}
-use Rattle.ae_semantics.specs.Values.{Val, Owned, Member, Tree, Object, Array, Values, Store, is_low, is_of_kind, fits, value_at, put_at}
+use Rattle.ae_semantics.specs.Values.{Val, Owned, Member, Tree, Object, Array, Values, Store, is_low, is_of_kind}
+use Rattle.ae_semantics.specs.Values.{fits, value_at, put_at}
 
 -- ---- outcomes
 
@@ -152,7 +154,8 @@ part_at form n = option_map (λ (x : Form). record { number = n; form = x }) for
 
 -- the field with this name of an object of this kind
 abbrev pub field_of_object : Code → Kind → ℕ → Option FieldPart
-field_of_object p k x = given (class_of p k) None (λ (c : Class). given (field_number c x) None (part_at (field_of_kind p k x)))
+field_of_object p k x = given (class_of p k) None
+    (λ (c : Class). given (field_number c x) None (part_at (field_of_kind p k x)))
 
 -- the fields of an object
 abbrev pub object_values : Tree → Option Values
@@ -164,7 +167,12 @@ field_value t i = given (object_values t) None (λ xs. value_at xs i)
 
 -- the place of a field of an object
 abbrev pub field_place : ObjectOpened → FieldPart → Val → PlaceFound
-field_place o x v = record { at = record { base = o.at.base; fields = o.at.fields ++ (x.number ∷ []) }; form = x.form; value = v }
+field_place o x v = record {
+  at = record { base = o.at.base; fields = o.at.fields ++ (x.number ∷ []) };
+  form =
+      x.form;
+  value = v;
+}
 
 -- a value that a step meets: one that is not of the field's form counts as null
 abbrev pub met : Code → PlaceFound → Outcome PlaceFound

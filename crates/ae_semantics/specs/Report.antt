@@ -1,12 +1,15 @@
 -- What a report of a run has to be: its events in a legal order, its ending and bytes explained by the meaning, and its lines those of the instances that ran.
-use Rattle.std.specs.Prelude.{◌≡◌, ◌≢◌, ◌<◌, ◌⊎◌, ◌↔◌, ℕ, suc, ◌-◌, nat_eq, ℤ, Bool, true, false, ◌&&◌, not, if◌then◌else◌, List, [], ◌∷◌, ◌++◌, map, take, drop, length, slice_get, Option, None, Some, Contains}
+use Rattle.std.specs.Prelude.{◌≡◌, ◌≢◌, ◌<◌, ◌⊎◌, ◌↔◌, ℕ, suc, ◌-◌, nat_eq, ℤ, Bool, true, false, ◌&&◌, not}
+use Rattle.std.specs.Prelude.{if◌then◌else◌, List, [], ◌∷◌, ◌++◌, map, take, drop, length, slice_get, Option, None}
+use Rattle.std.specs.Prelude.{Some, Contains}
 use Rattle.ae_text.specs.declared.refusal.Spot.{Spot}
 use Rattle.ae_tree.specs.Plain.{Code}
 use Rattle.ae_rules.specs.Verdict.{given}
 use Rattle.ae_rules.specs.Instances.{Instance, Ordered, Conflict}
 use Rattle.ae_rules.specs.Paths.{comes_before, is_prefix_of, later_of, is_simple_at}
 use Rattle.ae_semantics.specs.Places.{CellName}
-use Rattle.ae_semantics.specs.Observations.{Piece, Image, OfLog, Ask, Answer, Seen, OfBlock, OfCell, Origin, FromBlock, FromCell, Query, AtBlock, AtEnd, Ending, Done, Trap, Fuel}
+use Rattle.ae_semantics.specs.Observations.{Piece, Image, OfLog, Ask, Answer, Seen, OfBlock, OfCell, Origin}
+use Rattle.ae_semantics.specs.Observations.{FromBlock, FromCell, Query, AtBlock, AtEnd, Ending, Done, Trap, Fuel}
 use Rattle.ae_semantics.specs.Means.{At, Turn, First, Asking, Meant, mean, bytes}
 use Rattle.ae_semantics.specs.Atom.{atom, part}
 
@@ -52,7 +55,8 @@ AllPairs rel (x ∷ xs) = ((y : _) → Contains xs y → rel x y) × AllPairs re
 -- the second list has those of the first that pass, in their order
 abbrev pub Picks : {A : Type 0} → (A → Type 0) → List A → List A → Type 0
 Picks passes [] ys = ys ≡ []
-Picks passes (x ∷ xs) ys = (passes x × ((rest : List _) × (ys ≡ x ∷ rest) × Picks passes xs rest)) ⊎ ((passes x → ⊥) × Picks passes xs ys)
+Picks passes (x ∷ xs) ys = (passes x × ((rest : List _) × (ys ≡ x ∷ rest) × Picks passes xs rest))
+    ⊎ ((passes x → ⊥) × Picks passes xs ys)
 
 -- ---- observations in source order
 
@@ -73,7 +77,8 @@ is_of_cell (FromCell c) = true
 -- in source order, where a cell comes after all that lies in its split block
 abbrev pub origin_before : Origin → Origin → Bool
 origin_before a b = if is_prefix_of (origin_path a) (origin_path b) then not (is_of_cell a)
-    else (if is_prefix_of (origin_path b) (origin_path a) then is_of_cell b else comes_before (origin_path a) (origin_path b))
+    else (if is_prefix_of (origin_path b) (origin_path a) then is_of_cell b else comes_before (origin_path a)
+    (origin_path b))
 
 abbrev pub inserted : Item → List Item → List Item
 inserted x [] = x ∷ []
@@ -144,7 +149,8 @@ AllDiffer xs = AllPairs (λ m n. m ≢ n) xs
 abbrev pub Rises : List Event → List ℕ → Type 0
 Rises es [] = Unit {0}
 Rises es (i ∷ []) = Unit {0}
-Rises es (i ∷ j ∷ is) = ((d e : Event) → slice_get es i ≡ Some d → slice_get es j ≡ Some e → d.stamp < e.stamp) × Rises es (j ∷ is)
+Rises es (i ∷ j ∷ is) = ((d e : Event) → slice_get es i ≡ Some d → slice_get es j ≡ Some e → d.stamp < e.stamp)
+    × Rises es (j ∷ is)
 
 -- a block leads from an image to the next, and its answer is what it gives
 pub record LeadsTo (p : Code) (e : Event) (before after : Image) : Type 0 where
@@ -171,7 +177,8 @@ pub record Legal (p : Code) (r : Report) : Type 0 where
   pub places : (i : ℕ) → i < length r.events ↔ Contains r.order i
   pub once : AllDiffer r.order
   pub rises : Rises r.events r.order
-  pub leads : (i : ℕ) (c : Cell) → slice_get r.cells i ≡ Some c → Leads p (of_cell i (picked r.events r.order)) c.first c.last
+  pub leads : (i : ℕ) (c : Cell) → slice_get r.cells i ≡ Some c
+      → Leads p (of_cell i (picked r.events r.order)) c.first c.last
   pub ordered : (d e : Event) → Contains r.events d → Contains r.events e → Ordered p d.path e.path → d.stamp < e.stamp
 
 -- ---- explained
@@ -275,7 +282,8 @@ pub record Explained (p : Code) (ints : List ℤ) (fuel : ℕ) (r : Report) : Ty
   pub events : AreEvents r
   pub used : AreUsed (mean_of p ints fuel r) r
   pub past : ArePast (mean_of p ints fuel r) r
-  pub asked : (e : Event) (x : Asking) → Contains r.events e → asking_of r e ≡ Some x → Contains (part_of_report p ints fuel r).asked x
+  pub asked : (e : Event) (x : Asking) → Contains r.events e → asking_of r e ≡ Some x
+      → Contains (part_of_report p ints fuel r).asked x
   pub cells : Picks (IsReported p ints fuel r) (part_of_report p ints fuel r).firsts (map first_of r.cells)
   pub legal : Legal p r
   pub out : r.out ≡ bytes (mean_of p ints fuel r) (io_pieces p r (mean_of p ints fuel r))
@@ -292,12 +300,14 @@ InTurnsFrom x q = (u : ℕ) × (rest : Instance) × (q ≡ x.path ++ (u ∷ rest
 
 -- a line covers what lies at its path or below it, and a loop from a turn on also what lies in later turns
 abbrev pub Covers : Meant → LineRun → Instance → Type 0
-Covers m l q = (is_prefix_of l.path q ≡ true) ⊎ ((x : Turn) × Contains m.turns x × (l.path ≡ turn_path x) × InTurnsFrom x q)
+Covers m l q = (is_prefix_of l.path q ≡ true)
+    ⊎ ((x : Turn) × Contains m.turns x × (l.path ≡ turn_path x) × InTurnsFrom x q)
 
 -- the run ran the line's instance, or evaluated the condition of its turn
 abbrev pub IsLineOf : Meant → LineRun → Type 0
 IsLineOf m l = Contains m.ran (record { path = l.path; spot = l.at })
-    ⊎ ((x : Turn) × Contains m.turns x × (l.path ≡ turn_path x) × Contains m.ran (record { path = x.path; spot = l.at }))
+    ⊎ ((x : Turn) × Contains m.turns x × (l.path ≡ turn_path x)
+    × Contains m.ran (record { path = x.path; spot = l.at }))
 
 -- the instance comes after the ending, which is not the end of the program
 abbrev pub IsLater : Meant → Ending → Instance → Type 0
@@ -316,10 +326,12 @@ KeepInTime p l m = (Ordered p l.path m.path ⊎ Conflict p l.path m.path) → l.
 pub record Traced (p : Code) (ints : List ℤ) (fuel : ℕ) (r : Report) : Type 0 where
   pub differ : AllDiffer (line_stamps r.trace ++ stamps r.events)
   pub spans : (l : LineRun) → Contains r.trace l → l.began < l.ended
-  pub once : AllPairs (λ (l m : LineRun). (q : Instance) → Covers (traced_part p ints fuel r) l q → Covers (traced_part p ints fuel r) m q → ⊥) r.trace
+  pub once : AllPairs (λ (l m : LineRun). (q : Instance) → Covers (traced_part p ints fuel r) l q
+      → Covers (traced_part p ints fuel r) m q → ⊥) r.trace
   pub keeps : AllPairs (KeepInTime p) r.trace
   pub all_run : (x : At) → Contains (mean_of p ints fuel r).ran x → is_simple_at p x.path ≡ true
       → (l : LineRun) × Contains r.trace l × Covers (traced_part p ints fuel r) l x.path
   pub run_only : (l : LineRun) → Contains r.trace l → IsLineOf (traced_part p ints fuel r) l
-  pub meant : (l : LineRun) → Contains r.trace l → IsLater (mean_of p ints fuel r) r.ending l.path ⊎ IsLineOf (mean_of p ints fuel r) l
+  pub meant : (l : LineRun) → Contains r.trace l → IsLater (mean_of p ints fuel r) r.ending l.path
+      ⊎ IsLineOf (mean_of p ints fuel r) l
   pub sorted : AllPairs (λ (l m : LineRun). comes_before l.path m.path ≡ true) r.trace

@@ -1,5 +1,6 @@
 -- Runs, one after another, and the two ways through a block: up to the first ending, and past what stopped.
-use Rattle.std.specs.Prelude.{ℕ, suc, Bool, true, false, if◌then◌else◌, List, [], ◌∷◌, ◌++◌, length, Option, None, Some, ⊤}
+use Rattle.std.specs.Prelude.{ℕ, suc, Bool, true, false, if◌then◌else◌, List, [], ◌∷◌, ◌++◌, length, Option, None}
+use Rattle.std.specs.Prelude.{Some, ⊤}
 use Rattle.std.specs.List.{list_any}
 use Rattle.ae_text.specs.declared.refusal.Spot.{Spot}
 use Rattle.ae_tree.specs.declared.tree.NameAt.{NameAt}

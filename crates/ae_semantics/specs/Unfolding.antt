@@ -1,6 +1,7 @@
 -- A run that is under way, as a tree of the blocks that were begun, and when such a tree stands for the meaning past what stopped.
 use Rattle.ae_rules.specs.Edges.{Uses}
-use Rattle.std.specs.Prelude.{◌≡◌, ◌⊎◌, ℕ, zero, suc, nat_eq, nat_lt, ℤ, Bool, true, false, ◌&&◌, if◌then◌else◌, List, [], ◌∷◌, ◌++◌, map, Option, None, Some, is_some, option_map, Contains}
+use Rattle.std.specs.Prelude.{◌≡◌, ◌⊎◌, ℕ, zero, suc, nat_eq, nat_lt, ℤ, Bool, true, false, ◌&&◌, if◌then◌else◌}
+use Rattle.std.specs.Prelude.{List, [], ◌∷◌, ◌++◌, map, Option, None, Some, is_some, option_map, Contains}
 use Rattle.ae_text.specs.declared.refusal.Spot.{Spot}
 use Rattle.ae_rules.specs.declared.uses.Resource.TheVariants as resource
 use Rattle.ae_rules.specs.declared.uses.Mode.{Mode}
@@ -12,7 +13,8 @@ use Rattle.ae_rules.specs.Uses.{lines_use}
 use Rattle.ae_rules.specs.Blocks.{Scene, scene_uses}
 use Rattle.ae_semantics.specs.Places.{State, group_of}
 use Rattle.ae_semantics.specs.Contexts.{shuts_out}
-use Rattle.ae_semantics.specs.Observations.{Piece, Answer, Seen, OfBlock, OfCell, Query, AtBlock, AtEnd, Ending, Notes, Observer}
+use Rattle.ae_semantics.specs.Observations.{Piece, Answer, Seen, OfBlock, OfCell, Query, AtBlock, AtEnd, Ending}
+use Rattle.ae_semantics.specs.Observations.{Notes, Observer}
 use Rattle.ae_semantics.specs.Runs.{Run, Went, Ends, Stops, Act, Where, Order, flow_step, flow_close, Machine}
 use Rattle.ae_rules.specs.Instances.{Instance, Ordered}
 use Rattle.ae_rules.specs.Paths.{is_prefix_of}
@@ -71,7 +73,8 @@ all_wait (Next at a rest) = Then Waiting (all_wait rest)
 
 -- the tree before anything ran: the body of `main`, all of whose statements wait
 abbrev pub fresh : Code → List ℤ → Option BlockFrame
-fresh p ints = given (run_start p ints) None (λ (x : Start). Some (Begun (record { state = x.state; log = [] }) (all_wait x.method.body)))
+fresh p ints = given (run_start p ints) None
+    (λ (x : Start). Some (Begun (record { state = x.state; log = [] }) (all_wait x.method.body)))
 
 -- ---- the nodes of the tree
 
@@ -88,7 +91,8 @@ abbrev mutual
   -- the statements of a block from a number on
   pub nodes_from : Instance → ℕ → Stages → List Node
   nodes_from q j NoMore = []
-  nodes_from q j (Then x rest) = record { path = q ++ (j ∷ []); stage = x } ∷ (nodes_inside (q ++ (j ∷ [])) x ++ nodes_from q (suc j) rest)
+  nodes_from q j (Then x rest) = record { path = q ++ (j ∷ []); stage = x }
+      ∷ (nodes_inside (q ++ (j ∷ [])) x ++ nodes_from q (suc j) rest)
 
   -- the statements inside a statement; a branch and a turn have a number of their own
   pub nodes_inside : Instance → FrameStage → List Node
@@ -306,7 +310,8 @@ pub record Trail : Type 0 where
 
 -- the values at statement j of the block, as its path is there
 abbrev pub passage : {W : Type 0} → Where → Scene → ℕ → State → Notes W → Passage
-passage here all j s n = record { path = here.path ++ (j ∷ []); block = all; number = j; moment = record { state = s; log = n.log } }
+passage here all j s n = record
+    { path = here.path ++ (j ∷ []); block = all; number = j; moment = record { state = s; log = n.log } }
 
 -- this was found
 abbrev pub with_found : Passage → Notes Trail → Notes Trail
@@ -355,7 +360,8 @@ trail p ints fuel table = (notes_of (watched_run p ints fuel table)).watch
 
 -- the run that is watched comes to what `part` comes to
 abbrev pub WatchingChangesNothing : Type 0
-WatchingChangesNothing = (p : Code) (ints : List ℤ) (fuel : ℕ) (table : Query → Option Seen) → meant (watched_run p ints fuel table) ≡ part p ints fuel table
+WatchingChangesNothing = (p : Code) (ints : List ℤ) (fuel : ℕ) (table : Query → Option Seen)
+    → meant (watched_run p ints fuel table) ≡ part p ints fuel table
 
 -- the same with the tree's observations
 abbrev pub trail_of : Code → List ℤ → ℕ → BlockFrame → Trail
@@ -458,15 +464,18 @@ under_way tree = unfinished tree ++ map halt_place (halted tree) ++ map Only (un
 -- The tree stands for the meaning past what stopped, with the tree's own events and cells as the observations.
 pub record StandsFor (p : Code) (ints : List ℤ) (fuel : ℕ) (tree : BlockFrame) : Type 0 where
   -- what went through is run by the meaning, and has left what the meaning has there
-  pub each_left : (x : Result) → Contains (results tree) x → IsRun (part_of_frame p ints fuel tree) x.path × IsLeft p (trail_of p ints fuel tree) x
+  pub each_left : (x : Result) → Contains (results tree) x → IsRun (part_of_frame p ints fuel tree) x.path
+      × IsLeft p (trail_of p ints fuel tree) x
   -- a turn that is begun or next is one whose condition the meaning evaluates
   pub each_turn : (x : Turn) → Contains (turns tree) x → Contains (part_of_frame p ints fuel tree).turns x
   pub each_between : (x : Between) → Contains (betweens tree) x → IsBetween p (trail_of p ints fuel tree) x
   -- a statement whose block is being run is run by the meaning, and the block is entered as it is there
   pub each_unfolded : (q : Instance) → Contains (unfolded tree) q → IsRun (part_of_frame p ints fuel tree) q
-  pub each_entered : (x : PlacedFrame) → Contains (frames tree) x → IsFrameEntered p (trail_of p ints fuel tree) x.path x.frame
+  pub each_entered : (x : PlacedFrame) → Contains (frames tree) x
+      → IsFrameEntered p (trail_of p ints fuel tree) x.path x.frame
   -- what ended is the first to end there, with that ending
-  pub each_halt : (x : Halt) → Contains (halted tree) x → first_ending x.path (part_of_frame p ints fuel tree).stopped ≡ Some x.ending
+  pub each_halt : (x : Halt) → Contains (halted tree) x → first_ending x.path (part_of_frame p ints fuel tree).stopped
+      ≡ Some x.ending
   -- what is left out keeps its place after what ended
   pub each_left_out : (q : Instance) → Contains (left_out tree) q → IsAfter p (map halt_place (halted tree)) q
   -- the events and the cells are what is observed

@@ -1,5 +1,6 @@
 -- Values: numbers, truths, null, trees of objects, and references to the members of a group.
-use Rattle.std.specs.Prelude.{ℕ, zero, suc, ◌+◌, nat_eq, nat_lt, max, ℤ, Bool, true, false, ◌&&◌, List, [], ◌∷◌, length, Option, None, Some}
+use Rattle.std.specs.Prelude.{ℕ, zero, suc, ◌+◌, nat_eq, nat_lt, max, ℤ, Bool, true, false, ◌&&◌, List, [], ◌∷◌}
+use Rattle.std.specs.Prelude.{length, Option, None, Some}
 use Rattle.std.specs.List.{list_all}
 use Rattle.ae_tree.specs.declared.tree.Class.{Class}
 use Rattle.ae_tree.specs.declared.form.Perm.{Perm}
@@ -71,7 +72,8 @@ abbrev pub is_of_kind : Code → Kind → Tree → Bool
 is_of_kind p kind.Ints (Array ns) = true
 is_of_kind p kind.Ints (Object x xs) = false
 is_of_kind p (kind.Class c gs) (Array ns) = false
-is_of_kind p (kind.Class c gs) (Object x xs) = nat_eq c x && given (class_called p c) false (λ (d : Class). nat_eq (length d.fields) (value_count xs))
+is_of_kind p (kind.Class c gs) (Object x xs) = nat_eq c x && given (class_called p c) false
+    (λ (d : Class). nat_eq (length d.fields) (value_count xs))
 
 -- a shared place takes null and references, any other place for objects takes null and trees
 abbrev pub fits_object : Code → Perm → Kind → Val → Bool

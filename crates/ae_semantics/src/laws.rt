@@ -1,6 +1,7 @@
 // Laws over the meaning alone.
 ghost use Rattle.ae_semantics.specs.Gathering.{GoesByItsAnswers};
-ghost use Rattle.ae_semantics.specs.Laws.{ContextsAreJudged, FreshStandsFor, OneEnding, MoreChangesNothing, NothingBegunIsAfter};
+ghost use Rattle.ae_semantics.specs.Laws.{ContextsAreJudged, FreshStandsFor, OneEnding, MoreChangesNothing};
+ghost use Rattle.ae_semantics.specs.Laws.{NothingBegunIsAfter};
 ghost use Rattle.ae_semantics.specs.Unfolding.{WatchingChangesNothing};
 
 /// After a statement that is judged the meaning goes on in the context that the judgement comes to.

@@ -1,5 +1,6 @@
 -- The tokens that count in an expression are those that its tree counts.
-use Rattle.std.proofs.Common.{◌≡◌, ℕ, ◌+◌, ◌++◌, List, [], ◌∷◌, length, Bool, true, false, if◌then◌else◌, refl, sym, ap, ◌∙◌, arith, inl, inr}
+use Rattle.std.proofs.Common.{◌≡◌, ℕ, ◌+◌, ◌++◌, List, [], ◌∷◌, length, Bool, true, false, if◌then◌else◌, refl, sym}
+use Rattle.std.proofs.Common.{ap, ◌∙◌, arith, inl, inr}
 use Rattle.ae_text.specs.declared.refusal.Spot.{Spot}
 use Rattle.ae_text.specs.declared.token.Keyword.TheVariants as word
 use Rattle.ae_text.specs.declared.token.Sign.TheVariants as sign
@@ -19,7 +20,8 @@ weight k = if is_mark k then 1 else 0
 
 pub marks_in-append : (a b : Tokens) → marks_in (a ++ b) ≡ marks_in a + marks_in b
 marks_in-append [] b = omega arith
-marks_in-append (t ∷ a) b = let ih : marks_in (a ++ b) ≡ marks_in a + marks_in b = marks_in-append a b in omega (arith, ih)
+marks_in-append (t ∷ a) b = let ih : marks_in (a ++ b) ≡ marks_in a + marks_in b = marks_in-append a b in omega
+    (arith, ih)
 
 in_parts : (us a b : Tokens) → us ≡ a ++ b → marks_in us ≡ marks_in a + marks_in b
 in_parts us a b e = ap marks_in e ∙ marks_in-append a b
@@ -84,10 +86,12 @@ expression_marks (Read p) l us d = path_marks p us d
 expression_marks (Item p e) l us d =
     let a : marks_in us ≡ marks_in d.front + marks_in d.back = in_parts us d.front d.back d.parts in
     let b : length p.steps ≡ marks_in d.front = path_marks p d.front d.first in
-    let c : marks_in d.back ≡ marks_in d.second.front + marks_in d.second.back = in_parts d.back d.second.front d.second.back d.second.parts in
+    let c : marks_in d.back ≡ marks_in d.second.front + marks_in d.second.back =
+    in_parts d.back d.second.front d.second.back d.second.parts in
     let f : marks_in d.second.front ≡ 1 = one_mark (tok.Sign sign.OpenBracket) d.second.front d.second.first in
     let q = d.second.second in
-    let g : marks_in d.second.back ≡ marks_in q.front + marks_in q.back = in_parts d.second.back q.front q.back q.parts in
+    let g : marks_in d.second.back ≡ marks_in q.front + marks_in q.back =
+    in_parts d.second.back q.front q.back q.parts in
     let h : marks e ≡ marks_in q.front = expression_marks e 0 q.front q.first in
     let i : marks_in q.back ≡ 0 = one_mark (tok.Sign sign.CloseBracket) q.back q.second in
     omega (arith, a, b, c, f, g, h, i)

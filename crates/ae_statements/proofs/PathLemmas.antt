@@ -1,5 +1,6 @@
 -- Paths, told apart by whether their first token is a name.
-use Rattle.std.proofs.Common.{◌≡◌, ℕ, ◌++◌, [], ◌∷◌, inl, inr, Bool, true, false, MatchBool, Option, Some, None, refl, sym, ap, ◌∙◌, append_assoc, append-nil, subst}
+use Rattle.std.proofs.Common.{◌≡◌, ℕ, ◌++◌, [], ◌∷◌, inl, inr, Bool, true, false, MatchBool, Option, Some, None}
+use Rattle.std.proofs.Common.{refl, sym, ap, ◌∙◌, append_assoc, append-nil, subst}
 use Rattle.ae_text.specs.declared.token.Keyword.TheVariants as word
 use Rattle.ae_text.specs.declared.token.Sign.TheVariants as sign
 use Rattle.ae_tree.specs.declared.lexeme.Lexeme.{Lexeme}
@@ -45,15 +46,18 @@ name_this n e = cc
 this_name : (n : ℕ) → tok.Word word.This ≡ tok.Name n → ⊥
 this_name n e = cc
 
-root_named : (b : Bool) (x : NameAt) (us r : Tokens) (o : Option Lexeme) → root x us → head (us ++ r) ≡ o → Named b o → rooted b x us
+root_named : (b : Bool) (x : NameAt) (us r : Tokens) (o : Option Lexeme) → root x us → head (us ++ r) ≡ o → Named b o
+    → rooted b x us
 root_named true x us r o (inl d) h n = d
 root_named true x us r o (inr d) h n =
     let P : Option Lexeme → Type 0 = IsName in
-    let there : IsName (Some (record { kind = tok.Word word.This; at = x.at })) = subst P (sym h ∙ ap (λ l. head (l ++ r)) d.1) n in
+    let there : IsName (Some (record { kind = tok.Word word.This; at = x.at })) =
+    subst P (sym h ∙ ap (λ l. head (l ++ r)) d.1) n in
     absurd (this_name there.0 there.1)
 root_named false x us r o (inl d) h n =
     let P : Option Lexeme → Type 0 = Is (tok.Word word.This) in
-    let there : Is (tok.Word word.This) (Some (record { kind = tok.Name x.name; at = x.at })) = subst P (sym h ∙ ap (λ l. head (l ++ r)) d) n in
+    let there : Is (tok.Word word.This) (Some (record { kind = tok.Name x.name; at = x.at })) =
+    subst P (sym h ∙ ap (λ l. head (l ++ r)) d) n in
     absurd (name_this x.name there)
 root_named false x us r o (inr d) h n = d
 
@@ -62,8 +66,10 @@ rooted_root true x us d = inl d
 rooted_root false x us d = inr d
 
 rooted_named : (b : Bool) (x : NameAt) (us r : Tokens) → rooted b x us → Named b (head (us ++ r))
-rooted_named true x us r d = let P : Option Lexeme → Type 0 = IsName in subst P (sym (ap (λ l. head (l ++ r)) d)) (x.name, refl)
-rooted_named false x us r d = let P : Option Lexeme → Type 0 = Is (tok.Word word.This) in subst P (sym (ap (λ l. head (l ++ r)) d.1)) refl
+rooted_named true x us r d = let P : Option Lexeme → Type 0 = IsName in subst P (sym (ap (λ l. head (l ++ r)) d))
+    (x.name, refl)
+rooted_named false x us r d = let P : Option Lexeme
+    → Type 0 = Is (tok.Word word.This) in subst P (sym (ap (λ l. head (l ++ r)) d.1)) refl
 
 pub one_spelling : (b c : Bool) (o : Option Lexeme) → Named b o → Named c o → b ≡ c
 one_spelling true true o n m = refl
@@ -73,14 +79,31 @@ one_spelling true false (Some t) n m = absurd (both_kinds t n.0 n.1 m)
 one_spelling false true None n m = absurd n
 one_spelling false true (Some t) n m = absurd (both_kinds t m.0 m.1 n)
 
-first_head : {p q : Tokens → Type 0} (us r : Tokens) (d : Then p q us) → head (d.front ++ (d.back ++ r)) ≡ head (us ++ r)
+first_head : {p q : Tokens → Type 0} (us r : Tokens) (d : Then p q us) → head (d.front ++ (d.back ++ r))
+    ≡ head (us ++ r)
 first_head us r d = ap head (sym (append_assoc d.front d.back r) ∙ ap (λ l. l ++ r) (sym d.parts))
 
 pub spelled_path : (q : Bool × Path) (us : Tokens) → spelled q us → path q.1 us
-spelled_path q us d = record { front = d.front; back = d.back; parts = d.parts; first = rooted_root q.0 q.1.root d.front d.first; second = d.second }
+spelled_path q us d = record {
+  front = d.front;
+  back = d.back;
+  parts = d.parts;
+  first
+      = rooted_root q.0 q.1.root d.front d.first;
+  second = d.second;
+}
 
-pub path_spelled : (b : Bool) (p : Path) (us r : Tokens) (o : Option Lexeme) → path p us → head (us ++ r) ≡ o → Named b o → spelled (b, p) us
-path_spelled b p us r o d h n = record { front = d.front; back = d.back; parts = d.parts; first = root_named b p.root d.front (d.back ++ r) o d.first (first_head us r d ∙ h) n; second = d.second }
+pub path_spelled : (b : Bool) (p : Path) (us r : Tokens) (o : Option Lexeme) → path p us → head (us ++ r) ≡ o
+    → Named b o → spelled (b, p) us
+path_spelled b p us r o d h n =
+    record {
+      front = d.front;
+      back = d.back;
+      parts = d.parts;
+      first = root_named b p.root d.front
+          (d.back ++ r) o d.first (first_head us r d ∙ h) n;
+      second = d.second;
+    }
 
 -- a path is spelled in one way
 pub path_by : (p : Path) (us : Tokens) → path p us → (b : Bool) × spelled (b, p) us
@@ -95,7 +118,8 @@ spelled_named q us r d =
     let P : Option Lexeme → Type 0 = Named q.0 in
     subst P (first_head us r d) (rooted_named q.0 q.1.root d.front (d.back ++ r) d.first)
 
-pub took_spelled : {F : Option Lexeme → Type 0} (b : Bool) {ts rest : Tokens} {p : Path} → Named b (head ts) → Took path Free F ts p rest → Took spelled Free F ts (b, p) rest
+pub took_spelled : {F : Option Lexeme → Type 0} (b : Bool) {ts rest : Tokens} {p : Path} → Named b (head ts)
+    → Took path Free F ts p rest → Took spelled Free F ts (b, p) rest
 took_spelled {F} b {ts} {rest} {p} n t = record {
   taken = t.taken;
   whole = t.whole;
@@ -118,24 +142,29 @@ one_path : (x : NameAt) (us : Tokens) → root x us → path (record { root = x;
 one_path x us d = record { front = us; back = []; parts = sym (append-nil us); first = d; second = refl }
 
 -- the next token alone is a path
-root_here : (b : Bool) (ts : Tokens) → Named b (head ts) → (p : Path) × (t : Lexeme) × (head ts ≡ Some t) × path p (t ∷ [])
+root_here : (b : Bool) (ts : Tokens) → Named b (head ts) → (p : Path) × (t : Lexeme) × (head ts ≡ Some t)
+    × path p (t ∷ [])
 root_here true [] n = absurd n
 root_here true (t ∷ ts) n =
     let x : NameAt = record { name = n.0; at = t.at } in
-    let is : t ∷ [] ≡ record { kind = tok.Name n.0; at = t.at } ∷ [] = ap (λ k. record { kind = k; at = t.at } ∷ []) n.1 in
+    let is : t ∷ [] ≡ record { kind = tok.Name n.0; at = t.at }
+    ∷ [] = ap (λ k. record { kind = k; at = t.at } ∷ []) n.1 in
     (record { root = x; steps = [] }, t, refl, one_path x (t ∷ []) (inl is))
 root_here false [] n = absurd n
 root_here false (t ∷ ts) n =
     let x : NameAt = record { name = this; at = t.at } in
-    let is : t ∷ [] ≡ record { kind = tok.Word word.This; at = t.at } ∷ [] = ap (λ k. record { kind = k; at = t.at } ∷ []) n in
+    let is : t ∷ [] ≡ record { kind = tok.Word word.This; at = t.at }
+    ∷ [] = ap (λ k. record { kind = k; at = t.at } ∷ []) n in
     (record { root = x; steps = [] }, t, refl, one_path x (t ∷ []) (inr (refl, is)))
 
 -- a path does not stop at its first token, where that is a name or `this`
-not_at_once : (b : Bool) (ts : Tokens) (why : Why) (left : ℕ) → Named b (head ts) → (u : Stopped path Free (Isnt (tok.Sign sign.Dot)) ts why left) → u.before ≡ [] → ⊥
+not_at_once : (b : Bool) (ts : Tokens) (why : Why) (left : ℕ) → Named b (head ts)
+    → (u : Stopped path Free (Isnt (tok.Sign sign.Dot)) ts why left) → u.before ≡ [] → ⊥
 not_at_once b ts why left n u e =
     let p = root_here b ts n in
     let same : ts ≡ u.rest = u.whole ∙ ap (λ l. l ++ u.rest) e in
-    u.stuck p.0 (p.1 ∷ []) [] (p.1 ∷ []) p.3 (ap (λ l. l ++ (p.1 ∷ [])) (sym e)) (sym p.2 ∙ ap head same) tt (free_counts why)
+    u.stuck p.0 (p.1 ∷ []) [] (p.1 ∷ []) p.3 (ap (λ l. l ++ (p.1 ∷ [])) (sym e)) (sym p.2 ∙ ap head same) tt
+    (free_counts why)
 
 begun : (before rest ts more : Tokens) → ts ≡ before ++ rest → (before ≡ [] → ⊥) → head (before ++ more) ≡ head ts
 begun [] rest ts more w some = absurd (some refl)
@@ -154,7 +183,8 @@ no_head b [] n i some = some refl
 no_head b (t ∷ us) n (inl i) some = no_comma_root b t n i.0
 no_head b (t ∷ us) n (inr i) some = no_opener_root b t n i.0
 
-spelled_lead : (b : Bool) (before rest ts : Tokens) → Named b (head ts) → ts ≡ before ++ rest → (before ≡ [] → ⊥) → Lead path Free before → Lead spelled Free before
+spelled_lead : (b : Bool) (before rest ts : Tokens) → Named b (head ts) → ts ≡ before ++ rest → (before ≡ [] → ⊥)
+    → Lead path Free before → Lead spelled Free before
 spelled_lead b before rest ts n w some u = record {
   start = u.start;
   ahead = u.ahead;
@@ -162,7 +192,9 @@ spelled_lead b before rest ts n w some u = record {
   leads = u.leads;
   tree = (b, u.tree);
   more = u.more;
-  goes = path_spelled b u.tree (u.start ++ u.more) [] (head ts) u.goes (ap head (append-nil (u.start ++ u.more)) ∙ begun u.start (u.ahead ++ rest) ts u.more (w ∙ ap (λ l. l ++ rest) u.parts ∙ append_assoc u.start u.ahead rest) started) n;
+  goes = path_spelled b u.tree (u.start ++ u.more) [] (head ts) u.goes
+      (ap head (append-nil (u.start ++ u.more)) ∙ begun u.start (u.ahead ++ rest) ts u.more
+      (w ∙ ap (λ l. l ++ rest) u.parts ∙ append_assoc u.start u.ahead rest) started) n;
   known = u.known;
   within = λ l. tt;
 }
@@ -172,10 +204,11 @@ spelled_lead b before rest ts n w some u = record {
         let same : before ≡ u.ahead = u.parts ∙ ap (λ l. l ++ u.ahead) e in
         let P : Tokens → Type 0 = IsHead in
         let Q : Option Lexeme → Type 0 = Named b in
-        let there : head (before ++ []) ≡ head ts = begun before rest ts [] w some in
-        no_head b before (subst Q (sym there ∙ ap head (append-nil before)) n) (subst P (sym same) u.leads) some
+        let there : head (before ++ []) ≡ head ts = begun before rest ts [] w some
+        in no_head b before (subst Q (sym there ∙ ap head (append-nil before)) n) (subst P (sym same) u.leads) some
 
-spelled_beyond : (b : Bool) (why : Why) (before rest ts : Tokens) → Named b (head ts) → ts ≡ before ++ rest → (before ≡ [] → ⊥) → Beyond path Free before rest why → Beyond spelled Free before rest why
+spelled_beyond : (b : Bool) (why : Why) (before rest ts : Tokens) → Named b (head ts) → ts ≡ before ++ rest
+    → (before ≡ [] → ⊥) → Beyond path Free before rest why → Beyond spelled Free before rest why
 spelled_beyond b Unexpected before rest ts n w some u = tt
 spelled_beyond b (Over l) before rest ts n w some u = record {
   next = u.next;
@@ -183,13 +216,16 @@ spelled_beyond b (Over l) before rest ts n w some u = record {
   rest_is = u.rest_is;
   tree = (b, u.tree);
   after = u.after;
-  goes_on = path_spelled b u.tree (before ++ (u.next ∷ u.after)) [] (head ts) u.goes_on (ap head (append-nil (before ++ (u.next ∷ u.after))) ∙ begun before rest ts (u.next ∷ u.after) w some) n;
+  goes_on = path_spelled b u.tree (before ++ (u.next ∷ u.after)) [] (head ts) u.goes_on
+      (ap head (append-nil (before ++ (u.next ∷ u.after))) ∙ begun before rest ts (u.next ∷ u.after) w some) n;
   known = u.known;
   passes = u.passes;
   others = λ m k. tt;
 }
 
-pub stopped_spelled : (b : Bool) {ts : Tokens} {why : Why} {left : ℕ} → Named b (head ts) → Stopped path Free (Isnt (tok.Sign sign.Dot)) ts why left → Stopped spelled Free (Isnt (tok.Sign sign.Dot)) ts why left
+pub stopped_spelled : (b : Bool) {ts : Tokens} {why : Why} {left : ℕ} → Named b (head ts)
+    → Stopped path Free (Isnt (tok.Sign sign.Dot)) ts why left
+    → Stopped spelled Free (Isnt (tok.Sign sign.Dot)) ts why left
 stopped_spelled b {ts} {why} {left} n u = record {
   before = u.before;
   rest = u.rest;
@@ -197,7 +233,9 @@ stopped_spelled b {ts} {why} {left} n u = record {
   left_is = u.left_is;
   tree = (b, u.tree);
   more = u.more;
-  goes = path_spelled b u.tree (u.before ++ u.more) [] (head ts) u.goes (ap head (append-nil (u.before ++ u.more)) ∙ begun u.before u.rest ts u.more u.whole (not_at_once b ts why left n u)) n;
+  goes = path_spelled b u.tree (u.before ++ u.more) [] (head ts) u.goes
+      (ap head (append-nil (u.before ++ u.more)) ∙ begun u.before u.rest ts u.more u.whole
+      (not_at_once b ts why left n u)) n;
   known = u.known;
   within = λ l. tt;
   lead = spelled_lead b u.before u.rest ts n u.whole (not_at_once b ts why left n u) u.lead;
@@ -206,5 +244,6 @@ stopped_spelled b {ts} {why} {left} n u = record {
   beyond = spelled_beyond b why u.before u.rest ts n u.whole (not_at_once b ts why left n u) u.beyond;
 }
 
-pub failed_spelled : (b : Bool) {ts : Tokens} {e : Fail} → Named b (head ts) → Failed path Free (Isnt (tok.Sign sign.Dot)) ts e → Failed spelled Free (Isnt (tok.Sign sign.Dot)) ts e
+pub failed_spelled : (b : Bool) {ts : Tokens} {e : Fail} → Named b (head ts)
+    → Failed path Free (Isnt (tok.Sign sign.Dot)) ts e → Failed spelled Free (Isnt (tok.Sign sign.Dot)) ts e
 failed_spelled b n f = failed_by (λ why left s. stopped_spelled b n s) f

@@ -16,7 +16,9 @@ use Rattle.ae_tree.specs.Limits.{KeepsDepth}
 use Rattle.ae_tree.specs.Refused.{IsKnown, counts_sign}
 use Rattle.ae_reading.specs.declared.fail.Fail.{Fail}
 use Rattle.ae_reading.specs.Reads.{head, Always, Free, Took, Failed, Token, TokenMark}
-use Rattle.ae_statements.proofs.from_reading.ReadsLemmas.{Lang, Bound, Follow, Links, Both, Pair, Has, Along, AreKnown-append, took_as, failed_as, first, second, both, free, took_mark, failed_mark, has_mark, nowhere, at_once}
+use Rattle.ae_statements.proofs.from_reading.ReadsLemmas.{Lang, Bound, Follow, Links, Both, Pair, Has, Along}
+use Rattle.ae_statements.proofs.from_reading.ReadsLemmas.{AreKnown-append, took_as, failed_as, first, second, both}
+use Rattle.ae_statements.proofs.from_reading.ReadsLemmas.{free, took_mark, failed_mark, has_mark, nowhere, at_once}
 use Rattle.ae_statements.proofs.from_reading.Begins.{Opens}
 use Rattle.ae_expressions.specs.Ends.{Ends}
 
@@ -25,7 +27,8 @@ use Rattle.ae_expressions.specs.Ends.{Ends}
 abbrev pub Pre : {A : Type 0} → Lexical → Lang A → Lang A
 Pre k D x = one_token k ⨾ D x
 
-pre_along : {A : Type 0} (k : Lexical) (D : Lang A) (W : Bound A) (ts : Tokens) → Along (Pre k D) (Both (TokenMark k) D) W (Pair Free W) ts (λ q. q.1)
+pre_along : {A : Type 0} (k : Lexical) (D : Lang A) (W : Bound A) (ts : Tokens)
+    → Along (Pre k D) (Both (TokenMark k) D) W (Pair Free W) ts (λ q. q.1)
 pre_along k D W ts = record {
   intro = λ q us d. d;
   cases = λ y us r d h. ((tt, y), refl, d);
@@ -33,17 +36,22 @@ pre_along k D W ts = record {
   from = λ q us d l v. (tt, v);
 }
 
-pub took_pre : {A : Type 0} {k : Lexical} (D : Lang A) {W : Bound A} {F : Follow} {ts mid rest : Tokens} {at : Spot} {x : A} →
+pub took_pre : {A : Type 0} {k : Lexical} (D : Lang A) {W : Bound A} {F : Follow} {ts mid rest : Tokens} {at : Spot}
+    {x : A} →
     Took (Token k) Free Always ts at mid → Took D W F mid x rest → Took (Pre k D) W F ts x rest
-took_pre {A} {k} D {W} {F} {ts} t u = took_as (Pre k D) (Both (TokenMark k) D) (λ q. q.1) (pre_along k D W ts) (both (free D F) (took_mark t) u)
+took_pre {A} {k} D {W} {F} {ts} t u = took_as (Pre k D) (Both (TokenMark k) D) (λ q. q.1) (pre_along k D W ts)
+    (both (free D F) (took_mark t) u)
 
 pub pre_first : {A : Type 0} {k : Lexical} (D : Lang A) {W : Bound A} {F : Follow} {ts : Tokens} {e : Fail} →
     Has D W → Failed (Token k) Free Always ts e → Failed (Pre k D) W F ts e
-pre_first {A} {k} D {W} {F} {ts} has f = failed_as (Pre k D) (Both (TokenMark k) D) (λ q. q.1) (pre_along k D W ts) (first {F = Always} {G = F} (free D F) has (failed_mark f))
+pre_first {A} {k} D {W} {F} {ts} has f = failed_as (Pre k D) (Both (TokenMark k) D) (λ q. q.1) (pre_along k D W ts)
+    (first {F = Always} {G = F} (free D F) has (failed_mark f))
 
-pub pre_second : {A : Type 0} {k : Lexical} (D : Lang A) {W : Bound A} {F : Follow} {ts mid : Tokens} {at : Spot} {e : Fail} →
+pub pre_second : {A : Type 0} {k : Lexical} (D : Lang A) {W : Bound A} {F : Follow} {ts mid : Tokens} {at : Spot}
+    {e : Fail} →
     Took (Token k) Free Always ts at mid → Failed D W F mid e → Failed (Pre k D) W F ts e
-pre_second {A} {k} D {W} {F} {ts} t f = failed_as (Pre k D) (Both (TokenMark k) D) (λ q. q.1) (pre_along k D W ts) (second (free D F) (took_mark t) f)
+pre_second {A} {k} D {W} {F} {ts} t f = failed_as (Pre k D) (Both (TokenMark k) D) (λ q. q.1) (pre_along k D W ts)
+    (second (free D F) (took_mark t) f)
 
 pub has_pre : {A : Type 0} (k : Lexical) (D : Lang A) {W : Bound A} → IsKnown k → Has D W → Has (Pre k D) W
 has_pre k D known x = record {
@@ -59,7 +67,8 @@ has_pre k D known x = record {
 abbrev pub Suf : {A : Type 0} → Lang A → Lexical → Lang A
 Suf D k x = D x ⨾ one_token k
 
-suf_along : {A : Type 0} (k : Lexical) (D : Lang A) (W : Bound A) (ts : Tokens) → Along (Suf D k) (Both D (TokenMark k)) W (Pair W Free) ts (λ q. q.0)
+suf_along : {A : Type 0} (k : Lexical) (D : Lang A) (W : Bound A) (ts : Tokens)
+    → Along (Suf D k) (Both D (TokenMark k)) W (Pair W Free) ts (λ q. q.0)
 suf_along k D W ts = record {
   intro = λ q us d. d;
   cases = λ y us r d h. ((y, tt), refl, d);
@@ -72,19 +81,25 @@ abbrev pub Lets : Lexical → Follow → Type 0
 Lets k F = (t : Lexeme) → t.kind ≡ k → F (Some t)
 
 mark_lets : {k : Lexical} (F : Follow) → Lets k F → Links (TokenMark k) Always F
-mark_lets {k} F lets y us r d f = let P : Tokens → Type 0 = λ v. F (head (v ++ r)) in subst P (sym d.1) (lets (record { kind = k; at = d.0 }) refl)
+mark_lets {k} F lets y us r d f = let P : Tokens → Type 0 = λ v. F (head (v ++ r)) in subst P (sym d.1)
+    (lets (record { kind = k; at = d.0 }) refl)
 
-pub took_suf : {A : Type 0} {k : Lexical} (D : Lang A) {W : Bound A} {F : Follow} {ts mid rest : Tokens} {at : Spot} {x : A} →
+pub took_suf : {A : Type 0} {k : Lexical} (D : Lang A) {W : Bound A} {F : Follow} {ts mid rest : Tokens} {at : Spot}
+    {x : A} →
     Lets k F → Took D W F ts x mid → Took (Token k) Free Always mid at rest → Took (Suf D k) W Always ts x rest
-took_suf {A} {k} D {W} {F} {ts} lets t u = took_as (Suf D k) (Both D (TokenMark k)) (λ q. q.0) (suf_along k D W ts) (both (mark_lets F lets) t (took_mark u))
+took_suf {A} {k} D {W} {F} {ts} lets t u = took_as (Suf D k) (Both D (TokenMark k)) (λ q. q.0) (suf_along k D W ts)
+    (both (mark_lets F lets) t (took_mark u))
 
 pub suf_first : {A : Type 0} {k : Lexical} (D : Lang A) {W : Bound A} {F : Follow} {ts : Tokens} {e : Fail} →
     Lets k F → IsKnown k → Failed D W F ts e → Failed (Suf D k) W Always ts e
-suf_first {A} {k} D {W} {F} {ts} lets known f = failed_as (Suf D k) (Both D (TokenMark k)) (λ q. q.0) (suf_along k D W ts) (first (mark_lets F lets) (has_mark k known) f)
+suf_first {A} {k} D {W} {F} {ts} lets known f = failed_as (Suf D k) (Both D (TokenMark k)) (λ q. q.0)
+    (suf_along k D W ts) (first (mark_lets F lets) (has_mark k known) f)
 
-pub suf_second : {A : Type 0} {k : Lexical} (D : Lang A) {W : Bound A} {F : Follow} {ts mid : Tokens} {x : A} {e : Fail} →
+pub suf_second : {A : Type 0} {k : Lexical} (D : Lang A) {W : Bound A} {F : Follow} {ts mid : Tokens} {x : A}
+    {e : Fail} →
     Lets k F → Took D W F ts x mid → Failed (Token k) Free Always mid e → Failed (Suf D k) W Always ts e
-suf_second {A} {k} D {W} {F} {ts} lets t f = failed_as (Suf D k) (Both D (TokenMark k)) (λ q. q.0) (suf_along k D W ts) (second (mark_lets F lets) t (failed_mark f))
+suf_second {A} {k} D {W} {F} {ts} lets t f = failed_as (Suf D k) (Both D (TokenMark k)) (λ q. q.0)
+    (suf_along k D W ts) (second (mark_lets F lets) t (failed_mark f))
 
 pub has_suf : {A : Type 0} (k : Lexical) (D : Lang A) {W : Bound A} → IsKnown k → Has D W → Has (Suf D k) W
 has_suf k D known x = record {
@@ -115,7 +130,8 @@ counts_op op.Mul = refl
 counts_op op.Div = refl
 counts_op op.Rem = refl
 
-counted_kind : (k : Lexical) (g h : Sign) → k ≡ tok.Sign g → k ≡ tok.Sign h → counts_sign g ≡ false → counts_sign h ≡ true → ⊥
+counted_kind : (k : Lexical) (g h : Sign) → k ≡ tok.Sign g → k ≡ tok.Sign h → counts_sign g ≡ false
+    → counts_sign h ≡ true → ⊥
 counted_kind k g h e i no_mark mark =
     let same : tok.Sign g ≡ tok.Sign h = sym e ∙ i in
     let is : g ≡ h = cc in
@@ -141,4 +157,11 @@ none_keeps limit.Params = tt
 
 -- the number 0
 pub has_whole : Has whole_expression KeepsDepth
-has_whole = record { tree = Number (pos 0) nowhere; tokens = at_once (tok.Int (pos 0)); is = refl; known = (tt, tt); within = none_keeps }
+has_whole = record {
+  tree = Number (pos 0) nowhere;
+  tokens = at_once (tok.Int (pos 0));
+  is = refl;
+  known =
+      (tt, tt);
+  within = none_keeps;
+}

@@ -1,5 +1,6 @@
 -- Calls as paths with what stands behind them, and what right sides begin with.
-use Rattle.std.proofs.Common.{◌≡◌, ℕ, ◌<◌, ◌++◌, List, [], ◌∷◌, length, arith, ◌⊎◌, inl, inr, Option, Some, None, refl, sym, ap, ◌∙◌, append_assoc, append-nil, subst}
+use Rattle.std.proofs.Common.{◌≡◌, ℕ, ◌<◌, ◌++◌, List, [], ◌∷◌, length, arith, ◌⊎◌, inl, inr, Option, Some, None}
+use Rattle.std.proofs.Common.{refl, sym, ap, ◌∙◌, append_assoc, append-nil, subst}
 use Rattle.ae_text.specs.declared.refusal.Spot.{Spot}
 use Rattle.ae_text.specs.declared.token.Keyword.TheVariants as word
 use Rattle.ae_text.specs.declared.token.Sign.TheVariants as sign
@@ -9,7 +10,8 @@ use Rattle.ae_tree.specs.declared.lexeme.Lexical.TheVariants as tok
 use Rattle.ae_tree.specs.declared.tree.NameAt.{NameAt}
 use Rattle.ae_tree.specs.declared.tree.Path.{Path}
 use Rattle.ae_tree.specs.Plain.{Expression, Invocation, RightSide, Value, Taken, Zeros, Made, Returned}
-use Rattle.ae_tree.specs.Grammar.{Tokens, ◌⨾◌, one_token, one_at, one_by_one, name, root, path_step, path, groups, arguments, call_written, whole_expression, right_of_equals}
+use Rattle.ae_tree.specs.Grammar.{Tokens, ◌⨾◌, one_token, one_at, one_by_one, name, root, path_step, path, groups}
+use Rattle.ae_tree.specs.Grammar.{arguments, call_written, whole_expression, right_of_equals}
 use Rattle.ae_reading.specs.Reads.{head, Always, Is, Isnt, IsName}
 use Rattle.ae_statements.proofs.from_reading.ReadsLemmas.{Both}
 use Rattle.ae_statements.proofs.from_reading.UniquePaths.{IsRoot, begins_path, unique_root, unique_path}
@@ -63,14 +65,23 @@ last_step x (y ∷ ys) us d =
       is_field = q.is_field;
     }
 
-pub callable_steps : (r x : NameAt) (xs : List NameAt) (us vs : Tokens) → root r us → one_by_one path_step (x ∷ xs) vs → IsCallable (record { root = r; steps = x ∷ xs }) (us ++ vs)
+pub callable_steps : (r x : NameAt) (xs : List NameAt) (us vs : Tokens) → root r us → one_by_one path_step (x ∷ xs) vs
+    → IsCallable (record { root = r; steps = x ∷ xs }) (us ++ vs)
 callable_steps r x xs us vs d e =
     let q = last_step x xs vs e in
     record {
       front = (us ++ q.front) ++ q.dot;
       back = q.field;
-      parts = ap (λ l. us ++ l) q.parts ∙ sym (append_assoc us q.front (q.dot ++ q.field)) ∙ sym (append_assoc (us ++ q.front) q.dot q.field);
-      first = record { front = us ++ q.front; back = q.dot; parts = refl; first = record { front = us; back = q.front; parts = refl; first = d; second = q.steps }; second = q.is_dot };
+      parts = ap (λ l. us ++ l) q.parts ∙ sym (append_assoc us q.front (q.dot ++ q.field))
+          ∙ sym (append_assoc (us ++ q.front) q.dot q.field);
+      first = record {
+        front = us ++ q.front;
+        back = q.dot;
+        parts = refl;
+        first =
+            record { front = us; back = q.front; parts = refl; first = d; second = q.steps };
+        second = q.is_dot;
+      };
       second = q.is_field;
     }
 
@@ -78,19 +89,22 @@ callable_steps r x xs us vs d e =
 
 in_five : (k b d a s : Tokens) → (k ++ b) ++ (d ++ (a ++ s)) ≡ (k ++ (b ++ (d ++ a))) ++ s
 in_five k b d a s =
-    append_assoc k b (d ++ (a ++ s)) ∙ ap (λ l. k ++ (b ++ l)) (sym (append_assoc d a s)) ∙ ap (λ l. k ++ l) (sym (append_assoc b (d ++ a) s)) ∙ sym (append_assoc k (b ++ (d ++ a)) s)
+    append_assoc k b (d ++ (a ++ s)) ∙ ap (λ l. k ++ (b ++ l)) (sym (append_assoc d a s))
+    ∙ ap (λ l. k ++ l) (sym (append_assoc b (d ++ a) s)) ∙ sym (append_assoc k (b ++ (d ++ a)) s)
 
 abbrev pub Called : Type 0
 Called = List NameAt × List Expression
 
 -- a path that may be called, and what stands behind it, are a call
-pub call_intro : (p : Path) (q : Called) (ps qs : Tokens) → IsCallable p ps → call_rest q qs → with_semicolon call_written (invoked p q) (ps ++ qs)
+pub call_intro : (p : Path) (q : Called) (ps qs : Tokens) → IsCallable p ps → call_rest q qs
+    → with_semicolon call_written (invoked p q) (ps ++ qs)
 call_intro p q ps qs k d =
     let e = d.second in
     record {
       front = k.front ++ (k.back ++ (d.front ++ e.front));
       back = e.back;
-      parts = ap (λ l. l ++ qs) k.parts ∙ ap (λ l. (k.front ++ k.back) ++ l) (d.parts ∙ ap (λ l. d.front ++ l) e.parts) ∙ in_five k.front k.back d.front e.front e.back;
+      parts = ap (λ l. l ++ qs) k.parts ∙ ap (λ l. (k.front ++ k.back) ++ l)
+          (d.parts ∙ ap (λ l. d.front ++ l) e.parts) ∙ in_five k.front k.back d.front e.front e.back;
       first = record {
         front = k.front;
         back = k.back ++ (d.front ++ e.front);
@@ -140,8 +154,15 @@ call_elim c us d =
 -- a call is that of its path
 pub call_is : (c : Invocation) → c ≡ invoked (joined c.on c.method) (c.groups, c.args)
 call_is c =
-    ap (λ (o : Option Path). record { on = o; method = c.method; groups = c.groups; args = c.args }) (sym (joined_on c.on c.method))
-    ∙ ap (λ (m : NameAt). record { on = receiver_of (joined c.on c.method).root (joined c.on c.method).steps; method = m; groups = c.groups; args = c.args }) (sym (joined_method c.on c.method))
+    ap (λ (o : Option Path). record { on = o; method = c.method; groups = c.groups; args = c.args })
+    (sym (joined_on c.on c.method))
+    ∙ ap (λ (m : NameAt). record {
+      on = receiver_of (joined c.on c.method).root (joined c.on c.method).steps;
+      method =
+          m;
+      groups = c.groups;
+      args = c.args;
+    }) (sym (joined_method c.on c.method))
 
 -- a call that begins with a path, where no `.` stands behind it
 pub record Behind (c : Invocation) (p : Path) (r other : Tokens) : Type 0 where
@@ -151,45 +172,61 @@ pub record Behind (c : Invocation) (p : Path) (r other : Tokens) : Type 0 where
   pub is_called : call_rest (c.groups, c.args) text
   pub tail : IsCallTail other
 
-pub call_behind : (c : Invocation) (us r : Tokens) (p : Path) (ps other : Tokens) → with_semicolon call_written c us → us ++ r ≡ ps ++ other → path p ps → Isnt (tok.Sign sign.Dot) (head other) → Behind c p r other
+pub call_behind : (c : Invocation) (us r : Tokens) (p : Path) (ps other : Tokens) → with_semicolon call_written c us
+    → us ++ r ≡ ps ++ other → path p ps → Isnt (tok.Sign sign.Dot) (head other) → Behind c p r other
 call_behind c us r p ps other d e q no_dot =
     let t = call_elim c us d in
     let all : t.front ++ (t.middle ++ (t.end ++ r)) ≡ ps ++ other =
-    ap (λ l. t.front ++ l) (sym (append_assoc t.middle t.end r)) ∙ sym (append_assoc t.front (t.middle ++ t.end) r) ∙ ap (λ l. l ++ r) (sym t.parts) ∙ e in
-    let ends : Isnt Dot (head (t.middle ++ (t.end ++ r))) = call_isnt Dot (λ e. cc) (λ e. cc) Always (c.groups, c.args) t.middle (t.end ++ r) t.given tt in
-    let o = unique_path (joined c.on c.method) p t.front ps (t.middle ++ (t.end ++ r)) other t.is_path q all ends no_dot in
+    ap (λ l. t.front ++ l) (sym (append_assoc t.middle t.end r)) ∙ sym (append_assoc t.front (t.middle ++ t.end) r)
+    ∙ ap (λ l. l ++ r) (sym t.parts) ∙ e in
+    let ends : Isnt Dot (head (t.middle ++ (t.end ++ r))) = call_isnt Dot (λ e. cc) (λ e. cc) Always
+    (c.groups, c.args) t.middle (t.end ++ r) t.given tt in
+    let o = unique_path (joined c.on c.method) p t.front ps (t.middle ++ (t.end ++ r)) other t.is_path q all ends
+    no_dot in
     record {
       callee = o.0;
       text = t.middle ++ t.end;
       same = append_assoc t.middle t.end r ∙ o.1;
       is_called = t.is_called;
-      tail = let P : Tokens → Type 0 = IsCallTail in subst P o.1 (call_tail c.groups c.args t.middle (t.end ++ r) t.given);
+      tail = let P : Tokens → Type 0 = IsCallTail in subst P o.1
+          (call_tail c.groups c.args t.middle (t.end ++ r) t.given);
     }
 
 -- ---- what right sides begin with
 
 abbrev pub PlainSide : RightSide → Tokens → Type 0
-PlainSide y us = ((e : Expression) × (y ≡ Value e) × with_semicolon whole_expression e us) ⊎ ((c : Invocation) × (y ≡ Returned c) × with_semicolon call_written c us)
+PlainSide y us = ((e : Expression) × (y ≡ Value e) × with_semicolon whole_expression e us)
+    ⊎ ((c : Invocation) × (y ≡ Returned c) × with_semicolon call_written c us)
 
-begins_at : {k : Lexical} {at : Spot} {q s : Tokens → Type 0} (us r z : Tokens) → ((one_at k at ⨾ q) ⨾ s) us → us ++ r ≡ z → Is k (head z)
+begins_at : {k : Lexical} {at : Spot} {q s : Tokens → Type 0} (us r z : Tokens) → ((one_at k at ⨾ q) ⨾ s) us
+    → us ++ r ≡ z → Is k (head z)
 begins_at {k} {at} us r z d e =
     let P : Tokens → Type 0 = λ l. Is k (head l) in
-    subst P (sym (ap (λ l. l ++ r) (d.parts ∙ ap (λ l. l ++ d.back) (d.first.parts ∙ ap (λ l. l ++ d.first.back) d.first.first))) ∙ e) refl
+    subst P (sym (ap (λ l. l ++ r)
+    (d.parts ∙ ap (λ l. l ++ d.back) (d.first.parts ∙ ap (λ l. l ++ d.first.back) d.first.first))) ∙ e) refl
 
 -- a right side that begins with neither `take` nor `new` is an expression or a call
-pub plain_side : (y : RightSide) (us r z : Tokens) → with_semicolon right_of_equals y us → us ++ r ≡ z → IsPlainSide z → PlainSide y us
+pub plain_side : (y : RightSide) (us r z : Tokens) → with_semicolon right_of_equals y us → us ++ r ≡ z → IsPlainSide z
+    → PlainSide y us
 plain_side (Value e) us r z d same plain = inl (e, refl, d)
 plain_side (Taken p at) us r z d same plain =
     let f : (one_at (tok.Word word.Take) at ⨾ path p) d.front = d.first.1 in
-    absurd (plain.0 (begins_at {s = one_token (tok.Sign sign.Semicolon)} us r z (record { front = d.front; back = d.back; parts = d.parts; first = f; second = d.second }) same))
+    absurd (plain.0 (begins_at {s = one_token (tok.Sign sign.Semicolon)} us r z
+    (record { front = d.front; back = d.back; parts = d.parts; first = f; second = d.second }) same))
 plain_side (Zeros e at) us r z d same plain = absurd (plain.1 (begins_at us r z d same))
 plain_side (Made c gs es at) us r z d same plain = absurd (plain.1 (begins_at us r z d same))
 plain_side (Returned c) us r z d same plain = inr (c, refl, d)
 
 root_no_word : (o : Option Lexeme) → IsRoot o → (Is (tok.Word word.Take) o → ⊥) × (Is (tok.Word word.New) o → ⊥)
 root_no_word None i = ((λ h. h), (λ h. h))
-root_no_word (Some t) (inl i) = ((λ h. let e : tok.Name i.0 ≡ tok.Word word.Take = sym i.1 ∙ h in cc), (λ h. let e : tok.Name i.0 ≡ tok.Word word.New = sym i.1 ∙ h in cc))
-root_no_word (Some t) (inr i) = ((λ h. let e : tok.Word word.This ≡ tok.Word word.Take = sym i ∙ h in cc), (λ h. let e : tok.Word word.This ≡ tok.Word word.New = sym i ∙ h in cc))
+root_no_word (Some t) (inl i) = (
+  (λ h. let e : tok.Name i.0 ≡ tok.Word word.Take = sym i.1 ∙ h in cc),
+  (λ h. let e : tok.Name i.0 ≡ tok.Word word.New = sym i.1 ∙ h in cc),
+)
+root_no_word (Some t) (inr i) = (
+  (λ h. let e : tok.Word word.This ≡ tok.Word word.Take = sym i ∙ h in cc),
+  (λ h. let e : tok.Word word.This ≡ tok.Word word.New = sym i ∙ h in cc),
+)
 
 -- a path begins with neither
 pub path_plain : (p : Path) (ps other : Tokens) → path p ps → IsPlainSide (ps ++ other)
@@ -197,7 +234,9 @@ path_plain p ps other d = root_no_word (head (ps ++ other)) (begins_path p ps ot
 
 -- ---- a path behind which a `.` stands
 
-each_goes : (xs ys : List NameAt) (us vs z other : Tokens) (d : Lexeme) → one_by_one path_step xs us → one_by_one path_step ys vs → us ++ z ≡ vs ++ (d ∷ other) → d.kind ≡ tok.Sign sign.Dot → Isnt (tok.Sign sign.Dot) (head z) → IsName (head other)
+each_goes : (xs ys : List NameAt) (us vs z other : Tokens) (d : Lexeme) → one_by_one path_step xs us
+    → one_by_one path_step ys vs → us ++ z ≡ vs ++ (d ∷ other) → d.kind ≡ tok.Sign sign.Dot
+    → Isnt (tok.Sign sign.Dot) (head z) → IsName (head other)
 each_goes [] [] us vs z other d e f same k n =
     let P : Option Lexeme → Type 0 = Isnt Dot in
     let all : z ≡ d ∷ other = sym (ap (λ l. l ++ z) e) ∙ same ∙ ap (λ l. l ++ (d ∷ other)) f in
@@ -208,15 +247,19 @@ each_goes [] (y ∷ ys) us vs z other d e f same k n =
     let s = f.first in
     let dot : s.front ≡ record { kind = Dot; at = s.first.0 } ∷ [] = s.first.1 in
     let all : z ≡ record { kind = Dot; at = s.first.0 } ∷ ((s.back ++ f.back) ++ (d ∷ other)) =
-    sym (ap (λ l. l ++ z) e) ∙ same ∙ ap (λ l. l ++ (d ∷ other)) (f.parts ∙ ap (λ l. l ++ f.back) (s.parts ∙ ap (λ l. l ++ s.back) dot)) in
+    sym (ap (λ l. l ++ z) e) ∙ same ∙ ap (λ l. l ++ (d ∷ other))
+    (f.parts ∙ ap (λ l. l ++ f.back) (s.parts ∙ ap (λ l. l ++ s.back) dot)) in
     let h : Isnt Dot (Some (record { kind = Dot; at = s.first.0 })) = subst P (ap head all) n in
     absurd (h refl)
 each_goes (x ∷ xs) [] us vs z other d e f same k n =
     let s = e.first in
     let dot : s.front ≡ record { kind = Dot; at = s.first.0 } ∷ [] = s.first.1 in
     let field : s.back ≡ record { kind = tok.Name x.name; at = x.at } ∷ [] = s.second in
-    let all : record { kind = Dot; at = s.first.0 } ∷ record { kind = tok.Name x.name; at = x.at } ∷ (e.back ++ z) ≡ d ∷ other =
-    sym (ap (λ l. l ++ z) (e.parts ∙ ap (λ l. l ++ e.back) (s.parts ∙ ap (λ l. l ++ s.back) dot ∙ ap (λ l. record { kind = Dot; at = s.first.0 } ∷ l) field))) ∙ same ∙ ap (λ l. l ++ (d ∷ other)) f in
+    let all : record { kind = Dot; at = s.first.0 } ∷ record { kind = tok.Name x.name; at = x.at } ∷ (e.back ++ z) ≡ d
+    ∷ other =
+    sym (ap (λ l. l ++ z) (e.parts
+    ∙ ap (λ l. l ++ e.back) (s.parts ∙ ap (λ l. l ++ s.back) dot
+    ∙ ap (λ l. record { kind = Dot; at = s.first.0 } ∷ l) field))) ∙ same ∙ ap (λ l. l ++ (d ∷ other)) f in
     let rest : record { kind = tok.Name x.name; at = x.at } ∷ (e.back ++ z) ≡ other = cc in
     let P : Tokens → Type 0 = λ l. IsName (head l) in
     subst P rest (x.name, refl)
@@ -227,26 +270,39 @@ each_goes (x ∷ xs) (y ∷ ys) us vs z other d e f same k n =
     let field : s.back ≡ record { kind = tok.Name x.name; at = x.at } ∷ [] = s.second in
     let dot' : t.front ≡ record { kind = Dot; at = t.first.0 } ∷ [] = t.first.1 in
     let field' : t.back ≡ record { kind = tok.Name y.name; at = y.at } ∷ [] = t.second in
-    let all : record { kind = Dot; at = s.first.0 } ∷ record { kind = tok.Name x.name; at = x.at } ∷ (e.back ++ z) ≡ record { kind = Dot; at = t.first.0 } ∷ record { kind = tok.Name y.name; at = y.at } ∷ (f.back ++ (d ∷ other)) =
-    sym (ap (λ l. l ++ z) (e.parts ∙ ap (λ l. l ++ e.back) (s.parts ∙ ap (λ l. l ++ s.back) dot ∙ ap (λ l. record { kind = Dot; at = s.first.0 } ∷ l) field))) ∙ same
-    ∙ ap (λ l. l ++ (d ∷ other)) (f.parts ∙ ap (λ l. l ++ f.back) (t.parts ∙ ap (λ l. l ++ t.back) dot' ∙ ap (λ l. record { kind = Dot; at = t.first.0 } ∷ l) field')) in
-    let rest : e.back ++ z ≡ f.back ++ (d ∷ other) = cc in
-    each_goes xs ys e.back f.back z other d e.second f.second rest k n
+    let all : record { kind = Dot; at = s.first.0 } ∷ record { kind = tok.Name x.name; at = x.at } ∷ (e.back ++ z)
+    ≡ record { kind = Dot; at = t.first.0 } ∷ record { kind = tok.Name y.name; at = y.at }
+    ∷ (f.back ++ (d ∷ other)) =
+    sym (ap (λ l. l ++ z) (e.parts
+    ∙ ap (λ l. l ++ e.back) (s.parts ∙ ap (λ l. l ++ s.back) dot
+    ∙ ap (λ l. record { kind = Dot; at = s.first.0 } ∷ l) field))) ∙ same
+    ∙ ap (λ l. l ++ (d ∷ other)) (f.parts
+    ∙ ap (λ l. l ++ f.back) (t.parts ∙ ap (λ l. l ++ t.back) dot'
+    ∙ ap (λ l. record { kind = Dot; at = t.first.0 } ∷ l) field')) in
+    let rest : e.back ++ z ≡ f.back ++ (d ∷ other) = cc
+    in each_goes xs ys e.back f.back z other d e.second f.second rest k n
 
 -- where a path goes on behind another one with a `.`, a name stands behind that
-pub path_goes : (p q : Path) (us vs z other : Tokens) (d : Lexeme) → path p us → path q vs → us ++ z ≡ vs ++ (d ∷ other) → d.kind ≡ tok.Sign sign.Dot → Isnt (tok.Sign sign.Dot) (head z) → IsName (head other)
+pub path_goes : (p q : Path) (us vs z other : Tokens) (d : Lexeme) → path p us → path q vs
+    → us ++ z ≡ vs ++ (d ∷ other) → d.kind ≡ tok.Sign sign.Dot → Isnt (tok.Sign sign.Dot) (head z)
+    → IsName (head other)
 path_goes p q us vs z other d e f same k n =
     let all : e.front ++ (e.back ++ z) ≡ f.front ++ (f.back ++ (d ∷ other)) =
-    sym (append_assoc e.front e.back z) ∙ ap (λ l. l ++ z) (sym e.parts) ∙ same ∙ ap (λ l. l ++ (d ∷ other)) f.parts ∙ append_assoc f.front f.back (d ∷ other) in
+    sym (append_assoc e.front e.back z) ∙ ap (λ l. l ++ z) (sym e.parts) ∙ same ∙ ap (λ l. l ++ (d ∷ other)) f.parts
+    ∙ append_assoc f.front f.back (d ∷ other) in
     let o = unique_root p.root q.root e.front f.front (e.back ++ z) (f.back ++ (d ∷ other)) e.first f.first all tt tt in
     each_goes p.steps q.steps e.back f.back z other d e.second f.second o.1 k n
 
-pub call_goes : (c : Invocation) (us r : Tokens) (p : Path) (ps other : Tokens) (d : Lexeme) → with_semicolon call_written c us → us ++ r ≡ ps ++ (d ∷ other) → path p ps → d.kind ≡ tok.Sign sign.Dot → IsName (head other)
+pub call_goes : (c : Invocation) (us r : Tokens) (p : Path) (ps other : Tokens) (d : Lexeme)
+    → with_semicolon call_written c us → us ++ r ≡ ps ++ (d ∷ other) → path p ps → d.kind ≡ tok.Sign sign.Dot
+    → IsName (head other)
 call_goes c us r p ps other d e same q k =
     let t = call_elim c us e in
     let all : t.front ++ (t.middle ++ (t.end ++ r)) ≡ ps ++ (d ∷ other) =
-    ap (λ l. t.front ++ l) (sym (append_assoc t.middle t.end r)) ∙ sym (append_assoc t.front (t.middle ++ t.end) r) ∙ ap (λ l. l ++ r) (sym t.parts) ∙ same in
-    let ends : Isnt Dot (head (t.middle ++ (t.end ++ r))) = call_isnt Dot (λ e. cc) (λ e. cc) Always (c.groups, c.args) t.middle (t.end ++ r) t.given tt in
+    ap (λ l. t.front ++ l) (sym (append_assoc t.middle t.end r)) ∙ sym (append_assoc t.front (t.middle ++ t.end) r)
+    ∙ ap (λ l. l ++ r) (sym t.parts) ∙ same in
+    let ends : Isnt Dot (head (t.middle ++ (t.end ++ r))) = call_isnt Dot (λ e. cc) (λ e. cc) Always
+    (c.groups, c.args) t.middle (t.end ++ r) t.given tt in
     path_goes (joined c.on c.method) p t.front ps (t.middle ++ (t.end ++ r)) other d t.is_path q all k ends
 
 -- ---- steps that are looked through
@@ -264,7 +320,14 @@ pub through_more : (ts rest later : Tokens) → Through ts rest → Steps rest l
 through_more ts rest later t s =
     let x : NameAt = record { name = s.number; at = s.field.at } in
     let one_token : one_by_one path_step (x ∷ []) (s.dot ∷ s.field ∷ []) = each-one path_step x (s.dot ∷ s.field ∷ [])
-    (record { front = s.dot ∷ []; back = s.field ∷ []; parts = refl; first = one_of Dot s.dot s.is_dot; second = name_of s.field s.number s.is_name }) in
+    (record {
+      front = s.dot ∷ [];
+      back = s.field ∷ [];
+      parts = refl;
+      first = one_of Dot s.dot s.is_dot;
+      second =
+          name_of s.field s.number s.is_name;
+    }) in
     record {
       fields = t.fields ++ x ∷ [];
       taken = t.taken ++ (s.dot ∷ s.field ∷ []);

@@ -8,7 +8,8 @@ use Rattle.ae_tree.specs.declared.lexeme.Lexical.TheVariants as tok
 use Rattle.ae_tree.specs.declared.tree.NameAt.{NameAt}
 use Rattle.ae_tree.specs.declared.tree.Path.{Path}
 use Rattle.ae_tree.specs.Plain.{Expression, Invocation, RightSide, Value}
-use Rattle.ae_tree.specs.Grammar.{Tokens, ◌⨾◌, a_sign, one_by_one, name, path_step, path, receiver, whole_expression, call_written, right_of_equals}
+use Rattle.ae_tree.specs.Grammar.{Tokens, ◌⨾◌, a_sign, one_by_one, name, path_step, path, receiver, whole_expression}
+use Rattle.ae_tree.specs.Grammar.{call_written, right_of_equals}
 use Rattle.ae_tree.specs.Limits.{KeepsRight}
 use Rattle.ae_tree.specs.Refused.{AreSpellable, marks_in}
 use Rattle.ae_reading.specs.declared.fail.Fail.{Fail}
@@ -83,7 +84,8 @@ IsCallable p us = (receiver (receiver_of p.root p.steps) ⨾ name (last p.root p
 -- `(`, or `<` and a name and then `,` or `>`
 abbrev pub IsCallTail : Tokens → Type 0
 IsCallTail ts = ((t : Lexeme) × (other : Tokens) × (ts ≡ t ∷ other) × (t.kind ≡ tok.Sign sign.OpenParen))
-    ⊎ ((less : Lexeme) × (n : Lexeme) × (t : Lexeme) × (m : ℕ) × (other : Tokens) × (ts ≡ less ∷ n ∷ t ∷ other) × (less.kind ≡ tok.Sign sign.Less) × (n.kind ≡ tok.Name m)
+    ⊎ ((less : Lexeme) × (n : Lexeme) × (t : Lexeme) × (m : ℕ) × (other : Tokens) × (ts ≡ less ∷ n ∷ t ∷ other)
+    × (less.kind ≡ tok.Sign sign.Less) × (n.kind ≡ tok.Name m)
     × ((t.kind ≡ tok.Sign sign.Comma) ⊎ (t.kind ≡ tok.Sign sign.Greater)))
 
 -- a path that is called comes next
@@ -108,7 +110,8 @@ pub record Calling (before : Tokens) : Type 0 where
 
 -- a path, or one with `<` behind it, or with `<` and a name: each may still become an expression or a call
 abbrev pub IsUndecided : Tokens → Type 0
-IsUndecided us = (p : Path) × (path p us ⊎ (path p ⨾ a_sign sign.Less) us ⊎ ((g : NameAt) × (path p ⨾ a_sign sign.Less ⨾ name g) us))
+IsUndecided us = (p : Path) × (path p us ⊎ (path p ⨾ a_sign sign.Less) us
+    ⊎ ((g : NameAt) × (path p ⨾ a_sign sign.Less ⨾ name g) us))
 
 -- an expression goes on with these tokens and the next one
 pub record Comparing (before rest : Tokens) : Type 0 where
@@ -126,7 +129,8 @@ pub record IsValue (ts : Tokens) (left : ℕ) : Type 0 where
   pub rest : Tokens
   pub whole : ts ≡ before ++ rest
   pub left_is : left ≡ length rest
-  pub only : (y : RightSide) (us r other : Tokens) → with_semicolon right_of_equals y us → us ++ r ≡ before ++ other → head other ≡ head rest → (e : Expression) × (y ≡ Value e)
+  pub only : (y : RightSide) (us r other : Tokens) → with_semicolon right_of_equals y us → us ++ r ≡ before ++ other
+      → head other ≡ head rest → (e : Expression) × (y ≡ Value e)
   pub undecided : (before ≡ []) ⊎ IsUndecided before
   pub both : (marks_in before ≡ 0) ⊎ (Calling before × Comparing before rest)
 
@@ -166,15 +170,18 @@ IsCallee ps = (p : Path) × path p ps × IsCallable p ps
 
 -- these tokens stand behind a path that may be called, `<` and a name
 abbrev pub BehindName : Tokens → Decided → Type 0
-BehindName ts d = (ps : Tokens) (less n : Lexeme) (m : ℕ) → IsCallee ps → less.kind ≡ tok.Sign sign.Less → n.kind ≡ tok.Name m → Decides (ps ++ less ∷ n ∷ ts) d
+BehindName ts d = (ps : Tokens) (less n : Lexeme) (m : ℕ) → IsCallee ps → less.kind ≡ tok.Sign sign.Less
+    → n.kind ≡ tok.Name m → Decides (ps ++ less ∷ n ∷ ts) d
 
 -- these tokens stand behind a path that may be called and `<`
 abbrev pub BehindLess : Tokens → Decided → Type 0
-BehindLess ts d = (ps : Tokens) (less : Lexeme) → IsCallee ps → less.kind ≡ tok.Sign sign.Less → Decides (ps ++ less ∷ ts) d
+BehindLess ts d = (ps : Tokens) (less : Lexeme) → IsCallee ps → less.kind ≡ tok.Sign sign.Less
+    → Decides (ps ++ less ∷ ts) d
 
 -- these tokens stand behind a path, which may be called where no `.` comes next
 abbrev pub BehindPath : Tokens → Decided → Type 0
-BehindPath ts d = (p : Path) (ps : Tokens) → path p ps → IsCallable p ps ⊎ Is (tok.Sign sign.Dot) (head ts) → ((rest : Tokens) → Steps ts rest → ⊥) → Decides (ps ++ ts) d
+BehindPath ts d = (p : Path) (ps : Tokens) → path p ps → IsCallable p ps ⊎ Is (tok.Sign sign.Dot) (head ts)
+    → ((rest : Tokens) → Steps ts rest → ⊥) → Decides (ps ++ ts) d
 
 -- some steps, and then rest, with which no step begins
 pub record AllSteps (ts rest : Tokens) : Type 0 where

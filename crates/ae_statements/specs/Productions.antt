@@ -1,5 +1,6 @@
 -- The productions of statements as the functions read them, with the tokens that may follow.
-use Rattle.std.specs.Prelude.{◌≡◌, ◌≢◌, ◌⊎◌, ℕ, ◌+◌, ◌-◌, List, [], ◌∷◌, map, Bool, true, false, Option, Some, None, Result}
+use Rattle.std.specs.Prelude.{◌≡◌, ◌≢◌, ◌⊎◌, ℕ, ◌+◌, ◌-◌, List, [], ◌∷◌, map, Bool, true, false, Option, Some, None}
+use Rattle.std.specs.Prelude.{Result}
 use Rattle.std.specs.Borrow.{Bor}
 use Rattle.ae_text.specs.declared.refusal.Spot.{Spot}
 use Rattle.ae_text.specs.declared.token.Keyword.TheVariants as word
@@ -12,9 +13,12 @@ use Rattle.ae_tree.specs.declared.tree.NameAt.{NameAt}
 use Rattle.ae_tree.specs.declared.tree.Path.{Path}
 use Rattle.ae_tree.specs.declared.tree.Expr.{Expr}
 use Rattle.ae_tree.specs.declared.tree.Stmt.{Stmt}
-use Rattle.ae_tree.specs.Plain.{Expression, Invocation, RightSide, Zeros, Made, Lines, Action, Assigns, Stores, StoresAt, Calls, Prints, PrintsText}
+use Rattle.ae_tree.specs.Plain.{Expression, Invocation, RightSide, Zeros, Made, Lines, Action, Assigns, Stores}
+use Rattle.ae_tree.specs.Plain.{StoresAt, Calls, Prints, PrintsText}
 use Rattle.ae_tree.specs.Shown as shown
-use Rattle.ae_tree.specs.Grammar.{Tokens, ◌⨾◌, one_at, one_token, a_word, a_sign, never, name, path, whole_expression, with_return, right_of_equals, groups, arguments, statement, statements, blocks_opened}
+use Rattle.ae_tree.specs.Grammar.{Tokens, ◌⨾◌, one_at, one_token, a_word, a_sign, never, name, path}
+use Rattle.ae_tree.specs.Grammar.{whole_expression, with_return, right_of_equals, groups, arguments, statement}
+use Rattle.ae_tree.specs.Grammar.{statements, blocks_opened}
 use Rattle.ae_tree.specs.Grammar as grammar
 use Rattle.ae_tree.specs.Limits.{KeepsDepth, KeepsRight, AllKeepDepth, IsFew, Opens, KeepsIn, EachKeeps}
 use Rattle.ae_reading.specs.declared.fail.Why.{Why}
@@ -192,11 +196,13 @@ ReadsSimple ts r = (n levels : ℕ) → Reads shown_stmt (stmt n) (KeepsStmt lev
 
 -- the words of the statements with blocks
 abbrev pub IsOpener : Option Lexeme → Type 0
-IsOpener o = Is (tok.Word word.If) o ⊎ Is (tok.Word word.While) o ⊎ Is (tok.Word word.Split) o ⊎ Is (tok.Word word.Atomic) o
+IsOpener o = Is (tok.Word word.If) o ⊎ Is (tok.Word word.While) o ⊎ Is (tok.Word word.Split) o
+    ⊎ Is (tok.Word word.Atomic) o
 
 -- the words of the others
 abbrev pub IsSimple : Option Lexeme → Type 0
-IsSimple o = Is (tok.Word word.Let) o ⊎ Is (tok.Word word.Group) o ⊎ Is (tok.Word word.Freeze) o ⊎ Is (tok.Word word.Share) o ⊎ Is (tok.Word word.Print) o ⊎ Is (tok.Word word.Assert) o
+IsSimple o = Is (tok.Word word.Let) o ⊎ Is (tok.Word word.Group) o ⊎ Is (tok.Word word.Freeze) o
+    ⊎ Is (tok.Word word.Share) o ⊎ Is (tok.Word word.Print) o ⊎ Is (tok.Word word.Assert) o
 
 abbrev pub shown_numbered : Numbered → Spot × Action
 shown_numbered x = shown_stmt x.stmt
@@ -250,4 +256,5 @@ shown_returned q = (q.0, shown.expression q.1)
 
 -- the statements of a body
 abbrev pub body_statements : Lines → Tokens → Type 0
-body_statements b ts = (front : Lines) × (r : Option (Spot × Expression)) × (b ≡ with_return front r) × (statements 1 front ⨾ grammar.return_end r) ts
+body_statements b ts = (front : Lines) × (r : Option (Spot × Expression)) × (b ≡ with_return front r)
+    × (statements 1 front ⨾ grammar.return_end r) ts

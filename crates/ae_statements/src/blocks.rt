@@ -6,15 +6,20 @@ ghost use Rattle.ae_tree.specs.Grammar.{blocks_opened, opened_in};
 ghost use Rattle.ae_tree.specs.Limits.{KeepsBlock};
 ghost use Rattle.ae_reading.specs.Reads.{Reads, Always, Is, head};
 ghost use Rattle.ae_statements.specs.Productions as productions;
-ghost use Rattle.ae_statements.specs.Productions.{Closes, Further, IsOpener, IsRoot, IsSimple, ReadsSimple, KeepsBraced, KeepsStmt, NoElse, numbered_block, otherwise, shown_block, shown_numbered, shown_stmts, stmt};
+ghost use Rattle.ae_statements.specs.Productions.{Closes, Further, IsOpener, IsRoot, IsSimple, ReadsSimple};
+ghost use Rattle.ae_statements.specs.Productions.{KeepsBraced, KeepsStmt, NoElse, numbered_block, otherwise};
+ghost use Rattle.ae_statements.specs.Productions.{shown_block, shown_numbered, shown_stmts, stmt};
 
 use crate::deep::too_deep;
 use crate::led::led;
 use crate::simple::{assertion, declaration, freezing, group, printing, sharing};
-use ae_tree::{Block, Lexeme, Lexical, Limit, Stmt, StmtKind};
 use ae_expressions::expression;
-use ae_reading::{expect_sign, expect_word, Fail, is_name_next, is_sign_next, is_word_next, name, names, unexpected, Why};
+use ae_reading::{
+    Fail, Why, expect_sign, expect_word, is_name_next, is_sign_next, is_word_next, name, names,
+    unexpected,
+};
 use ae_text::{Items, Keyword, Sign};
+use ae_tree::{Block, Lexeme, Lexical, Limit, Stmt, StmtKind};
 use std::alloc::Global;
 
 pub(crate) const MOST_STATEMENTS: usize = 1024;

@@ -9,9 +9,9 @@ ghost use Rattle.ae_statements.specs.Productions.{KeepsReturned, returned, body_
 
 use crate::blocks::{MOST_STATEMENTS, NumberedStmts, statements};
 use crate::simple::ended_expression;
-use ae_tree::{Block, Expr, Lexeme, Lexical, Limit, Stmt, StmtKind};
 use ae_reading::{Fail, Why, expect_sign, expect_word, is_word_next};
 use ae_text::{Items, Keyword, Sign, Spot};
+use ae_tree::{Block, Expr, Lexeme, Lexical, Limit, Stmt, StmtKind};
 use std::alloc::Global;
 
 /// A `return` with its expression.
@@ -26,7 +26,8 @@ fn result_of<'a>(alloc: Global, ts: &'a [Lexeme]) -> Result<((Spot, Expr), &'a [
 /// Statements, the last one a `return` where there is one.
 fn lines<'a>(alloc: Global, ts: &'a [Lexeme]) -> Result<(Items<Stmt>, &'a [Lexeme]), Fail>
     requires { length ts.now ≤ 1048577 }
-    ensures { Reads shown.lines_from body_statements (λ l b. KeepsBlock l 63 b) (Is (Lexical.Sign Sign.CloseBrace)) ts.now result }
+    ensures { Reads shown.lines_from body_statements (λ l b. KeepsBlock l 63 b) (Is (Lexical.Sign Sign.CloseBrace))
+        ts.now result }
 {
     let (read, rest) = statements(alloc, ts, 1, 63)?;
     let NumberedStmts { mut stmts, next: _ } = read;

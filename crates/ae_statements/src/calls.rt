@@ -8,10 +8,10 @@ ghost use Rattle.ae_expressions.specs.Ends.{Ends};
 ghost use Rattle.ae_statements.specs.Productions as productions;
 ghost use Rattle.ae_statements.specs.Productions.{KeepsCalled, shown_called};
 
-use ae_tree::{Call, Expr, Lexeme, Lexical, NameAt, Path};
 use ae_expressions::expression;
-use ae_reading::{expect_sign, Fail, groups, in_front, is_sign_next};
+use ae_reading::{Fail, expect_sign, groups, in_front, is_sign_next};
 use ae_text::{Items, Sign};
+use ae_tree::{Call, Expr, Lexeme, Lexical, NameAt, Path};
 use std::alloc::Global;
 
 fn further_argument<'a>(alloc: Global, ts: &'a [Lexeme]) -> Result<(Expr, &'a [Lexeme]), Fail>
@@ -25,7 +25,8 @@ fn further_arguments<'a>(
     alloc: Global,
     ts: &'a [Lexeme],
 ) -> Result<(Items<Expr>, &'a [Lexeme]), Fail>
-    ensures { Reads (map shown.expression) (grammar.one_by_one (grammar.further grammar.whole_expression)) AllKeepDepth (Is (Lexical.Sign Sign.CloseParen)) ts.now result }
+    ensures { Reads (map shown.expression) (grammar.one_by_one (grammar.further grammar.whole_expression))
+        AllKeepDepth (Is (Lexical.Sign Sign.CloseParen)) ts.now result }
 {
     let mut args = Items::new(alloc);
     let mut rest = ts;
@@ -38,7 +39,8 @@ fn further_arguments<'a>(
 }
 
 fn some_arguments<'a>(alloc: Global, ts: &'a [Lexeme]) -> Result<(Items<Expr>, &'a [Lexeme]), Fail>
-    ensures { Reads (map shown.expression) (grammar.separated grammar.whole_expression) AllKeepDepth (Is (Lexical.Sign Sign.CloseParen)) ts.now result }
+    ensures { Reads (map shown.expression) (grammar.separated grammar.whole_expression) AllKeepDepth
+        (Is (Lexical.Sign Sign.CloseParen)) ts.now result }
 {
     let (first, rest) = expression(alloc, ts)?;
     let (more, rest) = further_arguments(alloc, rest)?;
@@ -46,7 +48,8 @@ fn some_arguments<'a>(alloc: Global, ts: &'a [Lexeme]) -> Result<(Items<Expr>, &
 }
 
 fn any_arguments<'a>(alloc: Global, ts: &'a [Lexeme]) -> Result<(Items<Expr>, &'a [Lexeme]), Fail>
-    ensures { Reads (map shown.expression) (grammar.comma_list grammar.whole_expression) AllKeepDepth (Is (Lexical.Sign Sign.CloseParen)) ts.now result }
+    ensures { Reads (map shown.expression) (grammar.comma_list grammar.whole_expression) AllKeepDepth
+        (Is (Lexical.Sign Sign.CloseParen)) ts.now result }
 {
     if is_sign_next(ts, Sign::CloseParen) {
         Ok((Items::new(alloc), ts))

@@ -1,11 +1,12 @@
 // Whether a right side is an expression or a call, from the tokens ahead.
 ghost use Rattle.std.specs.Prelude.{◌≡◌, ◌∷◌, MatchOption};
 ghost use Rattle.ae_statements.specs.Deciding as deciding;
-ghost use Rattle.ae_statements.specs.Deciding.{AllSteps, BehindLess, BehindName, BehindPath, Decides, IsPlainSide, Steps};
+ghost use Rattle.ae_statements.specs.Deciding.{AllSteps, BehindLess, BehindName, BehindPath, Decides, IsPlainSide};
+ghost use Rattle.ae_statements.specs.Deciding.{Steps};
 
-use ae_tree::{Lexeme, Lexical};
 use ae_reading::{is_name_next, is_sign_next, is_word_next, next};
 use ae_text::{Keyword, Sign};
+use ae_tree::{Lexeme, Lexical};
 
 /// What a right side that begins with neither `take` nor `new` is known to be.
 #[derive(Clone, Copy, Debug, PartialEq, Eq)]

@@ -5,12 +5,13 @@ ghost use Rattle.ae_tree.specs.Grammar as grammar;
 ghost use Rattle.ae_reading.specs.Reads.{Reads, itself, Free, Always, Is, Isnt, head};
 ghost use Rattle.ae_expressions.specs.Ends.{Ends};
 ghost use Rattle.ae_statements.specs.Productions.{IsOpener, Opening};
-ghost use Rattle.ae_statements.specs.Blocks.{KeepsCondition, IsTooDeep, condition, shown_condition, split_groups, locked_group};
+ghost use Rattle.ae_statements.specs.Blocks.{KeepsCondition, IsTooDeep, condition, shown_condition, split_groups};
+ghost use Rattle.ae_statements.specs.Blocks.{locked_group};
 
-use ae_tree::{Expr, Lexeme, Lexical, Limit, NameAt};
 use ae_expressions::expression;
-use ae_reading::{expect_word, Fail, is_sign_next, is_word_next, name, names, Why};
+use ae_reading::{Fail, Why, expect_word, is_sign_next, is_word_next, name, names};
 use ae_text::{Items, Keyword, Sign, Spot};
+use ae_tree::{Expr, Lexeme, Lexical, Limit, NameAt};
 use std::alloc::Global;
 
 /// Why no block is opened where none may be.

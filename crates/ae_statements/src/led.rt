@@ -5,14 +5,15 @@ ghost use Rattle.ae_tree.specs.Grammar as grammar;
 ghost use Rattle.ae_tree.specs.Limits.{KeepsDepth};
 ghost use Rattle.ae_reading.specs.Reads.{Reads, itself, Always, Free, Is, head};
 ghost use Rattle.ae_statements.specs.Productions as productions;
-ghost use Rattle.ae_statements.specs.Productions.{ReadsSimple, IsRoot, KeepsIndexed, KeepsTail, Only, shown_indexed, shown_tail};
+ghost use Rattle.ae_statements.specs.Productions.{ReadsSimple, IsRoot, KeepsIndexed, KeepsTail, Only, shown_indexed};
+ghost use Rattle.ae_statements.specs.Productions.{shown_tail};
 
 use crate::calls::{called, invoke};
 use crate::simple::{ended_expression, value};
-use ae_tree::{Expr, Lexeme, Lexical, NameAt, Path, Rhs, Stmt, StmtKind};
 use ae_expressions::expression;
-use ae_reading::{expect_sign, Fail, is_name_next, is_sign_next, path, unexpected};
+use ae_reading::{Fail, expect_sign, is_name_next, is_sign_next, path, unexpected};
 use ae_text::{Items, Sign};
+use ae_tree::{Expr, Lexeme, Lexical, NameAt, Path, Rhs, Stmt, StmtKind};
 use std::alloc::Global;
 
 /// What a path at the front of a statement is.

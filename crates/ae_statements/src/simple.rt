@@ -8,10 +8,10 @@ ghost use Rattle.ae_statements.specs.Productions as productions;
 ghost use Rattle.ae_statements.specs.Productions.{ReadsSimple, KeepsPrinted, IsText, with_semicolon};
 
 use crate::values::right_side;
-use ae_tree::{Expr, Lexeme, Lexical, NameAt, Rhs, Stmt, StmtKind};
 use ae_expressions::expression;
-use ae_reading::{expect_sign, expect_word, Fail, name, next, type_, unexpected};
+use ae_reading::{Fail, expect_sign, expect_word, name, next, type_, unexpected};
 use ae_text::{Items, Keyword, Sign};
+use ae_tree::{Expr, Lexeme, Lexical, NameAt, Rhs, Stmt, StmtKind};
 use std::alloc::Global;
 
 /// A name and a semicolon.

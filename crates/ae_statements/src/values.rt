@@ -12,10 +12,10 @@ ghost use Rattle.ae_statements.specs.Productions.{with_semicolon};
 use crate::calls::{called, invoke};
 use crate::decide::{Decided, decide};
 use crate::simple::ended_expression;
-use ae_tree::{Expr, Lexeme, Lexical, Path, Rhs};
 use ae_expressions::expression;
-use ae_reading::{expect_sign, expect_word, Fail, is_word_next, name, path, unexpected, Why};
+use ae_reading::{Fail, Why, expect_sign, expect_word, is_word_next, name, path, unexpected};
 use ae_text::{Keyword, Sign, Spot};
+use ae_tree::{Expr, Lexeme, Lexical, Path, Rhs};
 use std::alloc::Global;
 
 /// The failure, no earlier than at the token from which on this many are left.

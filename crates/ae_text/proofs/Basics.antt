@@ -1,5 +1,6 @@
 -- Facts on tests, numbers, lists and options that several crates share and the kit does not have in this form.
-use Rattle.std.proofs.Common.{◌≡◌, ℕ, suc, ◌<◌, ◌⊎◌, inl, inr, refl, sym, ◌∙◌, subst, arith, nat_eq, Bool, true, false, ◌&&◌, ◌||◌}
+use Rattle.std.proofs.Common.{◌≡◌, ℕ, suc, ◌<◌, ◌⊎◌, inl, inr, refl, sym, ◌∙◌, subst, arith, nat_eq, Bool, true}
+use Rattle.std.proofs.Common.{false, ◌&&◌, ◌||◌}
 use Rattle.std.proofs.Common.{List, [], Option, None, Some}
 use Rattle.std.specs.Prelude.{Contains, is_some}
 use Rattle.std.proofs.lemmas.Bool.{and_parts, or_parts, both_ways, eq-eqb, cases_order}

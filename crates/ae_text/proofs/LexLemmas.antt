@@ -1,5 +1,7 @@
 -- What begins a text is one piece.
-use Rattle.std.proofs.Common.{◌≡◌, ◌≢◌, ℕ, ◌^◌, ◌<◌, ◌≤◌, pos, ℤ, Bool, true, false, ◌||◌, ◌==◌, IsTrue, [], ◌∷◌, ◌++◌, drop, Some, None, ◌⊎◌, inl, inr, refl, sym, ap, ◌∙◌, subst, append-nil, arith, lit<, rules, tests}
+use Rattle.std.proofs.Common.{◌≡◌, ◌≢◌, ℕ, ◌^◌, ◌<◌, ◌≤◌, pos, ℤ, Bool, true, false, ◌||◌, ◌==◌, IsTrue, [], ◌∷◌}
+use Rattle.std.proofs.Common.{◌++◌, drop, Some, None, ◌⊎◌, inl, inr, refl, sym, ap, ◌∙◌, subst, append-nil, arith}
+use Rattle.std.proofs.Common.{lit<, rules, tests}
 use Rattle.ae_text.specs.declared.token.Sign.{Sign}
 use Rattle.ae_text.specs.declared.token.TokenKind.{TokenKind}
 use Rattle.ae_text.specs.declared.token.TokenKind.TheVariants as t
@@ -9,9 +11,13 @@ use Rattle.std.specs.Str.{chars, encode_utf8_all}
 use Rattle.std.specs.Char.{is_ascii_alphabetic}
 use Rattle.unicode_ident.proofs.IdentLemmas.{is_xid_start-is_xid_continue, is_xid_continue-ascii}
 use Rattle.unicode_ident.specs.Ident.{is_xid_start, is_xid_continue}
-use Rattle.ae_text.specs.Tokens.{Text, Each, Stops, is_white, is_digit, begins_word, goes_on, in_line, sign_text, IsWord, IsNumber, digits_value, IsQuoted, Spells, IsLongest, NoComment, IsInRange, TextPiece, White, Comment, Tok, piece_text, IsPiece, IsNothing, IsTooLarge, IsFault, parts_text}
+use Rattle.ae_text.specs.Tokens.{Text, Each, Stops, is_white, is_digit, begins_word, goes_on, in_line, sign_text}
+use Rattle.ae_text.specs.Tokens.{IsWord, IsNumber, digits_value, IsQuoted, Spells, IsLongest, NoComment, IsInRange}
+use Rattle.ae_text.specs.Tokens.{TextPiece, White, Comment, Tok, piece_text, IsPiece, IsNothing, IsTooLarge, IsFault}
+use Rattle.ae_text.specs.Tokens.{parts_text}
 use Rattle.ae_text.specs.Scan.{Front, Spans, Cuts, NoSign, SignThen, CommentThen, ValueThen, FaultAfter}
-use Rattle.ae_text.proofs.SpellingLemmas.{keyword_is_word, keyword_unique, sign_unique, sign_first, signs_start, begins_ascii}
+use Rattle.ae_text.proofs.SpellingLemmas.{keyword_is_word, keyword_unique, sign_unique, sign_first, signs_start}
+use Rattle.ae_text.proofs.SpellingLemmas.{begins_ascii}
 use Rattle.ae_text.proofs.QuoteLemmas.{quoted_longest, quoted_value}
 use Rattle.ae_text.proofs.ScanLemmas.{front_nil, digits_are}
 use Rattle.ae_text.proofs.TextLemmas.{first_is, no_truth, not_both}
@@ -23,7 +29,8 @@ each-append c [] b e = e
 each-append c (x ∷ a) b e = each-append c a b e.1
 
 -- what goes on with a byte of the class has stopped too early
-no_longer : (c : ℕ → Bool) (s more rest after : Text) → Stops c rest → rest ≡ more ++ after → Each c (s ++ more) → more ≡ []
+no_longer : (c : ℕ → Bool) (s more rest after : Text) → Stops c rest → rest ≡ more ++ after → Each c (s ++ more)
+    → more ≡ []
 no_longer c s [] rest after n e a = refl
 no_longer c s (x ∷ more) rest after n e a =
     let P : Text → Type 0 = Stops c in
@@ -101,7 +108,8 @@ slash_no_digit h = cc
 pub spells_word : (k : TokenKind) (b : ℕ) (s : Text) → IsTrue (begins_word b) → Spells k (b ∷ s) → Each goes_on (b ∷ s)
 spells_word (t.Name bytes) b s l h = (letter_is_word b l, h.1.1)
 spells_word (t.Int n) b s l h = absurd (letter_no_digit b l h.0.0)
-spells_word (t.Text bytes) b s l h = let P : ℕ → Type 0 = λ x. IsTrue (begins_word x) in absurd (quote_no_letter (subst P (first_is b 34 s _ h.whole) l))
+spells_word (t.Text bytes) b s l h = let P : ℕ → Type 0 =
+    λ x. IsTrue (begins_word x) in absurd (quote_no_letter (subst P (first_is b 34 s _ h.whole) l))
 spells_word (t.Word k) b s l h =
     let P : Text → Type 0 = IsWord in
     let w : IsWord (b ∷ s) = subst P (sym h) (keyword_is_word k) in (letter_is_word b l, w.1)
@@ -111,10 +119,12 @@ spells_word (t.Sign g) b s l h =
     absurd (letter_no_sign f.0 (subst P (first_is b f.0 s f.1 (h ∙ f.2)) l) f.3)
 spells_word t.End b s l h = absurd h
 
-pub spells_number : (k : TokenKind) (b : ℕ) (s : Text) → IsTrue (is_digit b) → Spells k (b ∷ s) → (k ≡ t.Int (pos (digits_value (b ∷ s)))) × Each is_digit (b ∷ s)
+pub spells_number : (k : TokenKind) (b : ℕ) (s : Text) → IsTrue (is_digit b) → Spells k (b ∷ s)
+    → (k ≡ t.Int (pos (digits_value (b ∷ s)))) × Each is_digit (b ∷ s)
 spells_number (t.Name bytes) b s d h = absurd (letter_no_digit b h.1.0 d)
 spells_number (t.Int n) b s d h = (ap (λ v. t.Int v) h.1, h.0)
-spells_number (t.Text bytes) b s d h = let P : ℕ → Type 0 = λ x. IsTrue (is_digit x) in absurd (quote_no_digit (subst P (first_is b 34 s _ h.whole) d))
+spells_number (t.Text bytes) b s d h = let P : ℕ → Type 0 =
+    λ x. IsTrue (is_digit x) in absurd (quote_no_digit (subst P (first_is b 34 s _ h.whole) d))
 spells_number (t.Word k) b s d h =
     let P : Text → Type 0 = IsWord in
     let w : IsWord (b ∷ s) = subst P (sym h) (keyword_is_word k) in absurd (letter_no_digit b w.0 d)
@@ -124,17 +134,20 @@ spells_number (t.Sign g) b s d h =
     absurd (digit_no_sign f.0 (subst P (first_is b f.0 s f.1 (h ∙ f.2)) d) f.3)
 spells_number t.End b s d h = absurd h
 
-pub spells_sign : (k : TokenKind) (b : ℕ) (s : Text) → IsTrue (signs_start b) → Spells k (b ∷ s) → (g : Sign) × (k ≡ t.Sign g) × (b ∷ s ≡ sign_text g)
+pub spells_sign : (k : TokenKind) (b : ℕ) (s : Text) → IsTrue (signs_start b) → Spells k (b ∷ s)
+    → (g : Sign) × (k ≡ t.Sign g) × (b ∷ s ≡ sign_text g)
 spells_sign (t.Name bytes) b s c h = absurd (letter_no_sign b h.1.0 c)
 spells_sign (t.Int n) b s c h = absurd (digit_no_sign b h.0.0 c)
-spells_sign (t.Text bytes) b s c h = let P : ℕ → Type 0 = λ x. IsTrue (signs_start x) in absurd (quote_no_sign (subst P (first_is b 34 s _ h.whole) c))
+spells_sign (t.Text bytes) b s c h = let P : ℕ → Type 0 =
+    λ x. IsTrue (signs_start x) in absurd (quote_no_sign (subst P (first_is b 34 s _ h.whole) c))
 spells_sign (t.Word k) b s c h =
     let P : Text → Type 0 = IsWord in
     let w : IsWord (b ∷ s) = subst P (sym h) (keyword_is_word k) in absurd (letter_no_sign b w.0 c)
 spells_sign (t.Sign g) b s c h = (g, refl, h)
 spells_sign t.End b s c h = absurd h
 
-pub spells_quote : (k : TokenKind) (s : Text) → Spells k (34 ∷ s) → (bytes : Text) × (k ≡ t.Text bytes) × IsQuoted bytes (34 ∷ s)
+pub spells_quote : (k : TokenKind) (s : Text) → Spells k (34 ∷ s) → (bytes : Text) × (k ≡ t.Text bytes)
+    × IsQuoted bytes (34 ∷ s)
 spells_quote (t.Name bytes) s h = absurd (quote_no_letter h.1.0)
 spells_quote (t.Int n) s h = absurd (quote_no_digit h.0.0)
 spells_quote (t.Text bytes) s h = (bytes, refl, h)
@@ -171,7 +184,8 @@ sign_no_letter g b r l h =
     letter_no_sign f.0 (subst P (first_is b f.0 r f.1 (h ∙ f.2)) l) f.3
 
 letter_no_quote : (b : ℕ) (r bytes : Text) → IsTrue (begins_word b) → IsQuoted bytes (b ∷ r) → ⊥
-letter_no_quote b r bytes l h = let P : ℕ → Type 0 = λ x. IsTrue (begins_word x) in quote_no_letter (subst P (first_is b 34 r _ h.whole) l)
+letter_no_quote b r bytes l h = let P : ℕ → Type 0 = λ x. IsTrue (begins_word x) in quote_no_letter
+    (subst P (first_is b 34 r _ h.whole) l)
 
 -- one spelling has one kind
 kind_unique : (k k' : TokenKind) (s : Text) → Spells k s → Spells k' s → k ≡ k'
@@ -210,11 +224,13 @@ kind_unique (t.Word k) t.End (b ∷ r) h g = absurd g
 
 pub longest_word : (s after : Text) → IsWord s → Stops goes_on after → IsLongest s after
 longest_word [] after w n = absurd w
-longest_word (b ∷ s) after w n = λ k more r e h. no_longer goes_on (b ∷ s) more after r n e (spells_word k b (s ++ more) w.0 h)
+longest_word (b ∷ s) after w n = λ k more r e h. no_longer goes_on (b ∷ s) more after r n e
+    (spells_word k b (s ++ more) w.0 h)
 
 pub longest_number : (s after : Text) → IsNumber s → Stops is_digit after → IsLongest s after
 longest_number [] after w n = absurd w
-longest_number (b ∷ s) after w n = λ k more r e h. no_longer is_digit (b ∷ s) more after r n e (spells_number k b (s ++ more) w.0 h).1
+longest_number (b ∷ s) after w n = λ k more r e h. no_longer is_digit (b ∷ s) more after r n e
+    (spells_number k b (s ++ more) w.0 h).1
 
 longest_sign : (g : Sign) (text after : Text) → SignThen text g after → IsLongest (sign_text g) (chars after)
 longest_sign g text after s = λ k more r e h.
@@ -233,23 +249,29 @@ longest_quoted bytes (b ∷ s) after h = λ k more r e g.
     quoted_longest bytes q.0 (34 ∷ s) more (subst Q quote h) q.2
 
 -- a span that begins with a character of the class is not empty
-span_some : (c : ℕ → Bool) (s after rest : Text) (b : ℕ) → s ++ after ≡ b ∷ rest → c b ≡ true → Stops c after → (s' : Text) × (s ≡ b ∷ s')
+span_some : (c : ℕ → Bool) (s after rest : Text) (b : ℕ) → s ++ after ≡ b ∷ rest → c b ≡ true → Stops c after
+    → (s' : Text) × (s ≡ b ∷ s')
 span_some c [] after rest b e h n =
     let P : Text → Type 0 = Stops c in
     let stops : c b ≡ false = subst P e n in absurd (not_both (c b) h stops)
-span_some c (x ∷ s) after rest b e h n = let heads : x ≡ b = first_is x b (s ++ after) rest e in (s, ap (λ y. y ∷ s) heads)
+span_some c (x ∷ s) after rest b e h n = let heads : x
+    ≡ b = first_is x b (s ++ after) rest e in (s, ap (λ y. y ∷ s) heads)
 
-span_first : (c : ℕ → Bool) (text bytes after rest : Text) (b : ℕ) (p : Spans c text bytes after) → Front text (b ∷ []) rest → c b ≡ true → (s' : Text) × (p.taken ≡ b ∷ s')
-span_first c text bytes after rest b p f h = span_some c p.taken (chars after) (chars rest) b (sym p.front.characters ∙ f.characters) h p.stops
+span_first : (c : ℕ → Bool) (text bytes after rest : Text) (b : ℕ) (p : Spans c text bytes after)
+    → Front text (b ∷ []) rest → c b ≡ true → (s' : Text) × (p.taken ≡ b ∷ s')
+span_first c text bytes after rest b p f h = span_some c p.taken (chars after) (chars rest) b
+    (sym p.front.characters ∙ f.characters) h p.stops
 
-pub span_word : (text bytes after rest : Text) (b : ℕ) (p : Spans goes_on text bytes after) → Front text (b ∷ []) rest → begins_word b ≡ true → IsWord p.taken
+pub span_word : (text bytes after rest : Text) (b : ℕ) (p : Spans goes_on text bytes after) → Front text (b ∷ []) rest
+    → begins_word b ≡ true → IsWord p.taken
 span_word text bytes after rest b p f h =
     let q = span_first goes_on text bytes after rest b p f (letter_is_word b h) in
     let P : Text → Type 0 = IsWord in
     let E : Text → Type 0 = Each goes_on in
     subst P (sym q.1) (h, (subst E q.1 p.each).1)
 
-pub span_number : (text bytes after rest : Text) (b : ℕ) (p : Spans is_digit text bytes after) → Front text (b ∷ []) rest → is_digit b ≡ true → IsNumber p.taken
+pub span_number : (text bytes after rest : Text) (b : ℕ) (p : Spans is_digit text bytes after)
+    → Front text (b ∷ []) rest → is_digit b ≡ true → IsNumber p.taken
 span_number text bytes after rest b p f h =
     let q = span_first is_digit text bytes after rest b p f h in
     let P : Text → Type 0 = IsNumber in
@@ -261,11 +283,14 @@ span_number text bytes after rest b p f h =
 no_comment_at : (text rest : Text) (b : ℕ) → text ≡ b ∷ rest → (b ≡ 47 → ⊥) → NoComment text
 no_comment_at text rest b e n = λ c h. n (first_is b 47 rest (47 ∷ c) (sym e ∙ h))
 
-pub letter_comment : (text rest : Text) (b : ℕ) → Front text (b ∷ []) rest → begins_word b ≡ true → NoComment (chars text)
-letter_comment text rest b e h = no_comment_at (chars text) (chars rest) b e.characters (λ w. let P : ℕ → Type 0 = λ x. IsTrue (begins_word x) in slash_no_letter (subst P w h))
+pub letter_comment : (text rest : Text) (b : ℕ) → Front text (b ∷ []) rest → begins_word b ≡ true
+    → NoComment (chars text)
+letter_comment text rest b e h = no_comment_at (chars text) (chars rest) b e.characters
+    (λ w. let P : ℕ → Type 0 = λ x. IsTrue (begins_word x) in slash_no_letter (subst P w h))
 
 pub digit_comment : (text rest : Text) (b : ℕ) → Front text (b ∷ []) rest → is_digit b ≡ true → NoComment (chars text)
-digit_comment text rest b e h = no_comment_at (chars text) (chars rest) b e.characters (λ w. let P : ℕ → Type 0 = λ x. IsTrue (is_digit x) in slash_no_digit (subst P w h))
+digit_comment text rest b e h = no_comment_at (chars text) (chars rest) b e.characters
+    (λ w. let P : ℕ → Type 0 = λ x. IsTrue (is_digit x) in slash_no_digit (subst P w h))
 
 pub quote_comment : (text rest : Text) (b : ℕ) → Front text (b ∷ []) rest → b ≡ 34 → NoComment (chars text)
 quote_comment text rest b e q = no_comment_at (chars text) (chars rest) b e.characters (λ w. absurd (omega arith))
@@ -276,61 +301,94 @@ fault_here text r f = record { before = []; after = text; front = front_nil text
 pub cuts_white : (text rest : Text) (b : ℕ) → Front text (b ∷ []) rest → is_white b ≡ true → Cuts text None rest
 cuts_white text rest b e h = record { piece = White b; front = e; is = h; kind_is = refl }
 
-cuts_token : (text s after : Text) (k : TokenKind) → Front text s after → Spells k s → IsInRange k s → IsLongest s (chars after) → NoComment (chars text) → Cuts text (Some k) after
+cuts_token : (text s after : Text) (k : TokenKind) → Front text s after → Spells k s → IsInRange k s
+    → IsLongest s (chars after) → NoComment (chars text) → Cuts text (Some k) after
 cuts_token text s after k e h r l n =
     let P : Text → Type 0 = NoComment in
-    record { piece = Tok k s; front = e; is = record { spells = h; longest = l; no_comment = subst P e.characters n; in_range = r }; kind_is = refl }
+    record {
+      piece = Tok k s;
+      front = e;
+      is =
+          record { spells = h; longest = l; no_comment = subst P e.characters n; in_range = r };
+      kind_is = refl;
+    }
 
-pub cuts_word : (text bytes after rest : Text) (b : ℕ) (k : TokenKind) → Spans goes_on text bytes after → Front text (b ∷ []) rest → begins_word b ≡ true →
+pub cuts_word : (text bytes after rest : Text) (b : ℕ) (k : TokenKind) → Spans goes_on text bytes after
+    → Front text (b ∷ []) rest → begins_word b ≡ true →
     ((cs : Text) → bytes ≡ encode_utf8_all cs → IsWord cs → Spells k cs × IsInRange k cs) → Cuts text (Some k) after
 cuts_word text bytes after rest b k p e h w =
     let is : IsWord p.taken = span_word text bytes after rest b p e h in
     let r = w p.taken p.bytes_are is in
-    cuts_token text p.taken after k p.front r.0 r.1 (longest_word p.taken (chars after) is p.stops) (letter_comment text rest b e h)
+    cuts_token text p.taken after k p.front r.0 r.1 (longest_word p.taken (chars after) is p.stops)
+    (letter_comment text rest b e h)
 
-pub cuts_number : (text bytes after rest : Text) (b : ℕ) (n : ℤ) → Spans is_digit text bytes after → Front text (b ∷ []) rest → is_digit b ≡ true → n ≡ pos (digits_value bytes) → digits_value bytes < 2 ^ 63 → Cuts text (Some (t.Int n)) after
+pub cuts_number : (text bytes after rest : Text) (b : ℕ) (n : ℤ) → Spans is_digit text bytes after
+    → Front text (b ∷ []) rest → is_digit b ≡ true → n ≡ pos (digits_value bytes) → digits_value bytes < 2 ^ 63
+    → Cuts text (Some (t.Int n)) after
 cuts_number text bytes after rest b n p e h v r =
     let is : IsNumber p.taken = span_number text bytes after rest b p e h in
     let same : digits_value bytes ≡ digits_value p.taken = ap digits_value (digits_are text bytes after p) in
     let small : digits_value p.taken < 2 ^ 63 = omega (arith, r, same) in
-    cuts_token text p.taken after (t.Int n) p.front (is, v ∙ ap (λ x. pos x) same) small (longest_number p.taken (chars after) is p.stops) (digit_comment text rest b e h)
+    cuts_token text p.taken after (t.Int n) p.front (is, v ∙ ap (λ x. pos x) same) small
+    (longest_number p.taken (chars after) is p.stops) (digit_comment text rest b e h)
 
-pub too_large : (text bytes after rest : Text) (b : ℕ) → Spans is_digit text bytes after → Front text (b ∷ []) rest → is_digit b ≡ true → 2 ^ 63 ≤ digits_value bytes → IsTooLarge (chars text)
+pub too_large : (text bytes after rest : Text) (b : ℕ) → Spans is_digit text bytes after → Front text (b ∷ []) rest
+    → is_digit b ≡ true → 2 ^ 63 ≤ digits_value bytes → IsTooLarge (chars text)
 too_large text bytes after rest b p e h v =
     let same : digits_value bytes ≡ digits_value p.taken = ap digits_value (digits_are text bytes after p) in
-    record { digits = p.taken; after = chars after; parts = p.front.characters; number = span_number text bytes after rest b p e h; stops = p.stops; large = omega (arith, v, same) }
+    record {
+      digits = p.taken;
+      after = chars after;
+      parts = p.front.characters;
+      number =
+          span_number text bytes after rest b p e h;
+      stops = p.stops;
+      large = omega (arith, v, same);
+    }
 
-pub cuts_text : (text rest after bytes : Text) (b : ℕ) → Front text (b ∷ []) rest → b ≡ 34 → ValueThen text bytes after → Cuts text (Some (t.Text bytes)) after
+pub cuts_text : (text rest after bytes : Text) (b : ℕ) → Front text (b ∷ []) rest → b ≡ 34
+    → ValueThen text bytes after → Cuts text (Some (t.Text bytes)) after
 cuts_text text rest after bytes b e q v =
-    let is : IsQuoted bytes (34 ∷ (parts_text v.parts ++ 34 ∷ [])) = record { parts = v.parts; whole = refl; are = v.are; known = v.known; value_is = v.value_is } in
-    cuts_token text (34 ∷ (parts_text v.parts ++ 34 ∷ [])) after (t.Text bytes) v.front is tt (longest_quoted bytes _ (chars after) is) (quote_comment text rest b e q)
+    let is : IsQuoted bytes (34 ∷ (parts_text v.parts ++ 34 ∷ [])) =
+    record { parts = v.parts; whole = refl; are = v.are; known = v.known; value_is = v.value_is } in
+    cuts_token text (34 ∷ (parts_text v.parts ++ 34 ∷ [])) after (t.Text bytes) v.front is tt
+    (longest_quoted bytes _ (chars after) is) (quote_comment text rest b e q)
 
 pub cuts_comment : (text after : Text) → CommentThen text after → Cuts text None after
 cuts_comment text after c = record { piece = Comment c.line; front = c.front; is = (c.each, c.stops); kind_is = refl }
 
-pub cuts_sign : (text after : Text) (g : Sign) → SignThen text g after → NoComment (chars text) → Cuts text (Some (t.Sign g)) after
-cuts_sign text after g s n = cuts_token text (sign_text g) after (t.Sign g) s.front refl tt (longest_sign g text after s) n
+pub cuts_sign : (text after : Text) (g : Sign) → SignThen text g after → NoComment (chars text)
+    → Cuts text (Some (t.Sign g)) after
+cuts_sign text after g s n = cuts_token text (sign_text g) after (t.Sign g) s.front refl tt
+    (longest_sign g text after s) n
 
-pub nothing_begins : (text rest : Text) (b : ℕ) → Front text (b ∷ []) rest → is_white b ≡ false → begins_word b ≡ false → is_digit b ≡ false → b ≢ 34 → NoComment (chars text) → NoSign (chars text) → IsNothing (chars text)
+pub nothing_begins : (text rest : Text) (b : ℕ) → Front text (b ∷ []) rest → is_white b ≡ false
+    → begins_word b ≡ false → is_digit b ≡ false → b ≢ 34 → NoComment (chars text) → NoSign (chars text)
+    → IsNothing (chars text)
 nothing_begins text rest b e w l d q n g =
     let P : Text → Type 0 = IsNothing in
     let N : Text → Type 0 = NoComment in
     let G : Text → Type 0 = NoSign in
     subst P (sym e.characters) (w, q, subst N e.characters n, no_spelling (chars rest) (subst G e.characters g))
   where
-    by_start : (k : TokenKind) (rest s after r : Text) (c : ℕ) → NoSign (b ∷ rest) → b ∷ rest ≡ s ++ after → s ≡ c ∷ r → Spells k s → b ≡ c → Starts c → ⊥
-    by_start k rest s after r c g e f h i (inl y) = let Q : ℕ → Type 0 = λ x. IsTrue (begins_word x) in not_both (begins_word b) (subst Q (sym i) y) l
-    by_start k rest s after r c g e f h i (inr (inl y)) = let Q : ℕ → Type 0 = λ x. IsTrue (is_digit x) in not_both (is_digit b) (subst Q (sym i) y) d
+    by_start : (k : TokenKind) (rest s after r : Text) (c : ℕ) → NoSign (b ∷ rest) → b ∷ rest ≡ s ++ after → s ≡ c ∷ r
+        → Spells k s → b ≡ c → Starts c → ⊥
+    by_start k rest s after r c g e f h i (inl y) = let Q : ℕ → Type 0 =
+        λ x. IsTrue (begins_word x) in not_both (begins_word b) (subst Q (sym i) y) l
+    by_start k rest s after r c g e f h i (inr (inl y)) = let Q : ℕ → Type 0 =
+        λ x. IsTrue (is_digit x) in not_both (is_digit b) (subst Q (sym i) y) d
     by_start k rest s after r c g e f h i (inr (inr (inl y))) =
         let Q : Text → Type 0 = Spells k in
         let z = spells_sign k c r y (subst Q f h) in
         g z.0 after (e ∙ ap (λ x. x ++ after) (f ∙ z.2))
     by_start k rest s after r c g e f h i (inr (inr (inr y))) = q (i ∙ y)
 
-    no_spelling : (rest : Text) → NoSign (b ∷ rest) → (k : TokenKind) (s after : Text) → b ∷ rest ≡ s ++ after → Spells k s → ⊥
+    no_spelling : (rest : Text) → NoSign (b ∷ rest) → (k : TokenKind) (s after : Text) → b ∷ rest ≡ s ++ after
+        → Spells k s → ⊥
     no_spelling rest g k s after e h =
         let f = spells_first k s h in
-        by_start k rest s after f.1 f.0 g e f.2 h (first_is b f.0 rest (f.1 ++ after) (e ∙ ap (λ x. x ++ after) f.2)) f.3
+        by_start k rest s after f.1 f.0 g e f.2 h (first_is b f.0 rest (f.1 ++ after) (e ∙ ap (λ x. x ++ after) f.2))
+        f.3
 
 -- ---- one cutting
 
@@ -339,7 +397,8 @@ abbrev Either : Text → Text → Text → Text → Type 0
 Either a b x y = (more : Text) × (((b ≡ a ++ more) × (x ≡ more ++ y)) ⊎ ((a ≡ b ++ more) × (y ≡ more ++ x)))
 
 longer : (u : ℕ) (a b x y : Text) → Either a b x y → Either (u ∷ a) (u ∷ b) x y
-longer u a b x y e = elim e.1 as (λ _. Either (u ∷ a) (u ∷ b) x y) [ inl p ↦ (e.0, inl (ap (λ l. u ∷ l) p.0, p.1)) | inr p ↦ (e.0, inr (ap (λ l. u ∷ l) p.0, p.1)) ]
+longer u a b x y e = elim e.1 as (λ _. Either (u ∷ a) (u ∷ b) x y)
+    [ inl p ↦ (e.0, inl (ap (λ l. u ∷ l) p.0, p.1)) | inr p ↦ (e.0, inr (ap (λ l. u ∷ l) p.0, p.1)) ]
 
 compare : (a b x y : Text) → a ++ x ≡ b ++ y → Either a b x y
 compare [] b x y e = (b, inl (refl, e))
@@ -351,7 +410,8 @@ compare (u ∷ a) (v ∷ b) x y e =
     subst P heads (longer u a b x y (compare a b x y tails))
 
 -- the longer of two longest spellings is no longer
-same_front : (s s' x y : Text) (k k' : TokenKind) → Spells k s → Spells k' s' → IsLongest s x → IsLongest s' y → s ++ x ≡ s' ++ y → (s ≡ s') × (x ≡ y)
+same_front : (s s' x y : Text) (k k' : TokenKind) → Spells k s → Spells k' s' → IsLongest s x → IsLongest s' y
+    → s ++ x ≡ s' ++ y → (s ≡ s') × (x ≡ y)
 same_front s s' x y k k' h h' l l' e =
     let c = compare s s' x y e in
     let P : Text → Type 0 = Spells k' in
@@ -374,14 +434,17 @@ no_token : (k : TokenKind) (s after rest : Text) (b : ℕ) → Spells k s → Is
 no_token k s after rest b h w e =
     let f = spells_first k s h in
     let all : b ∷ rest ≡ f.0 ∷ (f.1 ++ after) = e ∙ ap (λ l. l ++ after) f.2 in
-    let P : ℕ → Type 0 = λ x. IsTrue (is_white x) in
-    white_not_first f.0 (subst P (first_is b f.0 rest (f.1 ++ after) all) w) f.3
+    let P : ℕ → Type 0 = λ x. IsTrue (is_white x)
+    in white_not_first f.0 (subst P (first_is b f.0 rest (f.1 ++ after) all) w) f.3
 
 -- two spans of one class
-spans_same : (c : ℕ → Bool) (a b x y : Text) → Each c a → Each c b → Stops c x → Stops c y → a ++ x ≡ b ++ y → (a ≡ b) × (x ≡ y)
+spans_same : (c : ℕ → Bool) (a b x y : Text) → Each c a → Each c b → Stops c x → Stops c y → a ++ x ≡ b ++ y
+    → (a ≡ b) × (x ≡ y)
 spans_same c [] [] x y m n p q e = (refl, e)
-spans_same c [] (v ∷ b) x y m n p q e = let P : Text → Type 0 = Stops c in let stops : c v ≡ false = subst P e p in absurd (not_both (c v) n.0 stops)
-spans_same c (u ∷ a) [] x y m n p q e = let P : Text → Type 0 = Stops c in let stops : c u ≡ false = subst P (sym e) q in absurd (not_both (c u) m.0 stops)
+spans_same c [] (v ∷ b) x y m n p q e = let P : Text → Type 0 = Stops c in let stops : c v
+    ≡ false = subst P e p in absurd (not_both (c v) n.0 stops)
+spans_same c (u ∷ a) [] x y m n p q e = let P : Text → Type 0 = Stops c in let stops : c u
+    ≡ false = subst P (sym e) q in absurd (not_both (c u) m.0 stops)
 spans_same c (u ∷ a) (v ∷ b) x y m n p q e =
     let heads : u ≡ v = cc in
     let tails : a ++ x ≡ b ++ y = cc in
@@ -392,11 +455,14 @@ slash_no_white : IsTrue (is_white 47) → ⊥
 slash_no_white h = cc
 
 -- what begins a text is one piece
-pub piece_unique : (p q : TextPiece) (x y : Text) → IsPiece p x → IsPiece q y → piece_text p ++ x ≡ piece_text q ++ y → (p ≡ q) × (x ≡ y)
+pub piece_unique : (p q : TextPiece) (x y : Text) → IsPiece p x → IsPiece q y → piece_text p ++ x ≡ piece_text q ++ y
+    → (p ≡ q) × (x ≡ y)
 piece_unique (White b) (White d) x y m n e = let heads : b ≡ d = cc in (ap (λ w. White w) heads, cc)
-piece_unique (White b) (Comment d) x y m n e = let P : ℕ → Type 0 = λ w. IsTrue (is_white w) in absurd (slash_no_white (subst P (first_is b 47 x _ e) m))
+piece_unique (White b) (Comment d) x y m n e = let P : ℕ → Type 0 =
+    λ w. IsTrue (is_white w) in absurd (slash_no_white (subst P (first_is b 47 x _ e) m))
 piece_unique (White b) (Tok k s) x y m n e = absurd (no_token k s y x b n.spells m e)
-piece_unique (Comment c) (White d) x y m n e = let P : ℕ → Type 0 = λ w. IsTrue (is_white w) in absurd (slash_no_white (subst P (first_is d 47 y _ (sym e)) n))
+piece_unique (Comment c) (White d) x y m n e = let P : ℕ → Type 0 =
+    λ w. IsTrue (is_white w) in absurd (slash_no_white (subst P (first_is d 47 y _ (sym e)) n))
 piece_unique (Comment c) (Comment d) x y m n e =
     let tails : c ++ x ≡ d ++ y = ap (drop 2) e in
     let r = spans_same in_line c d x y m.0 n.0 m.1 n.1 tails in
@@ -419,7 +485,8 @@ nothing_no_piece (Comment c) (d ∷ rest) x f m e = f.2 (c ++ x) e
 nothing_no_piece (Tok k s) (d ∷ rest) x f m e = f.3 k s x e m.spells
 
 -- a number that is too large is no piece
-large_int : (p : TextPiece) (s after x : Text) → IsNumber s → Stops is_digit after → 2 ^ 63 ≤ digits_value s → IsPiece p x → s ++ after ≡ piece_text p ++ x → ⊥
+large_int : (p : TextPiece) (s after x : Text) → IsNumber s → Stops is_digit after → 2 ^ 63 ≤ digits_value s
+    → IsPiece p x → s ++ after ≡ piece_text p ++ x → ⊥
 large_int p [] after x n stop v m e = n
 large_int (White b) (d ∷ s) after x n stop v m e =
     let P : ℕ → Type 0 = λ w. IsTrue (is_digit w) in white_no_digit b m (subst P (first_is d b _ _ e) n.0)
@@ -427,7 +494,8 @@ large_int (Comment c) (d ∷ s) after x n stop v m e =
     let P : ℕ → Type 0 = λ w. IsTrue (is_digit w) in slash_no_digit (subst P (first_is d 47 _ _ e) n.0)
 large_int (Tok k s') (d ∷ s) after x n stop v m e =
     let number : Spells (t.Int (pos (digits_value (d ∷ s)))) (d ∷ s) = (n, refl) in
-    let r = same_front (d ∷ s) s' after x (t.Int (pos (digits_value (d ∷ s)))) k number m.spells (longest_number (d ∷ s) after n stop) m.longest e in
+    let r = same_front (d ∷ s) s' after x (t.Int (pos (digits_value (d ∷ s)))) k number m.spells
+    (longest_number (d ∷ s) after n stop) m.longest e in
     let P : Text → Type 0 = Spells k in
     let is : k ≡ t.Int (pos (digits_value (d ∷ s))) = (spells_number k d s n.0 (subst P (sym r.0) m.spells)).0 in
     let Q : TokenKind → Type 0 = λ w. IsInRange w s' in
@@ -439,9 +507,11 @@ pub large_no_piece : (p : TextPiece) (rest x : Text) → IsTooLarge rest → IsP
 large_no_piece p rest x f m e = large_int p f.digits f.after x f.number f.stops f.large m (sym f.parts ∙ e)
 
 -- what begins with a quote is a text, if it is a piece
-pub quote_piece : (p : TextPiece) (rest x : Text) → IsPiece p x → 34 ∷ rest ≡ piece_text p ++ x → (bytes s : Text) × (p ≡ Tok (t.Text bytes) (34 ∷ s)) × IsQuoted bytes (34 ∷ s)
+pub quote_piece : (p : TextPiece) (rest x : Text) → IsPiece p x → 34 ∷ rest ≡ piece_text p ++ x
+    → (bytes s : Text) × (p ≡ Tok (t.Text bytes) (34 ∷ s)) × IsQuoted bytes (34 ∷ s)
 quote_piece (White b) rest x m e = absurd (white_no_quote b m (sym (first_is 34 b rest x e)))
-quote_piece (Comment c) rest x m e = absurd (let slash : 34 ≡ 47 = first_is 34 47 rest (47 ∷ (c ++ x)) e in omega (arith, slash))
+quote_piece (Comment c) rest x m e =
+    absurd (let slash : 34 ≡ 47 = first_is 34 47 rest (47 ∷ (c ++ x)) e in omega (arith, slash))
 quote_piece (Tok k s) rest x m e =
     let f = spells_first k s m.spells in
     let quote : 34 ≡ f.0 = first_is 34 f.0 rest (f.1 ++ x) (e ∙ ap (λ w. w ++ x) f.2) in

@@ -1,5 +1,7 @@
 -- Keywords and signs: each is told from the others by its text.
-use Rattle.std.proofs.Common.{◌≡◌, ◌≢◌, ◌==◌, if◌then◌else◌, ℕ, zero, suc, ◌+◌, ◌<◌, take, get_or, Bool, true, false, ◌||◌, ◌&&◌, nat_le, IsTrue, ◌⊎◌, inl, inr, List, [], ◌∷◌, ◌++◌, length, Option, Some, None, refl, sym, ap, ◌∙◌, subst, arith, rules, tests}
+use Rattle.std.proofs.Common.{◌≡◌, ◌≢◌, ◌==◌, if◌then◌else◌, ℕ, zero, suc, ◌+◌, ◌<◌, take, get_or, Bool, true, false}
+use Rattle.std.proofs.Common.{◌||◌, ◌&&◌, nat_le, IsTrue, ◌⊎◌, inl, inr, List, [], ◌∷◌, ◌++◌, length, Option, Some}
+use Rattle.std.proofs.Common.{None, refl, sym, ap, ◌∙◌, subst, arith, rules, tests}
 use Rattle.ae_text.specs.declared.token.Keyword.{Keyword}
 use Rattle.ae_text.specs.declared.token.Keyword.TheVariants as word
 use Rattle.ae_text.specs.declared.token.Sign.{Sign}
@@ -14,10 +16,17 @@ use Rattle.unicode_ident.proofs.IdentLemmas.{is_xid_start-ascii, is_xid_start-is
 use Rattle.std.proofs.lemmas.Bool.{or_right, and_parts}
 
 abbrev pub keywords : List Keyword
-keywords = word.Ints ∷ word.Assert ∷ word.Atomic ∷ word.Bool ∷ word.Class ∷ word.Else ∷ word.Exclusive ∷ word.False ∷ word.Freeze ∷ word.Group ∷ word.If ∷ word.Immutable ∷ word.Int ∷ word.Into ∷ word.Len ∷ word.Lent ∷ word.Let ∷ word.Method ∷ word.New ∷ word.None ∷ word.Null ∷ word.Open ∷ word.Print ∷ word.Protected ∷ word.Return ∷ word.Share ∷ word.Shared ∷ word.Split ∷ word.Take ∷ word.This ∷ word.True ∷ word.Unique ∷ word.Void ∷ word.While ∷ word.With ∷ []
+keywords = word.Ints ∷ word.Assert ∷ word.Atomic ∷ word.Bool ∷ word.Class ∷ word.Else ∷ word.Exclusive ∷ word.False
+    ∷ word.Freeze ∷ word.Group ∷ word.If ∷ word.Immutable ∷ word.Int ∷ word.Into ∷ word.Len ∷ word.Lent ∷ word.Let
+    ∷ word.Method ∷ word.New ∷ word.None ∷ word.Null ∷ word.Open ∷ word.Print ∷ word.Protected ∷ word.Return
+    ∷ word.Share ∷ word.Shared ∷ word.Split ∷ word.Take ∷ word.This ∷ word.True ∷ word.Unique ∷ word.Void ∷ word.While
+    ∷ word.With ∷ []
 
 abbrev pub signs : List Sign
-signs = sign.OpenBrace ∷ sign.CloseBrace ∷ sign.OpenParen ∷ sign.CloseParen ∷ sign.OpenBracket ∷ sign.CloseBracket ∷ sign.Less ∷ sign.Greater ∷ sign.Away ∷ sign.Comma ∷ sign.Semicolon ∷ sign.Dot ∷ sign.Assign ∷ sign.Equal ∷ sign.NotEqual ∷ sign.LessEqual ∷ sign.GreaterEqual ∷ sign.Plus ∷ sign.Minus ∷ sign.Star ∷ sign.Slash ∷ sign.Percent ∷ sign.Not ∷ sign.AndAnd ∷ sign.OrOr ∷ []
+signs = sign.OpenBrace ∷ sign.CloseBrace ∷ sign.OpenParen ∷ sign.CloseParen ∷ sign.OpenBracket ∷ sign.CloseBracket
+    ∷ sign.Less ∷ sign.Greater ∷ sign.Away ∷ sign.Comma ∷ sign.Semicolon ∷ sign.Dot ∷ sign.Assign ∷ sign.Equal
+    ∷ sign.NotEqual ∷ sign.LessEqual ∷ sign.GreaterEqual ∷ sign.Plus ∷ sign.Minus ∷ sign.Star ∷ sign.Slash
+    ∷ sign.Percent ∷ sign.Not ∷ sign.AndAnd ∷ sign.OrOr ∷ []
 
 abbrev same_text : Text → Text → Bool
 same_text [] [] = true
@@ -67,7 +76,8 @@ keyword_back word.While = refl
 keyword_back word.With = refl
 
 pub keyword_unique : (k h : Keyword) → keyword_text k ≡ keyword_text h → k ≡ h
-keyword_unique k h e = let both : Some k ≡ Some h = sym (keyword_back k) ∙ ap (λ s. find_by keyword_text s keywords) e ∙ keyword_back h in cc
+keyword_unique k h e = let both : Some k ≡ Some h = sym (keyword_back k) ∙ ap (λ s. find_by keyword_text s keywords) e
+    ∙ keyword_back h in cc
 
 sign_back : (g : Sign) → find_by sign_text (sign_text g) signs ≡ Some g
 sign_back sign.OpenBrace = refl
@@ -97,7 +107,8 @@ sign_back sign.AndAnd = refl
 sign_back sign.OrOr = refl
 
 pub sign_unique : (g h : Sign) → sign_text g ≡ sign_text h → g ≡ h
-sign_unique g h e = let both : Some g ≡ Some h = sym (sign_back g) ∙ ap (λ s. find_by sign_text s signs) e ∙ sign_back h in cc
+sign_unique g h e = let both : Some g ≡ Some h = sym (sign_back g) ∙ ap (λ s. find_by sign_text s signs) e
+    ∙ sign_back h in cc
 
 -- ---- what they begin with, and what they have
 
@@ -130,7 +141,8 @@ letters_go_on (b ∷ s) e = (is_xid_start-is_xid_continue b (letter_xid b e.0), 
 
 letters_same : (s : Text) → Each ascii_letter s → encode_utf8_all s ≡ s
 letters_same [] e = refl
-letters_same (b ∷ s) e = ap (λ x. x ++ encode_utf8_all s) (encode_ascii b (letter_low b e.0)) ∙ ap (λ x. b ∷ x) (letters_same s e.1)
+letters_same (b ∷ s) e = ap (λ x. x ++ encode_utf8_all s) (encode_ascii b (letter_low b e.0))
+    ∙ ap (λ x. b ∷ x) (letters_same s e.1)
 
 -- a word that begins with an ASCII character begins with a letter or `_`
 pub begins_ascii : (b : ℕ) → b < 128 → IsTrue (begins_word b) → IsTrue (b == 95 || is_ascii_alphabetic b)
@@ -179,21 +191,24 @@ keyword_test word.With = refl
 
 is_word_by : (s : Text) → word_test s ≡ true → IsWord s
 is_word_by [] e = absurd (cc)
-is_word_by (b ∷ s) e = let p = and_parts (ascii_letter b) (each_test ascii_letter s) e in (letter_begins b p.0, letters_go_on s (each_by ascii_letter s p.1))
+is_word_by (b ∷ s) e = let p = and_parts (ascii_letter b)
+    (each_test ascii_letter s) e in (letter_begins b p.0, letters_go_on s (each_by ascii_letter s p.1))
 
 pub keyword_is_word : (k : Keyword) → IsWord (keyword_text k)
 keyword_is_word k = is_word_by (keyword_text k) (keyword_test k)
 
 word_same : (s : Text) → word_test s ≡ true → encode_utf8_all s ≡ s
 word_same [] e = refl
-word_same (b ∷ s) e = let p = and_parts (ascii_letter b) (each_test ascii_letter s) e in letters_same (b ∷ s) (p.0, each_by ascii_letter s p.1)
+word_same (b ∷ s) e = let p = and_parts (ascii_letter b) (each_test ascii_letter s) e in letters_same (b ∷ s)
+    (p.0, each_by ascii_letter s p.1)
 
 pub keyword_same : (k : Keyword) → encode_utf8_all (keyword_text k) ≡ keyword_text k
 keyword_same k = word_same (keyword_text k) (keyword_test k)
 
 -- a character that begins a sign begins nothing else
 abbrev pub signs_start : ℕ → Bool
-signs_start b = nat_le 33 b && nat_le b 125 && (if ascii_letter b || is_digit b || b == 95 || b == 34 then false else true)
+signs_start b = nat_le 33 b && nat_le b 125
+    && (if ascii_letter b || is_digit b || b == 95 || b == 34 then false else true)
 
 abbrev first_test : Text → Bool
 first_test [] = false
@@ -283,22 +298,29 @@ abbrev pub NoDouble : ℕ → Text → Type 0
 NoDouble first rest = (second : ℕ) (r : Text) → rest ≡ second ∷ r → (g : Sign) → sign_text g ≢ first ∷ second ∷ []
 
 pub no_sign_end : (text : Text) → text ≡ [] → NoSign text
-no_sign_end text e = λ g after h. let f = sign_first g in let no_way : [] ≡ f.0 ∷ (f.1 ++ after) = sym e ∙ h ∙ ap (λ x. x ++ after) f.2 in cc
+no_sign_end text e = λ g after h. let f = sign_first g in let no_way : [] ≡ f.0 ∷ (f.1 ++ after) = sym e ∙ h
+    ∙ ap (λ x. x ++ after) f.2 in cc
 
 pub no_double_end : (first : ℕ) (rest : Text) → rest ≡ [] → NoDouble first rest
 no_double_end first rest e = λ second r h g. absurd (let no_way : [] ≡ second ∷ r = sym e ∙ h in cc)
 
-pub no_double : (first second : ℕ) (rest r : Text) → rest ≡ second ∷ r → ((g : Sign) → sign_text g ≢ first ∷ second ∷ []) → NoDouble first rest
-no_double first second rest r e n = λ second' r' h g w. n g (let same : second' ≡ second = ap_head second' second r' r (sym h ∙ e) in w ∙ ap (λ x. first ∷ x ∷ []) same)
+pub no_double : (first second : ℕ) (rest r : Text) → rest ≡ second ∷ r
+    → ((g : Sign) → sign_text g ≢ first ∷ second ∷ []) → NoDouble first rest
+no_double first second rest r e n =
+    λ second' r' h g w. n g (let same : second' ≡ second = ap_head second' second r' r (sym h ∙ e) in w
+    ∙ ap (λ x. first ∷ x ∷ []) same)
   where
     ap_head : (b c : ℕ) (s r : Text) → b ∷ s ≡ c ∷ r → b ≡ c
     ap_head b c s r e = cc
 
-pub no_sign : (text rest : Text) (first : ℕ) → text ≡ first ∷ rest → NoDouble first rest → ((g : Sign) → sign_text g ≢ first ∷ []) → NoSign text
+pub no_sign : (text rest : Text) (first : ℕ) → text ≡ first ∷ rest → NoDouble first rest
+    → ((g : Sign) → sign_text g ≢ first ∷ []) → NoSign text
 no_sign text rest first e d n = λ g after h. by_shape g after (sym e ∙ h) (sign_shape g)
   where
     by_shape : (g : Sign) (after : Text) → first ∷ rest ≡ sign_text g ++ after → Shape (sign_text g) → ⊥
-    by_shape g after h (inl p) = n g (let all : first ∷ rest ≡ p.0 ∷ after = h ∙ ap (λ x. x ++ after) p.1 in let same : p.0 ≡ first = cc in p.1 ∙ ap (λ x. x ∷ []) same)
+    by_shape g after h (inl p) = n g
+        (let all : first ∷ rest ≡ p.0 ∷ after = h ∙ ap (λ x. x ++ after) p.1 in let same : p.0 ≡ first = cc in p.1
+        ∙ ap (λ x. x ∷ []) same)
     by_shape g after h (inr p) =
         let all : first ∷ rest ≡ p.0 ∷ p.1 ∷ after = h ∙ ap (λ x. x ++ after) p.2 in
         let same : p.0 ≡ first = cc in
@@ -369,10 +391,13 @@ none_of s word.Void n = n.1.1.1.1.1.1.1.1.1.1.1.1.1.1.1.1.1.1.1.1.1.1.1.1.1.1.1.
 none_of s word.While n = n.1.1.1.1.1.1.1.1.1.1.1.1.1.1.1.1.1.1.1.1.1.1.1.1.1.1.1.1.1.1.1.1.1.0
 none_of s word.With n = n.1.1.1.1.1.1.1.1.1.1.1.1.1.1.1.1.1.1.1.1.1.1.1.1.1.1.1.1.1.1.1.1.1.1.0
 
-none_suc : (s : Text) (d : Keyword) (ks : List Keyword) (i : ℕ) → i < length ks → NoneIs s (take i ks) → s ≢ keyword_text (get_or ks i d) → NoneIs s (take (suc i) ks)
+none_suc : (s : Text) (d : Keyword) (ks : List Keyword) (i : ℕ) → i < length ks → NoneIs s (take i ks)
+    → s ≢ keyword_text (get_or ks i d) → NoneIs s (take (suc i) ks)
 none_suc s d [] i h n m = absurd (omega arith)
 none_suc s d (k ∷ ks) zero h n m = (m, tt)
 none_suc s d (k ∷ ks) (suc i) h n m = (n.0, none_suc s d ks i (omega arith) n.1 m)
 
-pub none_more : (s : Text) (d : Keyword) (ks : List Keyword) (i : ℕ) → i < length ks → NoneIs s (take i ks) → s ≢ keyword_text (get_or ks i d) → NoneIs s (take (i + 1) ks)
-none_more s d ks i h n m = let P : ℕ → Type 0 = λ j. NoneIs s (take j ks) in let next : suc i ≡ i + 1 = omega arith in subst P next (none_suc s d ks i h n m)
+pub none_more : (s : Text) (d : Keyword) (ks : List Keyword) (i : ℕ) → i < length ks → NoneIs s (take i ks)
+    → s ≢ keyword_text (get_or ks i d) → NoneIs s (take (i + 1) ks)
+none_more s d ks i h n m = let P : ℕ → Type 0 = λ j. NoneIs s (take j ks) in let next : suc i
+    ≡ i + 1 = omega arith in subst P next (none_suc s d ks i h n m)

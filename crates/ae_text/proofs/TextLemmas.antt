@@ -1,5 +1,6 @@
 -- Texts between quotes.
-use Rattle.std.proofs.Common.{◌≡◌, ℕ, ◌+◌, ◌-◌, ◌<◌, Bool, false, IsTrue, List, [], ◌∷◌, ◌++◌, length, inl, inr, refl, sym, ap, ◌∙◌, append_assoc, append-nil, arith}
+use Rattle.std.proofs.Common.{◌≡◌, ℕ, ◌+◌, ◌-◌, ◌<◌, Bool, false, IsTrue, List, [], ◌∷◌, ◌++◌, length, inl, inr}
+use Rattle.std.proofs.Common.{refl, sym, ap, ◌∙◌, append_assoc, append-nil, arith}
 use Rattle.std.specs.Char.{encode_utf8}
 use Rattle.std.specs.Str.{encode_utf8_all, chars}
 use Rattle.std.proofs.lemmas.Str.{encodes-append}
@@ -8,8 +9,10 @@ use Rattle.ae_text.specs.declared.faults.Fault.{Fault}
 use Rattle.ae_text.specs.declared.faults.Fault.TheVariants as fault
 use Rattle.ae_text.specs.declared.texts.Part.{Part}
 use Rattle.ae_text.specs.declared.texts.Part.TheVariants.{Plain, Escape}
-use Rattle.ae_text.specs.Tokens.{Text, width, escape_meaning, parts_text, AreParts, AreKnownEscapes, parts_meaning, EndsOpen}
-use Rattle.ae_text.specs.Scan.{Front, EndsText, PartThen, PartsThen, NoQuote, Means, IsUnknown, BadEscapeFault, ValueThen, FaultAfter, Faults}
+use Rattle.ae_text.specs.Tokens.{Text, width, escape_meaning, parts_text, AreParts, AreKnownEscapes, parts_meaning}
+use Rattle.ae_text.specs.Tokens.{EndsOpen}
+use Rattle.ae_text.specs.Scan.{Front, EndsText, PartThen, PartsThen, NoQuote, Means, IsUnknown, BadEscapeFault}
+use Rattle.ae_text.specs.Scan.{ValueThen, FaultAfter, Faults}
 use Rattle.ae_text.proofs.ScanLemmas.{front_nil, front_then, front_as, front_length, front_smaller}
 
 pub no_truth : IsTrue false → ⊥
@@ -56,7 +59,8 @@ parts_start text = record { parts = []; front = front_nil text; are = tt }
 pub parts_more : (text mid after : Text) (p : Part) → Parts text mid → PartThen mid p after → Parts text after
 parts_more text mid after p r k = record {
   parts = r.parts ++ p ∷ [];
-  front = front_as text after _ _ (sym (spelled-append r.parts (p ∷ []))) (front_then text mid after (parts_text r.parts) (parts_text (p ∷ [])) r.front k.front);
+  front = front_as text after _ _ (sym (spelled-append r.parts (p ∷ [])))
+      (front_then text mid after (parts_text r.parts) (parts_text (p ∷ [])) r.front k.front);
   are = parts-append r.parts (p ∷ []) r.are k.is;
 }
 
@@ -79,17 +83,22 @@ pub record Reads (quoted rest bytes : Text) : Type 0 where
 pub reads_start : (quoted inner bytes : Text) → Front quoted (34 ∷ []) inner → bytes ≡ [] → Reads quoted inner bytes
 reads_start quoted inner bytes f e = record { parts = []; front = f; are = tt; known = tt; value_is = e }
 
-pub reads_more : (quoted mid after bytes bytes' : Text) (p : Part) (c : ℕ) → Reads quoted mid bytes → PartThen mid p after → Means p c → bytes' ≡ bytes ++ encode_utf8 c → Reads quoted after bytes'
+pub reads_more : (quoted mid after bytes bytes' : Text) (p : Part) (c : ℕ) → Reads quoted mid bytes
+    → PartThen mid p after → Means p c → bytes' ≡ bytes ++ encode_utf8 c → Reads quoted after bytes'
 reads_more quoted mid after bytes bytes' p c r k m e = record {
   parts = r.parts ++ p ∷ [];
-  front = front_as quoted after _ _ (ap (λ x. 34 ∷ x) (sym (spelled-append r.parts (p ∷ [])))) (front_then quoted mid after (34 ∷ parts_text r.parts) (parts_text (p ∷ [])) r.front k.front);
+  front = front_as quoted after _ _ (ap (λ x. 34 ∷ x) (sym (spelled-append r.parts (p ∷ []))))
+      (front_then quoted mid after (34 ∷ parts_text r.parts) (parts_text (p ∷ [])) r.front k.front);
   are = parts-append r.parts (p ∷ []) r.are k.is;
   known = known-append r.parts (p ∷ []) r.known m.0;
-  value_is = e ∙ ap (λ x. x ++ encode_utf8 c) r.value_is ∙ ap (λ x. encode_utf8_all (parts_meaning r.parts) ++ x) (sym (append-nil (encode_utf8 c)))
-      ∙ sym (encodes-append (parts_meaning r.parts) (c ∷ [])) ∙ ap (λ x. encode_utf8_all (parts_meaning r.parts ++ x)) (sym m.1) ∙ ap encode_utf8_all (sym (meant-append r.parts (p ∷ [])));
+  value_is = e ∙ ap (λ x. x ++ encode_utf8 c) r.value_is ∙ ap (λ x. encode_utf8_all (parts_meaning r.parts) ++ x)
+      (sym (append-nil (encode_utf8 c)))
+      ∙ sym (encodes-append (parts_meaning r.parts) (c ∷ [])) ∙ ap (λ x. encode_utf8_all (parts_meaning r.parts ++ x))
+      (sym m.1) ∙ ap encode_utf8_all (sym (meant-append r.parts (p ∷ [])));
 }
 
-pub reads_end : (quoted rest after bytes bytes' : Text) → Reads quoted rest bytes → Front rest (34 ∷ []) after → bytes' ≡ bytes → ValueThen quoted bytes' after
+pub reads_end : (quoted rest after bytes bytes' : Text) → Reads quoted rest bytes → Front rest (34 ∷ []) after
+    → bytes' ≡ bytes → ValueThen quoted bytes' after
 reads_end quoted rest after bytes bytes' r f e = record {
   parts = r.parts;
   front = front_then quoted rest after (34 ∷ parts_text r.parts) (34 ∷ []) r.front f;
@@ -104,13 +113,16 @@ ends_open [] e n = tt
 ends_open (c ∷ text) (inl e) n = absurd (n text (ap (λ x. x ∷ text) e))
 ends_open (c ∷ text) (inr e) n = e
 
-pub reads_bad : (quoted rest after bytes : Text) (p : Part) (ahead : ℕ) (f : Fault) → Reads quoted rest bytes → PartThen rest p after → IsUnknown p → ahead ≡ length quoted - length rest → BadEscapeFault ahead (chars after) f → Faults quoted f
+pub reads_bad : (quoted rest after bytes : Text) (p : Part) (ahead : ℕ) (f : Fault) → Reads quoted rest bytes
+    → PartThen rest p after → IsUnknown p → ahead ≡ length quoted - length rest → BadEscapeFault ahead (chars after) f
+    → Faults quoted f
 reads_bad quoted rest after bytes (Plain c) ahead f r k u a b = absurd u
 reads_bad quoted rest after bytes (Escape c) ahead (fault.Rule rule.BadChar n) r k u a b = record {
   before = 34 ∷ parts_text r.parts;
   after = rest;
   front = r.front;
-  ahead_is = let size : length quoted ≡ width (34 ∷ parts_text r.parts) + length rest = front_length quoted rest _ r.front in omega (arith, b.0);
+  ahead_is = let size : length quoted ≡ width (34 ∷ parts_text r.parts) + length rest =
+      front_length quoted rest _ r.front in omega (arith, b.0);
   is = inr (record {
     inner = r.parts;
     front = refl;
@@ -135,8 +147,10 @@ reads_bad quoted rest after bytes (Escape c) ahead (fault.Rule rule.OpenText n) 
     record {
       inner = r.parts ++ Escape c ∷ b.1.0;
       after = b.1.1;
-      parts = r.front.characters ∙ ap (λ x. 34 ∷ (parts_text r.parts ++ x)) (k.front.characters ∙ ap (λ x. 92 ∷ c ∷ x) b.1.2)
-          ∙ ap (λ x. 34 ∷ x) (sym (append_assoc (parts_text r.parts) (92 ∷ c ∷ parts_text b.1.0) b.1.1) ∙ ap (λ x. x ++ b.1.1) (sym (spelled-append r.parts (Escape c ∷ b.1.0))));
+      parts = r.front.characters ∙ ap (λ x. 34 ∷ (parts_text r.parts ++ x))
+          (k.front.characters ∙ ap (λ x. 92 ∷ c ∷ x) b.1.2)
+          ∙ ap (λ x. 34 ∷ x) (sym (append_assoc (parts_text r.parts) (92 ∷ c ∷ parts_text b.1.0) b.1.1)
+          ∙ ap (λ x. x ++ b.1.1) (sym (spelled-append r.parts (Escape c ∷ b.1.0))));
       are = parts-append r.parts (Escape c ∷ b.1.0) r.are (k.is.0, b.1.3);
       ends = b.1.4;
     },
@@ -145,8 +159,12 @@ reads_bad quoted rest after bytes (Escape c) ahead (fault.Rule rule.OpenText n) 
 reads_bad quoted rest after bytes (Escape c) ahead (fault.Rule _ n) r k u a b = absurd b
 reads_bad quoted rest after bytes (Escape c) ahead fault.Memory r k u a b = absurd b
 
-pub closed_fault : (text after end : Text) (ahead : ℕ) → PartsThen text after → Front after (34 ∷ []) end → BadEscapeFault ahead (chars text) (fault.Rule rule.BadChar ahead)
-closed_fault text after end ahead p f = (refl, (p.parts, chars end, p.front.characters ∙ ap (λ x. parts_text p.parts ++ x) f.characters, p.are))
+pub closed_fault : (text after end : Text) (ahead : ℕ) → PartsThen text after → Front after (34 ∷ []) end
+    → BadEscapeFault ahead (chars text) (fault.Rule rule.BadChar ahead)
+closed_fault text after end ahead p f =
+    (refl, (p.parts, chars end, p.front.characters ∙ ap (λ x. parts_text p.parts ++ x) f.characters, p.are))
 
-pub open_fault : (text after : Text) (ahead : ℕ) → PartsThen text after → NoQuote (chars after) → BadEscapeFault ahead (chars text) (fault.Rule rule.OpenText 0)
-open_fault text after ahead p n = (refl, (p.parts, chars after, p.front.characters, p.are, ends_open (chars after) p.ends n))
+pub open_fault : (text after : Text) (ahead : ℕ) → PartsThen text after → NoQuote (chars after)
+    → BadEscapeFault ahead (chars text) (fault.Rule rule.OpenText 0)
+open_fault text after ahead p n =
+    (refl, (p.parts, chars after, p.front.characters, p.are, ends_open (chars after) p.ends n))

@@ -1,5 +1,6 @@
 -- What single calls of a source ask for, what a sink is offered, and which calls of those in memory fail.
-use Rattle.std.specs.Prelude.{◌≡◌, ℕ, ◌+◌, ◌<◌, ◌≤◌, ◌^◌, min, max, List, length, Option, None, Some, Contains, ⊤, nat_lt, if◌then◌else◌}
+use Rattle.std.specs.Prelude.{◌≡◌, ℕ, ◌+◌, ◌<◌, ◌≤◌, ◌^◌, min, max, List, length, Option, None, Some, Contains, ⊤}
+use Rattle.std.specs.Prelude.{nat_lt, if◌then◌else◌}
 
 -- a call asked for n bytes: the most that any call asked for, where it is told
 abbrev pub Asks : Option ℕ → Option ℕ → ℕ → Type 0

@@ -1,5 +1,6 @@
 -- What the steps of the scanner find.
-use Rattle.std.specs.Prelude.{◌≡◌, ℕ, ◌≤◌, Bool, false, IsTrue, ◌⊎◌, List, [], ◌∷◌, ◌++◌, length, take, Option, Some, None, codes}
+use Rattle.std.specs.Prelude.{◌≡◌, ℕ, ◌≤◌, Bool, false, IsTrue, ◌⊎◌, List, [], ◌∷◌, ◌++◌, length, take, Option, Some}
+use Rattle.std.specs.Prelude.{None, codes}
 use Rattle.std.specs.Str.{encode_utf8_all, chars, IsUtf8}
 use Rattle.ae_text.specs.declared.refusal.Spot.{Spot}
 use Rattle.ae_text.specs.declared.refusal.Rule.{Rule}
@@ -15,7 +16,10 @@ use Rattle.ae_text.specs.declared.faults.Fault.{Fault}
 use Rattle.ae_text.specs.declared.faults.Fault.TheVariants as fault
 use Rattle.ae_text.specs.declared.texts.Part.{Part}
 use Rattle.ae_text.specs.declared.texts.Part.TheVariants.{Plain, Escape}
-use Rattle.ae_text.specs.Tokens.{Text, width, Each, Stops, is_digit, goes_on, in_line, is_escape, parts_text, AreParts, AreKnownEscapes, parts_meaning, EndsOpen, TextPiece, White, Comment, Tok, piece_text, IsPiece, ArePieces, text_of, tokens_from, spot_after, first_spot, IsFault, sign_text}
+use Rattle.ae_text.specs.Tokens.{Text, width, Each, Stops, is_digit, goes_on, in_line, is_escape, parts_text}
+use Rattle.ae_text.specs.Tokens.{AreParts, AreKnownEscapes, parts_meaning, EndsOpen, TextPiece, White, Comment, Tok}
+use Rattle.ae_text.specs.Tokens.{piece_text, IsPiece, ArePieces, text_of, tokens_from, spot_after, first_spot}
+use Rattle.ae_text.specs.Tokens.{IsFault, sign_text}
 
 -- a text is these characters and what comes after them
 pub record Front (text taken after : Text) : Type 0 where
@@ -48,7 +52,8 @@ NoSign text = (g : Sign) (after : Text) → text ≡ sign_text g ++ after → �
 -- this sign, the longest one, and then rest
 pub record SignThen (text : Text) (g : Sign) (rest : Text) : Type 0 where
   pub front : Front text (sign_text g) rest
-  pub longest : (h : Sign) (more after : Text) → chars rest ≡ more ++ after → sign_text g ++ more ≡ sign_text h → more ≡ []
+  pub longest : (h : Sign) (more after : Text) → chars rest ≡ more ++ after → sign_text g ++ more ≡ sign_text h
+      → more ≡ []
 
 -- two slashes, the rest of the line, and then rest
 pub record CommentThen (text rest : Text) : Type 0 where
@@ -87,8 +92,10 @@ NoQuote text = (after : Text) → text ≡ 34 ∷ after → ⊥
 
 -- a text with such an escape is closed, and the escape is the fault, or it is open
 abbrev pub BadEscapeFault : ℕ → Text → Fault → Type 0
-BadEscapeFault ahead after (fault.Rule rule.BadChar n) = (n ≡ ahead) × ((more : List Part) × (end : Text) × (after ≡ parts_text more ++ 34 ∷ end) × AreParts more)
-BadEscapeFault ahead after (fault.Rule rule.OpenText n) = (n ≡ 0) × ((more : List Part) × (end : Text) × (after ≡ parts_text more ++ end) × AreParts more × EndsOpen end)
+BadEscapeFault ahead after (fault.Rule rule.BadChar n) =
+    (n ≡ ahead) × ((more : List Part) × (end : Text) × (after ≡ parts_text more ++ 34 ∷ end) × AreParts more)
+BadEscapeFault ahead after (fault.Rule rule.OpenText n) =
+    (n ≡ 0) × ((more : List Part) × (end : Text) × (after ≡ parts_text more ++ end) × AreParts more × EndsOpen end)
 BadEscapeFault ahead after _ = ⊥
 
 -- parts that all stand for something and their value, then a quote, then rest

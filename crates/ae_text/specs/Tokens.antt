@@ -1,5 +1,6 @@
 -- Tokens: how a text is cut. Its characters are a sequence of pieces: white space, comments and tokens.
-use Rattle.std.specs.Prelude.{◌≡◌, ◌≢◌, ℕ, ◌+◌, ◌-◌, ◌*◌, ◌^◌, ◌<◌, ◌≤◌, pos, Bool, true, false, ◌||◌, ◌&&◌, ◌==◌, nat_le, if◌then◌else◌, IsTrue, ◌⊎◌, List, [], ◌∷◌, ◌++◌, length, take, codes}
+use Rattle.std.specs.Prelude.{◌≡◌, ◌≢◌, ℕ, ◌+◌, ◌-◌, ◌*◌, ◌^◌, ◌<◌, ◌≤◌, pos, Bool, true, false, ◌||◌, ◌&&◌, ◌==◌}
+use Rattle.std.specs.Prelude.{nat_le, if◌then◌else◌, IsTrue, ◌⊎◌, List, [], ◌∷◌, ◌++◌, length, take, codes}
 use Rattle.std.specs.Str.{encode_utf8_all, IsUtf8, IsValidUpTo}
 use Rattle.unicode_ident.specs.Ident.{is_xid_start, is_xid_continue}
 use Rattle.ae_text.specs.declared.refusal.Spot.{Spot}
@@ -286,7 +287,8 @@ pub record Lexes (bytes : Text) (tokens : List Token) : Type 0 where
 -- no white space, no comment, no quote and no spelling begins here
 abbrev pub IsNothing : Text → Type 0
 IsNothing [] = ⊥
-IsNothing (c ∷ cs) = (is_white c ≡ false) × (c ≢ 34) × NoComment (c ∷ cs) × ((k : TokenKind) (s after : Text) → c ∷ cs ≡ s ++ after → Spells k s → ⊥)
+IsNothing (c ∷ cs) = (is_white c ≡ false) × (c ≢ 34) × NoComment (c ∷ cs)
+    × ((k : TokenKind) (s after : Text) → c ∷ cs ≡ s ++ after → Spells k s → ⊥)
 
 -- digits, all that there are, with a value from 2 ^ 63 on
 pub record IsTooLarge (rest : Text) : Type 0 where

@@ -52,7 +52,8 @@ pub fn next<'a>(text: &'a str) -> Option<(char, &'a str)>
 
 // What comes after the first character, if that is of the class.
 fn next_in<'a>(class: Class, text: &'a str) -> Option<&'a str>
-    ensures { MatchOption result (Stops (is_in_class class) (chars text.now)) (λ after. Continues (is_in_class class) text.now after.now) }
+    ensures { MatchOption result (Stops (is_in_class class) (chars text.now))
+        (λ after. Continues (is_in_class class) text.now after.now) }
 {
     let (first, after) = next(text)?;
     if is_in(class, first) {

@@ -1,5 +1,6 @@
 // A source and a sink in memory, which fail at the calls that a list names.
-ghost use Rattle.std.specs.Prelude.{◌≡◌, ◌≤◌, ◌<◌, ◌+◌, ◌-◌, ◌^◌, ◌⊎◌, [], ◌↔◌, length, take, drop, min, None, Some, IfOk, OnErr, IsErr, IsSome, IsTrue, IsFalse, vec_capacity};
+ghost use Rattle.std.specs.Prelude.{◌≡◌, ◌≤◌, ◌<◌, ◌+◌, ◌-◌, ◌^◌, ◌⊎◌, [], ◌↔◌, length, take, drop, min, None, Some};
+ghost use Rattle.std.specs.Prelude.{IfOk, OnErr, IsErr, IsSome, IsTrue, IsFalse, vec_capacity};
 ghost use Rattle.std.specs.Option.{ForSome};
 ghost use Rattle.std.specs.Io.{ReadsAtMost, WritesAtMost};
 ghost use Rattle.std.specs.Io.KnownBytes.{ReadConsumes, WriteAppends};
@@ -119,13 +120,15 @@ impl Source for MemSource {
     fn read(&mut self, buf: &mut [u8]) -> Result<usize, Failed>
         requires { 0 < length buf.old }
         ensures fails { IsErr result ↔ IsNamed self.old.calls.next self.old.calls.fail }
-        ensures count { IfOk result (λ n. n ≡ min (min (length self.old.bytes - self.old.at) (length buf.old)) self.old.most) }
+        ensures count { IfOk result (λ n. n ≡ min (min (length self.old.bytes - self.old.at) (length buf.old))
+            self.old.most) }
         ensures next { self.new.calls.next ≡ following self.old.calls.next }
         ensures same_fail { self.new.calls.fail ≡ self.old.calls.fail }
         ensures same_bytes { self.new.bytes ≡ self.old.bytes }
         ensures same_most { self.new.most ≡ self.old.most }
         ensures bound { ReadsAtMost result buf.new }
-        ensures bytes { ReadConsumes (Some (drop self.old.at self.old.bytes)) (Some (drop self.new.at self.new.bytes)) result buf.new }
+        ensures bytes { ReadConsumes (Some (drop self.old.at self.old.bytes)) (Some (drop self.new.at self.new.bytes))
+            result buf.new }
         ensures cause { HasCause None self.old.calls.faults self.new.calls.faults result }
         ensures asked { Asks (Some self.old.asked) (Some self.new.asked) (length buf.old) }
     {
@@ -190,7 +193,8 @@ impl Sink for MemSink {
     fn write(&mut self, piece: &[u8]) -> Result<usize, Failed>
         requires { 0 < length piece.now }
         ensures named { IsNamed self.old.calls.next self.old.calls.fail → IsErr result }
-        ensures fails { OnErr result (IsNamed self.old.calls.next self.old.calls.fail ⊎ (vec_capacity self.old.bytes < length self.old.bytes.items + min (length piece.now) self.old.most)) }
+        ensures fails { OnErr result (IsNamed self.old.calls.next self.old.calls.fail
+            ⊎ (vec_capacity self.old.bytes < length self.old.bytes.items + min (length piece.now) self.old.most)) }
         ensures count { IfOk result (λ n. n ≡ min (length piece.now) self.old.most) }
         ensures exact { IsSome self.old.calls.next → OnErr result (self.new.calls.faults ≡ self.old.calls.faults + 1) }
         ensures next { self.new.calls.next ≡ following self.old.calls.next }

@@ -1,7 +1,9 @@
 // Cuts a text into tokens, from left to right.
-ghost use Rattle.std.specs.Prelude.{◌≡◌, ◌<◌, ◌≤◌, ◌+◌, ◌^◌, ◌==◌, ℕ, count_by, take, List, [], ◌∷◌, ◌++◌, length, MatchOption, MatchResult, IfOk, IfErr, OnOk};
+ghost use Rattle.std.specs.Prelude.{◌≡◌, ◌<◌, ◌≤◌, ◌+◌, ◌^◌, ◌==◌, ℕ, count_by, take, List, [], ◌∷◌, ◌++◌, length};
+ghost use Rattle.std.specs.Prelude.{MatchOption, MatchResult, IfOk, IfErr, OnOk};
 ghost use Rattle.std.specs.Str.{chars};
-ghost use Rattle.ae_text.specs.Tokens.{Text, Lexes, LexFault, IsTextDenied, IsWhole, NoComment, spot_after, place, Each, in_line};
+ghost use Rattle.ae_text.specs.Tokens.{Text, Lexes, LexFault, IsTextDenied, IsWhole, NoComment, spot_after, place};
+ghost use Rattle.ae_text.specs.Tokens.{Each, in_line};
 ghost use Rattle.ae_text.specs.Scan.{Front, CommentThen, Cuts, Faults, IsFaultWithin, token_of, denied};
 ghost use Rattle.ae_text.specs.declared.token.Token.{Token};
 ghost use Rattle.ae_text.specs.declared.refusal.Rule.{Rule};
@@ -172,7 +174,8 @@ fn scan(alloc: Global, text: &str) -> Result<Items<Token>, Deny>
 pub fn lex(alloc: Global, text: &[u8]) -> Result<Items<Token>, Deny>
     requires { length text.now ≤ 1048576 }
     ensures ok { IfOk result (Lexes text.now) }
-    ensures only { (tokens : List Token) → Lexes text.now tokens → MatchResult result (λ found. found ≡ tokens) (λ e. e ≡ Deny.Memory) }
+    ensures only { (tokens : List Token) → Lexes text.now tokens
+        → MatchResult result (λ found. found ≡ tokens) (λ e. e ≡ Deny.Memory) }
     ensures refused { IfErr result (IsTextDenied text.now) }
     ensures whole { IfOk result IsWhole }
     ensures few { IfOk result (λ ts. length ts ≤ length text.now + 1) }
@@ -191,12 +194,15 @@ pub fn tokens_are_unique()
 /// No text has two faults, and none has both a fault and tokens.
 pub fn faults_are_unique()
     ensures one { (text : Text) (r q : Rule) (m n : ℕ) → LexFault text r m → LexFault text q n → (r ≡ q) × (m ≡ n) }
-    ensures no_tokens { (text : Text) (r : Rule) (m : ℕ) (tokens : List Token) → LexFault text r m → Lexes text tokens → ⊥ }
+    ensures no_tokens { (text : Text) (r : Rule) (m : ℕ) (tokens : List Token) → LexFault text r m → Lexes text tokens
+        → ⊥ }
 {}
 
 /// The line of a place is 1 and the line feeds before it, its column 1 and the bytes behind the last of them.
 pub fn places_are_counted()
     ensures line { (text : Text) (at : ℕ) → (place text at).line ≡ 1 + count_by (λ b. b == 10) (take at text) }
-    ensures first { (text : Text) (at : ℕ) → Each in_line (take at text) → (place text at).col ≡ 1 + length (take at text) }
-    ensures later { (text before line : Text) (at : ℕ) → take at text ≡ before ++ 10 ∷ line → Each in_line line → (place text at).col ≡ 1 + length line }
+    ensures first { (text : Text) (at : ℕ) → Each in_line (take at text)
+        → (place text at).col ≡ 1 + length (take at text) }
+    ensures later { (text before line : Text) (at : ℕ) → take at text ≡ before ++ 10 ∷ line → Each in_line line
+        → (place text at).col ≡ 1 + length line }
 {}

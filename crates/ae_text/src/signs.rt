@@ -9,7 +9,8 @@ use crate::characters::next;
 use crate::token::Sign;
 
 fn double(first: char, second: char) -> Option<Sign>
-    ensures { MatchOption result ((g : Sign) → sign_text g ≢ first ∷ second ∷ []) (λ g. sign_text g ≡ first ∷ second ∷ []) }
+    ensures { MatchOption result ((g : Sign) → sign_text g ≢ first ∷ second ∷ [])
+        (λ g. sign_text g ≡ first ∷ second ∷ []) }
 {
     match (first, second) {
         ('>', '>') => Some(Sign::Away),

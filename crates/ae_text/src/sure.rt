@@ -88,7 +88,8 @@ impl Sink for SureSink {
     fn write(&mut self, piece: &[u8]) -> Result<usize, Failed>
         requires { 0 < length piece.now }
         ensures all { result ≡ Ok (length piece.now) }
-        ensures kept { take self.new.used self.new.room.items ≡ take (length self.old.room.items) (take self.old.used self.old.room.items ++ piece.now) }
+        ensures kept { take self.new.used self.new.room.items ≡ take (length self.old.room.items)
+            (take self.old.used self.old.room.items ++ piece.now) }
         ensures room { length self.new.room.items ≡ length self.old.room.items }
         ensures some { IfOk result (λ n. 0 < n) }
         ensures bound { WritesAtMost result piece.now }

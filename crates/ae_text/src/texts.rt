@@ -2,7 +2,8 @@
 ghost use Rattle.std.specs.Prelude.{◌≡◌, [], ◌∷◌, MatchOption, MatchResult, IsTrue};
 ghost use Rattle.std.specs.Str.{chars};
 ghost use Rattle.ae_text.specs.Tokens.{Stops, in_line};
-ghost use Rattle.ae_text.specs.Scan.{Front, EndsText, PartThen, PartsThen, NoQuote, Means, IsUnknown, BadEscapeFault, ValueThen, Faults};
+ghost use Rattle.ae_text.specs.Scan.{Front, EndsText, PartThen, PartsThen, NoQuote, Means, IsUnknown, BadEscapeFault};
+ghost use Rattle.ae_text.specs.Scan.{ValueThen, Faults};
 
 use crate::characters::next;
 use crate::faults::Fault;
@@ -19,7 +20,8 @@ pub enum Part {
 
 // The next character of the line, and what comes after it.
 fn next_in_line<'a>(text: &'a str) -> Option<(char, &'a str)>
-    ensures { MatchOption result (Stops in_line (chars text.now)) (λ p. Front text.now (p.0 ∷ []) p.1.now × IsTrue (in_line p.0)) }
+    ensures { MatchOption result (Stops in_line (chars text.now))
+        (λ p. Front text.now (p.0 ∷ []) p.1.now × IsTrue (in_line p.0)) }
 {
     let (first, rest) = next(text)?;
     if first == '\n' {

@@ -117,7 +117,8 @@ pub fn word(alloc: Global, s: &[u8]) -> Result<TokenKind, AllocError>
 // The number that the digits spell, if it is below 2 ^ 63.
 pub fn number(s: &[u8]) -> Option<i64>
     requires { Each is_digit s.now }
-    ensures { MatchOption result (2 ^ 63 ≤ digits_value s.now) (λ n. (n ≡ pos (digits_value s.now)) × (digits_value s.now < 2 ^ 63)) }
+    ensures { MatchOption result (2 ^ 63 ≤ digits_value s.now)
+        (λ n. (n ≡ pos (digits_value s.now)) × (digits_value s.now < 2 ^ 63)) }
 {
     let mut n = 0u64;
     for b in s {

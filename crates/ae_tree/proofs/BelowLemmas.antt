@@ -1,5 +1,6 @@
 -- The numbers of names in the tokens that a production stands for.
-use Rattle.std.proofs.Common.{arith, ◌≡◌, ◌<◌, refl, sym, ap, ◌∙◌, subst, ℕ, suc, ◌+◌, ◌++◌, Bool, true, false, not, cond, ◌||◌, List, [], ◌∷◌, length, bytes_eq, append-nil, append_assoc}
+use Rattle.std.proofs.Common.{arith, ◌≡◌, ◌<◌, refl, sym, ap, ◌∙◌, subst, ℕ, suc, ◌+◌, ◌++◌, Bool, true, false, not}
+use Rattle.std.proofs.Common.{cond, ◌||◌, List, [], ◌∷◌, length, bytes_eq, append-nil, append_assoc}
 use Rattle.std.specs.List.{list_any, IsDistinct}
 use Rattle.std.specs.Cmp.{IsEquivalence}
 use Rattle.std.specs.Cmp.Lexicographic.{bytes_decides}
@@ -19,14 +20,16 @@ Words = List (List ℕ)
 
 -- ---- names that are inserted
 
-key_kept : (test : List ℕ → Bool) (ks : Words) (s : List ℕ) → list_any test ks ≡ true → list_any test (insert_key bytes_eq ks s) ≡ true
+key_kept : (test : List ℕ → Bool) (ks : Words) (s : List ℕ) → list_any test ks ≡ true
+    → list_any test (insert_key bytes_eq ks s) ≡ true
 key_kept test ks s h = by (list_any (bytes_eq s) ks)
   where
     by : (b : Bool) → list_any test (cond b ks (ks ++ s ∷ [])) ≡ true
     by true = h
     by false = list_any-append test ks (s ∷ []) ∙ ap (λ b. b || list_any test (s ∷ [])) h
 
-all_kept : (test : List ℕ → Bool) (xs ks : Words) → list_any test ks ≡ true → list_any test (insert_all bytes_eq ks xs) ≡ true
+all_kept : (test : List ℕ → Bool) (xs ks : Words) → list_any test ks ≡ true
+    → list_any test (insert_all bytes_eq ks xs) ≡ true
 all_kept test [] ks h = h
 all_kept test (s ∷ xs) ks h = all_kept test xs (insert_key bytes_eq ks s) (key_kept test ks s h)
 
@@ -42,7 +45,8 @@ key_there ks s = by (list_any (bytes_eq s) ks) refl
 
     by : (b : Bool) → list_any (bytes_eq s) ks ≡ b → list_any (bytes_eq s) (cond b ks (ks ++ s ∷ [])) ≡ true
     by true e = e
-    by false e = list_any-append (bytes_eq s) ks (s ∷ []) ∙ either_true (list_any (bytes_eq s) ks) (list_any (bytes_eq s) (s ∷ [])) last
+    by false e = list_any-append (bytes_eq s) ks (s ∷ []) ∙ either_true (list_any (bytes_eq s) ks)
+        (list_any (bytes_eq s) (s ∷ [])) last
 
 -- what was there comes first
 key_more : (ks : Words) (s : List ℕ) → (rest : Words) × (insert_key bytes_eq ks s ≡ ks ++ rest)
@@ -74,7 +78,8 @@ spelled_alike x y z f g = same_truth (bytes_eq x z) (bytes_eq y z)
 bytes_alike : IsEquivalence bytes_eq
 bytes_alike = record {
   refl = λ x. (bytes_decides x x).1 refl;
-  symm = λ x y. same_truth (bytes_eq x y) (bytes_eq y x) (λ e. (bytes_decides y x).1 (sym ((bytes_decides x y).0 e))) (λ e. (bytes_decides x y).1 (sym ((bytes_decides y x).0 e)));
+  symm = λ x y. same_truth (bytes_eq x y) (bytes_eq y x) (λ e. (bytes_decides y x).1 (sym ((bytes_decides x y).0 e)))
+      (λ e. (bytes_decides x y).1 (sym ((bytes_decides y x).0 e)));
   congr = λ x y z e. let s : x ≡ y = (bytes_decides x y).0 e in spelled_alike x y z (λ q. sym s ∙ q) (λ q. s ∙ q);
 }
 
@@ -110,19 +115,29 @@ place_below : (names : Words) (s : List ℕ) → list_any (bytes_eq s) names ≡
 place_below [] s h = absurd (cc)
 place_below (x ∷ names) s h = by (bytes_eq s x) h (place_below names s)
   where
-    by : (b : Bool) → (b || list_any (bytes_eq s) names) ≡ true → (list_any (bytes_eq s) names ≡ true → name_number names s < length names) → cond (not b) (1 + name_number names s) 0 < suc (length names)
+    by : (b : Bool) → (b || list_any (bytes_eq s) names) ≡ true
+        → (list_any (bytes_eq s) names ≡ true → name_number names s < length names)
+        → cond (not b) (1 + name_number names s) 0 < suc (length names)
     by true h again = omega arith
     by false h again = let l : name_number names s < length names = again h in omega (arith, l)
 
 -- tokens whose names are inserted behind others, `this` among them
 abbrev AreNumbered : List Token → Type 0
-AreNumbered ts = (ks : Words) → this < length (insert_all bytes_eq ks (spellings ts)) → EachToken (IsBelow (length (insert_all bytes_eq ks (spellings ts)))) (numbered (insert_all bytes_eq ks (spellings ts)) ts)
+AreNumbered ts = (ks : Words) → this < length (insert_all bytes_eq ks (spellings ts))
+    → EachToken (IsBelow (length (insert_all bytes_eq ks (spellings ts))))
+    (numbered (insert_all bytes_eq ks (spellings ts)) ts)
 
-token_below : (kind : TokenKind) (ts : List Token) → AreNumbered ts → (ks : Words) → this < length (insert_all bytes_eq ks (spelled_before kind (spellings ts))) →
-    IsBelow (length (insert_all bytes_eq ks (spelled_before kind (spellings ts)))) (lexical (insert_all bytes_eq ks (spelled_before kind (spellings ts))) kind)
-    × EachToken (IsBelow (length (insert_all bytes_eq ks (spelled_before kind (spellings ts))))) (numbered (insert_all bytes_eq ks (spelled_before kind (spellings ts))) ts)
-token_below (k.Name s) ts h ks l =
-    (place_below (insert_all bytes_eq (insert_key bytes_eq ks s) (spellings ts)) s (all_kept (bytes_eq s) (spellings ts) (insert_key bytes_eq ks s) (key_there ks s)), h (insert_key bytes_eq ks s) l)
+token_below : (kind : TokenKind) (ts : List Token) → AreNumbered ts → (ks : Words)
+    → this < length (insert_all bytes_eq ks (spelled_before kind (spellings ts))) →
+    IsBelow (length (insert_all bytes_eq ks (spelled_before kind (spellings ts))))
+    (lexical (insert_all bytes_eq ks (spelled_before kind (spellings ts))) kind)
+    × EachToken (IsBelow (length (insert_all bytes_eq ks (spelled_before kind (spellings ts)))))
+    (numbered (insert_all bytes_eq ks (spelled_before kind (spellings ts))) ts)
+token_below (k.Name s) ts h ks l = (
+  place_below (insert_all bytes_eq (insert_key bytes_eq ks s) (spellings ts)) s
+      (all_kept (bytes_eq s) (spellings ts) (insert_key bytes_eq ks s) (key_there ks s)),
+  h (insert_key bytes_eq ks s) l,
+)
 token_below (k.Int i) ts h ks l = (tt, h ks l)
 token_below (k.Text s) ts h ks l = (tt, h ks l)
 token_below (k.Word w) ts h ks l = (l, h ks l)
@@ -152,10 +167,20 @@ pub record Of (L : Lexical → Type 0) (P : Tokens → Type 0) : Type 0 where
 
 -- the first part of a sequence, and what stands behind it
 pub head : {L : Lexical → Type 0} {P Q : Tokens → Type 0} → Of L (Then P Q) → Of L P
-head {L} d = record { tokens = d.derives.front; derives = d.derives.first; each = front_has L d.derives.front d.derives.back (subst (EachToken L) d.derives.parts d.each) }
+head {L} d = record {
+  tokens = d.derives.front;
+  derives = d.derives.first;
+  each =
+      front_has L d.derives.front d.derives.back (subst (EachToken L) d.derives.parts d.each);
+}
 
 pub tail : {L : Lexical → Type 0} {P Q : Tokens → Type 0} → Of L (Then P Q) → Of L Q
-tail {L} d = record { tokens = d.derives.back; derives = d.derives.second; each = back_has L d.derives.front d.derives.back (subst (EachToken L) d.derives.parts d.each) }
+tail {L} d = record {
+  tokens = d.derives.back;
+  derives = d.derives.second;
+  each =
+      back_has L d.derives.front d.derives.back (subst (EachToken L) d.derives.parts d.each);
+}
 
 -- behind one condition, or two
 pub under : {L : Lexical → Type 0} {A : Type 0} {P : Tokens → Type 0} → Of L (λ ts. A × P ts) → Of L P

@@ -16,30 +16,40 @@ use Rattle.ae_tree.specs.declared.tree.Me.{Me}
 use Rattle.ae_tree.specs.declared.tree.Param.{Param}
 use Rattle.ae_tree.specs.declared.tree.Field.{Field}
 use Rattle.ae_tree.specs.declared.tree.GroupNeed.{GroupNeed}
-use Rattle.ae_tree.specs.Plain.{Expression, Number, Truth, Nothing, Read, Item, Length, Grouped, Negated, Minus, Binary, Invocation, RightSide, Value, Taken, Zeros, Made, Returned}
-use Rattle.ae_tree.specs.Plain.{Action, Declares, Assigns, Stores, StoresAt, Calls, Chooses, ChoosesElse, Repeats, Groups, Splits, Locks, Freezes, Shares, Prints, PrintsText, Asserts, Returns}
-use Rattle.ae_tree.specs.Grammar.{Tokens, name, root, path_step, path, groups, permission, kind, type_, expression_at, whole_expression, arguments, receiver, call_written, right_of_equals, statement, one_by_one, further, separated, comma_list, result, param, parameters, need, needs, field, return_end}
-use Rattle.ae_tree.specs.WellShaped.{HasNumberBelow, AreNamed, PathNamed, PermNamed, KindNamed, TypeNamed, IfThere, ExpressionNamed, CallNamed, RightNamed, ActionNamed, ParamNamed, FieldNamed}
+use Rattle.ae_tree.specs.Plain.{Expression, Number, Truth, Nothing, Read, Item, Length, Grouped, Negated, Minus}
+use Rattle.ae_tree.specs.Plain.{Binary, Invocation, RightSide, Value, Taken, Zeros, Made, Returned}
+use Rattle.ae_tree.specs.Plain.{Action, Declares, Assigns, Stores, StoresAt, Calls, Chooses, ChoosesElse, Repeats}
+use Rattle.ae_tree.specs.Plain.{Groups, Splits, Locks, Freezes, Shares, Prints, PrintsText, Asserts, Returns}
+use Rattle.ae_tree.specs.Grammar.{Tokens, name, root, path_step, path, groups, permission, kind, type_}
+use Rattle.ae_tree.specs.Grammar.{expression_at, whole_expression, arguments, receiver, call_written}
+use Rattle.ae_tree.specs.Grammar.{right_of_equals, statement, one_by_one, further, separated, comma_list, result}
+use Rattle.ae_tree.specs.Grammar.{param, parameters, need, needs, field, return_end}
+use Rattle.ae_tree.specs.WellShaped.{HasNumberBelow, AreNamed, PathNamed, PermNamed, KindNamed, TypeNamed, IfThere}
+use Rattle.ae_tree.specs.WellShaped.{ExpressionNamed, CallNamed, RightNamed, ActionNamed, ParamNamed, FieldNamed}
 use Rattle.ae_tree.proofs.BelowLemmas.{IsBelow, EachToken, Of, head, tail, under, under_two}
 
 -- ---- sequences
 
 -- what each of a sequence has
-pub each_has : {A : Type 0} {L : Lexical → Type 0} (D : A → Tokens → Type 0) (P : A → Type 0) → ((x : A) → Of L (D x) → P x) → (xs : List A) → Of L (one_by_one D xs) → All P xs
+pub each_has : {A : Type 0} {L : Lexical → Type 0} (D : A → Tokens → Type 0) (P : A → Type 0)
+    → ((x : A) → Of L (D x) → P x) → (xs : List A) → Of L (one_by_one D xs) → All P xs
 each_has D P f [] d = All-nil P
 each_has D P f (x ∷ xs) d = All-cons P x xs (f x (head d)) (each_has D P f xs (tail d))
 
 -- the same where each has a comma before it
-pub further_has : {A : Type 0} {L : Lexical → Type 0} (D : A → Tokens → Type 0) (P : A → Type 0) → ((x : A) → Of L (D x) → P x) → (xs : List A) → Of L (one_by_one (further D) xs) → All P xs
+pub further_has : {A : Type 0} {L : Lexical → Type 0} (D : A → Tokens → Type 0) (P : A → Type 0)
+    → ((x : A) → Of L (D x) → P x) → (xs : List A) → Of L (one_by_one (further D) xs) → All P xs
 further_has D P f = each_has (further D) P (λ x d. f x (tail d))
 
 -- the same of at least one, with commas between them
-pub separated_has : {A : Type 0} {L : Lexical → Type 0} (D : A → Tokens → Type 0) (P : A → Type 0) → ((x : A) → Of L (D x) → P x) → (xs : List A) → Of L (separated D xs) → All P xs
+pub separated_has : {A : Type 0} {L : Lexical → Type 0} (D : A → Tokens → Type 0) (P : A → Type 0)
+    → ((x : A) → Of L (D x) → P x) → (xs : List A) → Of L (separated D xs) → All P xs
 separated_has D P f [] d = absurd d.derives
 separated_has D P f (x ∷ xs) d = All-cons P x xs (f x (head d)) (further_has D P f xs (tail d))
 
 -- the same of none, or some with commas between them
-pub listed_has : {A : Type 0} {L : Lexical → Type 0} (D : A → Tokens → Type 0) (P : A → Type 0) → ((x : A) → Of L (D x) → P x) → (xs : List A) → Of L (comma_list D xs) → All P xs
+pub listed_has : {A : Type 0} {L : Lexical → Type 0} (D : A → Tokens → Type 0) (P : A → Type 0)
+    → ((x : A) → Of L (D x) → P x) → (xs : List A) → Of L (comma_list D xs) → All P xs
 listed_has D P f [] d = All-nil P
 listed_has D P f (x ∷ xs) d = separated_has D P f (x ∷ xs) d
 
@@ -56,7 +66,11 @@ root_named n x d = elim d.derives [
 ]
 
 path_named : (n : ℕ) (p : Path) → Of (IsBelow n) (path p) → PathNamed n p
-path_named n p d = (root_named n p.root (head d), each_has path_step (HasNumberBelow n) (λ x e. name_named n x (tail e)) p.steps (tail d))
+path_named n p d = (
+  root_named n p.root (head d),
+  each_has path_step (HasNumberBelow n)
+      (λ x e. name_named n x (tail e)) p.steps (tail d),
+)
 
 names_named : (n : ℕ) (xs : List NameAt) → Of (IsBelow n) (separated name xs) → AreNamed n xs
 names_named n xs d = separated_has name (HasNumberBelow n) (name_named n) xs d
@@ -93,7 +107,8 @@ expression_named n (Length p at) l d = path_named n p (tail d)
 expression_named n (Grouped e at) l d = expression_named n e 0 (head (tail d))
 expression_named n (Negated e at) l d = expression_named n e 5 (tail d)
 expression_named n (Minus e at) l d = expression_named n e 5 (tail d)
-expression_named n (Binary o a b) l d = (expression_named n a _ (head (under d)), expression_named n b _ (tail (tail (under d))))
+expression_named n (Binary o a b) l d =
+    (expression_named n a _ (head (under d)), expression_named n b _ (tail (tail (under d))))
 
 -- the names of an expression
 pub whole_named : (n : ℕ) (e : Expression) → Of (IsBelow n) (whole_expression e) → ExpressionNamed n e
@@ -107,23 +122,45 @@ receiver_named n None d = tt
 receiver_named n (Some p) d = path_named n p (head d)
 
 call_named : (n : ℕ) (c : Invocation) → Of (IsBelow n) (call_written c) → CallNamed n c
-call_named n c d = (receiver_named n c.on (head d), name_named n c.method (head (tail d)), groups_named n c.groups (head (tail (tail d))), arguments_named n c.args (tail (tail (tail d))))
+call_named n c d = (
+  receiver_named n c.on (head d),
+  name_named n c.method (head (tail d)),
+  groups_named n c.groups
+      (head (tail (tail d))),
+  arguments_named n c.args (tail (tail (tail d))),
+)
 
 right_named : (n : ℕ) (e : RightSide) → Of (IsBelow n) (right_of_equals e) → RightNamed n e
 right_named n (Value e) d = whole_named n e d
 right_named n (Taken p at) d = path_named n p (tail (under d))
 right_named n (Zeros e at) d = whole_named n e (head (tail (tail (tail d))))
-right_named n (Made c gs es at) d = (name_named n c (head (tail d)), groups_named n gs (head (tail (tail d))), arguments_named n es (tail (tail (tail d))))
+right_named n (Made c gs es at) d = (
+  name_named n c (head (tail d)),
+  groups_named n gs (head (tail (tail d))),
+  arguments_named n es
+      (tail (tail (tail d))),
+)
 right_named n (Returned c) d = call_named n c d
 
 -- ---- statements
 
 -- the names of a statement, without those in its blocks
 pub action_named : (n k : ℕ) (at : Spot) (a : Action) → Of (IsBelow n) (statement k at a) → ActionNamed n a
-action_named n k at (Declares t x e) d = (type_named n t (head (tail d)), name_named n x (head (tail (tail d))), right_named n e (head (tail (tail (tail (tail d))))))
+action_named n k at (Declares t x e) d = (
+  type_named n t (head (tail d)),
+  name_named n x (head (tail (tail d))),
+  right_named n e
+      (head (tail (tail (tail (tail d))))),
+)
 action_named n k at (Assigns x e) d = (name_named n x (head (under d)), right_named n e (head (tail (tail (under d)))))
-action_named n k at (Stores p e) d = (path_named n p (head (under_two d)), whole_named n e (head (tail (tail (under_two d)))))
-action_named n k at (StoresAt p i e) d = (path_named n p (head (under d)), whole_named n i (head (tail (tail (under d)))), whole_named n e (head (tail (tail (tail (tail (tail (under d))))))))
+action_named n k at (Stores p e) d =
+    (path_named n p (head (under_two d)), whole_named n e (head (tail (tail (under_two d)))))
+action_named n k at (StoresAt p i e) d = (
+  path_named n p (head (under d)),
+  whole_named n i (head (tail (tail (under d)))),
+  whole_named n e
+      (head (tail (tail (tail (tail (tail (under d))))))),
+)
 action_named n k at (Calls c) d = call_named n c (head (under d))
 action_named n k at (Chooses e j b) d = whole_named n e (head (tail (under d)))
 action_named n k at (ChoosesElse e j b m c) d = whole_named n e (head (tail (under_two d)))
@@ -149,7 +186,8 @@ param_named : (n : ℕ) (x : Param) → Of (IsBelow n) (param x) → ParamNamed 
 param_named n x d = (type_named n x.ty (head d), name_named n x.name (head (tail d)))
 
 -- the names of a receiver
-pub me_named : (n : ℕ) (o : Option Me) (xs : List Param) → Of (IsBelow n) (parameters o xs) → IfThere (λ (x : Me). PermNamed n x.perm) o
+pub me_named : (n : ℕ) (o : Option Me) (xs : List Param) → Of (IsBelow n) (parameters o xs)
+    → IfThere (λ (x : Me). PermNamed n x.perm) o
 me_named n None xs d = tt
 me_named n (Some m) xs d = perm_named n m.perm (head (head d))
 
@@ -159,15 +197,18 @@ params_named n None xs d = listed_has param (ParamNamed n) (param_named n) xs d
 params_named n (Some m) xs d = further_has param (ParamNamed n) (param_named n) xs (tail d)
 
 -- the groups of the needs
-pub needs_named : (n : ℕ) (xs : List GroupNeed) → Of (IsBelow n) (needs xs) → All (λ (x : GroupNeed). HasNumberBelow n x.group) xs
+pub needs_named : (n : ℕ) (xs : List GroupNeed) → Of (IsBelow n) (needs xs)
+    → All (λ (x : GroupNeed). HasNumberBelow n x.group) xs
 needs_named n [] d = All-nil (λ (x : GroupNeed). HasNumberBelow n x.group)
-needs_named n (x ∷ xs) d = separated_has need (λ (y : GroupNeed). HasNumberBelow n y.group) (λ y e. name_named n y.group (tail e)) (x ∷ xs) (tail d)
+needs_named n (x ∷ xs) d = separated_has need (λ (y : GroupNeed). HasNumberBelow n y.group)
+    (λ y e. name_named n y.group (tail e)) (x ∷ xs) (tail d)
 
 -- the names of a field
 pub field_named : (n : ℕ) (x : Field) → Of (IsBelow n) (field x) → FieldNamed n x
 field_named n x d = (type_named n x.ty (head d), name_named n x.name (head (tail d)))
 
 -- the names of a `return`
-pub returning_named : (n : ℕ) (r : Option (Spot × Expression)) → Of (IsBelow n) (return_end r) → IfThere (λ (x : Spot × Expression). ExpressionNamed n x.1) r
+pub returning_named : (n : ℕ) (r : Option (Spot × Expression)) → Of (IsBelow n) (return_end r)
+    → IfThere (λ (x : Spot × Expression). ExpressionNamed n x.1) r
 returning_named n None d = tt
 returning_named n (Some r) d = whole_named n r.1 (head (tail d))

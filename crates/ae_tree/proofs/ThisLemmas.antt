@@ -1,5 +1,6 @@
 -- Where no name among the tokens is spelled `this`, nothing is declared under that name.
-use Rattle.std.proofs.Common.{arith, ◌≡◌, ◌≢◌, refl, sym, subst, ◌∙◌, ℕ, ◌+◌, ◌++◌, Bool, true, false, not, cond, bytes_eq, List, [], ◌∷◌, length, Option, None, Some}
+use Rattle.std.proofs.Common.{arith, ◌≡◌, ◌≢◌, refl, sym, subst, ◌∙◌, ℕ, ◌+◌, ◌++◌, Bool, true, false, not, cond}
+use Rattle.std.proofs.Common.{bytes_eq, List, [], ◌∷◌, length, Option, None, Some}
 use Rattle.std.specs.Prelude.{All, codes}
 use Rattle.std.specs.List.{position_or_len}
 use Rattle.std.specs.Cmp.Lexicographic.{bytes_decides}
@@ -15,9 +16,11 @@ use Rattle.ae_tree.specs.declared.tree.Param.{Param}
 use Rattle.ae_tree.specs.declared.tree.Field.{Field}
 use Rattle.ae_tree.specs.declared.tree.Class.{Class}
 use Rattle.ae_tree.specs.Plain.{Definition}
-use Rattle.ae_tree.specs.Plain.{Declares, Assigns, Stores, StoresAt, Calls, Chooses, ChoosesElse, Repeats, Groups, Splits, Locks, Freezes, Shares, Prints, PrintsText, Asserts, Returns}
+use Rattle.ae_tree.specs.Plain.{Declares, Assigns, Stores, StoresAt, Calls, Chooses, ChoosesElse, Repeats, Groups}
+use Rattle.ae_tree.specs.Plain.{Splits, Locks, Freezes, Shares, Prints, PrintsText, Asserts, Returns}
 use Rattle.ae_tree.specs.Names.{this, first_names, name_number, lexical, numbered, spellings}
-use Rattle.ae_tree.specs.Grammar.{◌⨾◌, one_token, name, groups, param, parameters, field, method, Declaration, OfClass, OfMethod, declarations, classes_of}
+use Rattle.ae_tree.specs.Grammar.{◌⨾◌, one_token, name, groups, param, parameters, field, method, Declaration}
+use Rattle.ae_tree.specs.Grammar.{OfClass, OfMethod, declarations, classes_of}
 use Rattle.ae_tree.specs.WellShaped.{EachStatement}
 use Rattle.ae_tree.specs.FreeThis.{IsNotThis, DeclaresOther, IsSpelledOther, DerivedHaveThisFree}
 use Rattle.ae_tree.proofs.BelowLemmas.{EachToken, all_more, Of, head, tail, under, under_two}
@@ -45,12 +48,16 @@ is_third false false true n e = refl
 is_third false false false n e = absurd (omega (arith, e))
 
 -- what has the number of `this` is spelled so
-spelled_this : (names rest : List (List ℕ)) (s : List ℕ) → names ≡ first_names ++ rest → name_number names s ≡ this → s ≡ codes "this"
+spelled_this : (names rest : List (List ℕ)) (s : List ℕ) → names ≡ first_names ++ rest → name_number names s ≡ this
+    → s ≡ codes "this"
 spelled_this names rest s e h =
     let f : name_number (first_names ++ rest) s ≡ 2 = subst (λ (l : List (List ℕ)). name_number l s ≡ 2) e h in
-    (bytes_decides s (codes "this")).0 (is_third (bytes_eq s (codes "io")) (bytes_eq s (codes "main")) (bytes_eq s (codes "this")) (position_or_len (bytes_eq s) rest) f)
+    (bytes_decides s (codes "this")).0
+    (is_third (bytes_eq s (codes "io")) (bytes_eq s (codes "main")) (bytes_eq s (codes "this"))
+    (position_or_len (bytes_eq s) rest) f)
 
-kind_other : (names rest : List (List ℕ)) → names ≡ first_names ++ rest → (kind : TokenKind) → IsSpelledOther kind → IsOther (lexical names kind)
+kind_other : (names rest : List (List ℕ)) → names ≡ first_names ++ rest → (kind : TokenKind) → IsSpelledOther kind
+    → IsOther (lexical names kind)
 kind_other names rest e (k.Name s) h = λ (q : name_number names s ≡ this). h (spelled_this names rest s e q)
 kind_other names rest e (k.Int i) h = tt
 kind_other names rest e (k.Text s) h = tt
@@ -58,10 +65,13 @@ kind_other names rest e (k.Word w) h = tt
 kind_other names rest e (k.Sign g) h = tt
 kind_other names rest e k.End h = tt
 
-tokens_other : (names rest : List (List ℕ)) → names ≡ first_names ++ rest → (ts : List Token) → All (λ (t : Token). IsSpelledOther t.kind) ts → EachToken IsOther (numbered names ts)
+tokens_other : (names rest : List (List ℕ)) → names ≡ first_names ++ rest → (ts : List Token)
+    → All (λ (t : Token). IsSpelledOther t.kind) ts → EachToken IsOther (numbered names ts)
 tokens_other names rest e [] h = tt
-tokens_other names rest e (t ∷ ts) h =
-    (kind_other names rest e t.kind (All-head (λ (x : Token). IsSpelledOther x.kind) t ts h), tokens_other names rest e ts (All-tail (λ (x : Token). IsSpelledOther x.kind) t ts h))
+tokens_other names rest e (t ∷ ts) h = (
+  kind_other names rest e t.kind (All-head (λ (x : Token). IsSpelledOther x.kind) t ts h),
+  tokens_other names rest e ts (All-tail (λ (x : Token). IsSpelledOther x.kind) t ts h),
+)
 
 -- ---- declared names
 
@@ -113,8 +123,10 @@ method_other : (o : Option ℕ) (m : Definition) → Of IsOther (method o m) →
 method_other o m d =
     let s2 = tail (tail (under_two d)) in
     let s3 = tail s2 in
-    let s5 = tail (tail s3) in
-    ((name_other m.name (head s2), groups_other m.groups (head s3), params_other m.me m.params (head s5)), each_in_body DeclaresOther declares_other no_wish m.body (tail (tail (tail s5))))
+    let s5 = tail (tail s3) in (
+      (name_other m.name (head s2), groups_other m.groups (head s3), params_other m.me m.params (head s5)),
+      each_in_body DeclaresOther declares_other no_wish m.body (tail (tail (tail s5))),
+    )
 
 abbrev ClassOther : Class → Type 0
 ClassOther c = IsNotThis c.name × All IsNotThis c.groups × All (λ (d : Field). IsNotThis d.name) c.fields
@@ -124,8 +136,12 @@ classes_other [] c m d = All-nil ClassOther
 classes_other (OfClass x ms ∷ xs) c m d =
     let s1 = tail (under (head d)) in
     let s2 = tail s1 in
-    All-cons ClassOther x (classes_of xs)
-    (name_other x.name (head s1), groups_other x.groups (head s2), each_has field (λ (y : Field). IsNotThis y.name) (λ y e. name_other y.name (head (tail e))) x.fields (head (tail (tail s2))))
+    All-cons ClassOther x (classes_of xs) (
+      name_other x.name (head s1),
+      groups_other x.groups (head s2),
+      each_has field (λ (y : Field). IsNotThis y.name)
+          (λ y e. name_other y.name (head (tail e))) x.fields (head (tail (tail s2))),
+    )
     (classes_other xs _ _ (tail d))
 classes_other (OfMethod x ∷ xs) c m d = classes_other xs _ _ (tail d)
 
@@ -133,10 +149,17 @@ classes_other (OfMethod x ∷ xs) c m d = classes_other xs _ _ (tail d)
 pub derived_have_this_free : DerivedHaveThisFree
 derived_have_this_free tokens p h d =
     let more = all_more (spellings tokens) first_names in
-    let whole : Of IsOther (declarations 0 0 d.list ⨾ one_token tok.End) = record { tokens = numbered p.names tokens; derives = d.derives; each = tokens_other p.names more.0 (d.names ∙ more.1) tokens h } in
+    let whole : Of IsOther (declarations 0 0 d.list ⨾ one_token tok.End) =
+    record {
+      tokens = numbered p.names tokens;
+      derives = d.derives;
+      each = tokens_other p.names more.0
+          (d.names ∙ more.1) tokens h;
+    } in
     let ds : Of IsOther (declarations 0 0 d.list) = head whole in
     let all : All MethodOther p.methods = subst (All MethodOther) (sym d.methods)
-    (methods_have MethodOther (length (classes_of d.list)) (λ o m l b. method_other o m b) d.list 0 0 (omega arith) ds) in
+    (methods_have MethodOther (length (classes_of d.list)) (λ o m l b. method_other o m b) d.list 0 0
+    (omega arith) ds) in
     record {
       classes = subst (All ClassOther) (sym d.classes) (classes_other d.list 0 0 ds);
       methods = λ i x l. (all i x l).0;

@@ -4,7 +4,9 @@ use Rattle.ae_text.specs.declared.refusal.Spot.{Spot}
 use Rattle.ae_tree.specs.declared.tree.Ty.{Ty}
 use Rattle.ae_tree.specs.declared.tree.Ty.TheVariants as ty
 use Rattle.ae_tree.specs.declared.tree.Need.TheVariants as need_of
-use Rattle.ae_tree.specs.Plain.{Expression, Number, Truth, Nothing, Read, Item, Length, Grouped, Negated, Minus, Binary, RightSide, Value, Taken, Zeros, Made, Returned, Lines, End, Next, Definition, Code}
+use Rattle.ae_tree.specs.Plain.{Expression, Number, Truth, Nothing, Read, Item, Length, Grouped, Negated, Minus}
+use Rattle.ae_tree.specs.Plain.{Binary, RightSide, Value, Taken, Zeros, Made, Returned, Lines, End, Next, Definition}
+use Rattle.ae_tree.specs.Plain.{Code}
 use Rattle.ae_tree.specs.Plain.{Action, Declares, Assigns, Prints}
 use Rattle.ae_tree.specs.Names.{io, main, this}
 use Rattle.ae_tree.specs.Grammar.{level}

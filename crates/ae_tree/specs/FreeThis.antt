@@ -25,9 +25,11 @@ DeclaresOther _ = Unit {0}
 -- nothing is declared under the name `this`
 pub record ThisIsFree (p : Code) : Type 0 where
   -- no class has the name, and no group and no field of a class
-  pub classes : All (λ (c : Class). IsNotThis c.name × All IsNotThis c.groups × All (λ (d : Field). IsNotThis d.name) c.fields) p.classes
+  pub classes : All (λ (c : Class). IsNotThis c.name × All IsNotThis c.groups
+      × All (λ (d : Field). IsNotThis d.name) c.fields) p.classes
   -- no method has it, and no group and no parameter of a method
-  pub methods : All (λ (m : Definition). IsNotThis m.name × All IsNotThis m.groups × All (λ (x : Param). IsNotThis x.name) m.params) p.methods
+  pub methods : All (λ (m : Definition). IsNotThis m.name × All IsNotThis m.groups
+      × All (λ (x : Param). IsNotThis x.name) m.params) p.methods
   -- no statement declares it
   pub statements : All (λ (m : Definition). EachStatement DeclaresOther m.body) p.methods
 
@@ -38,4 +40,5 @@ IsSpelledOther _ = Unit {0}
 
 -- where no name among the tokens is spelled `this`, nothing is declared under it
 abbrev pub DerivedHaveThisFree : Type 0
-DerivedHaveThisFree = (tokens : List Token) (p : Code) → All (λ (t : Token). IsSpelledOther t.kind) tokens → Derives tokens p → ThisIsFree p
+DerivedHaveThisFree = (tokens : List Token) (p : Code) → All (λ (t : Token). IsSpelledOther t.kind) tokens
+    → Derives tokens p → ThisIsFree p

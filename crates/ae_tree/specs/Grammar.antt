@@ -1,5 +1,6 @@
 -- The grammar: which tokens a program stands for, one case for each production.
-use Rattle.std.specs.Prelude.{◌≡◌, ◌≢◌, ◌≤◌, ◌⊎◌, ℕ, zero, suc, ◌+◌, Bool, true, false, ◌++◌, List, [], ◌∷◌, length, Option, None, Some}
+use Rattle.std.specs.Prelude.{◌≡◌, ◌≢◌, ◌≤◌, ◌⊎◌, ℕ, zero, suc, ◌+◌, Bool, true, false, ◌++◌, List, [], ◌∷◌, length}
+use Rattle.std.specs.Prelude.{Option, None, Some}
 use Rattle.ae_text.specs.declared.refusal.Spot.{Spot}
 use Rattle.ae_text.specs.declared.token.Keyword.{Keyword}
 use Rattle.ae_text.specs.declared.token.Keyword.TheVariants as word
@@ -28,8 +29,11 @@ use Rattle.ae_tree.specs.declared.tree.Need.TheVariants as need_of
 use Rattle.ae_tree.specs.declared.tree.GroupNeed.{GroupNeed}
 use Rattle.ae_tree.specs.declared.tree.Decl.{Decl}
 use Rattle.ae_tree.specs.declared.tree.Decl.TheVariants as decl
-use Rattle.ae_tree.specs.Plain.{Expression, Number, Truth, Nothing, Read, Item, Length, Grouped, Negated, Minus, Binary, Invocation, RightSide, Value, Taken, Zeros, Made, Returned, Lines, End, Next, Definition, Code}
-use Rattle.ae_tree.specs.Plain.{Action, Declares, Assigns, Stores, StoresAt, Calls, Chooses, ChoosesElse, Repeats, Groups, Splits, Locks, Freezes, Shares, Prints, PrintsText, Asserts, Returns}
+use Rattle.ae_tree.specs.Plain.{Expression, Number, Truth, Nothing, Read, Item, Length, Grouped, Negated, Minus}
+use Rattle.ae_tree.specs.Plain.{Binary, Invocation, RightSide, Value, Taken, Zeros, Made, Returned, Lines, End, Next}
+use Rattle.ae_tree.specs.Plain.{Definition, Code}
+use Rattle.ae_tree.specs.Plain.{Action, Declares, Assigns, Stores, StoresAt, Calls, Chooses, ChoosesElse, Repeats}
+use Rattle.ae_tree.specs.Plain.{Groups, Splits, Locks, Freezes, Shares, Prints, PrintsText, Asserts, Returns}
 use Rattle.ae_tree.specs.Names.{this, names_of, numbered}
 
 abbrev pub Tokens : Type 0
@@ -194,7 +198,8 @@ expression_at (Length p at) l = one_at (tok.Word word.Len) at ⨾ path p
 expression_at (Grouped e at) l = one_at (tok.Sign sign.OpenParen) at ⨾ expression_at e 0 ⨾ a_sign sign.CloseParen
 expression_at (Negated e at) l = one_at (tok.Sign sign.Not) at ⨾ expression_at e 5
 expression_at (Minus e at) l = one_at (tok.Sign sign.Minus) at ⨾ expression_at e 5
-expression_at (Binary o a b) l = λ ts. (l ≤ level o) × (expression_at a (left_level o) ⨾ a_sign (sign_of o) ⨾ expression_at b (level o + 1)) ts
+expression_at (Binary o a b) l = λ ts. (l ≤ level o)
+    × (expression_at a (left_level o) ⨾ a_sign (sign_of o) ⨾ expression_at b (level o + 1)) ts
 
 -- a whole expression
 abbrev pub whole_expression : Expression → Tokens → Type 0
@@ -223,7 +228,8 @@ call_written c = receiver c.on ⨾ name c.method ⨾ groups c.groups ⨾ argumen
 abbrev pub right_of_equals : RightSide → Tokens → Type 0
 right_of_equals (Value e) = whole_expression e
 right_of_equals (Taken p at) = λ ts. (p.steps ≢ []) × (one_at (tok.Word word.Take) at ⨾ path p) ts
-right_of_equals (Zeros e at) = one_at (tok.Word word.New) at ⨾ a_word word.Ints ⨾ a_sign sign.OpenParen ⨾ whole_expression e ⨾ a_sign sign.CloseParen
+right_of_equals (Zeros e at) = one_at (tok.Word word.New) at ⨾ a_word word.Ints ⨾ a_sign sign.OpenParen
+    ⨾ whole_expression e ⨾ a_sign sign.CloseParen
 right_of_equals (Made c gs es at) = one_at (tok.Word word.New) at ⨾ name c ⨾ groups gs ⨾ arguments es
 right_of_equals (Returned c) = call_written c
 
@@ -254,19 +260,29 @@ in_braces p = a_sign sign.OpenBrace ⨾ p ⨾ a_sign sign.CloseBrace
 abbrev mutual
   -- A statement. Its blocks are numbered from n on, in the order in which they are opened.
   pub statement : ℕ → Spot → Action → Tokens → Type 0
-  statement n at (Declares t x e) = one_at (tok.Word word.Let) at ⨾ type_ t ⨾ name x ⨾ a_sign sign.Assign ⨾ right_of_equals e ⨾ a_sign sign.Semicolon
-  statement n at (Assigns x e) = λ ts. (x.at ≡ at) × (name x ⨾ a_sign sign.Assign ⨾ right_of_equals e ⨾ a_sign sign.Semicolon) ts
-  statement n at (Stores p e) = λ ts. (p.root.at ≡ at) × (p.steps ≢ []) × (path p ⨾ a_sign sign.Assign ⨾ whole_expression e ⨾ a_sign sign.Semicolon) ts
-  statement n at (StoresAt p i e) = λ ts. (p.root.at ≡ at) × (path p ⨾ a_sign sign.OpenBracket ⨾ whole_expression i ⨾ a_sign sign.CloseBracket ⨾ a_sign sign.Assign ⨾ whole_expression e ⨾ a_sign sign.Semicolon) ts
+  statement n at (Declares t x e) = one_at (tok.Word word.Let) at ⨾ type_ t ⨾ name x ⨾ a_sign sign.Assign
+      ⨾ right_of_equals e ⨾ a_sign sign.Semicolon
+  statement n at (Assigns x e) = λ ts. (x.at ≡ at)
+      × (name x ⨾ a_sign sign.Assign ⨾ right_of_equals e ⨾ a_sign sign.Semicolon) ts
+  statement n at (Stores p e) = λ ts. (p.root.at ≡ at) × (p.steps ≢ [])
+      × (path p ⨾ a_sign sign.Assign ⨾ whole_expression e ⨾ a_sign sign.Semicolon) ts
+  statement n at (StoresAt p i e) = λ ts. (p.root.at ≡ at)
+      × (path p ⨾ a_sign sign.OpenBracket ⨾ whole_expression i ⨾ a_sign sign.CloseBracket ⨾ a_sign sign.Assign
+      ⨾ whole_expression e ⨾ a_sign sign.Semicolon) ts
   statement n at (Calls c) = λ ts. (call_spot c ≡ at) × (call_written c ⨾ a_sign sign.Semicolon) ts
-  statement n at (Chooses e k b) = λ ts. (k ≡ n) × (one_at (tok.Word word.If) at ⨾ whole_expression e ⨾ in_braces (statements (n + 1) b)) ts
+  statement n at (Chooses e k b) =
+      λ ts. (k ≡ n) × (one_at (tok.Word word.If) at ⨾ whole_expression e ⨾ in_braces (statements (n + 1) b)) ts
   statement n at (ChoosesElse e k b m c) = λ ts. (k ≡ n) × (m ≡ n + 1 + opened_in b) × (one_at (tok.Word word.If) at ⨾ whole_expression e ⨾ in_braces (statements (n + 1) b) ⨾ a_word word.Else ⨾ in_braces (statements (m + 1) c)) ts
-  statement n at (Repeats e k b) = λ ts. (k ≡ n) × (one_at (tok.Word word.While) at ⨾ whole_expression e ⨾ in_braces (statements (n + 1) b)) ts
+  statement n at (Repeats e k b) =
+      λ ts. (k ≡ n) × (one_at (tok.Word word.While) at ⨾ whole_expression e ⨾ in_braces (statements (n + 1) b)) ts
   statement n at (Groups g) = one_at (tok.Word word.Group) at ⨾ name g ⨾ a_sign sign.Semicolon
-  statement n at (Splits gs k b) = λ ts. (k ≡ n) × (one_at (tok.Word word.Split) at ⨾ separated name gs ⨾ in_braces (statements (n + 1) b)) ts
-  statement n at (Locks g k b) = λ ts. (k ≡ n) × (one_at (tok.Word word.Atomic) at ⨾ name g ⨾ in_braces (statements (n + 1) b)) ts
+  statement n at (Splits gs k b) =
+      λ ts. (k ≡ n) × (one_at (tok.Word word.Split) at ⨾ separated name gs ⨾ in_braces (statements (n + 1) b)) ts
+  statement n at (Locks g k b) =
+      λ ts. (k ≡ n) × (one_at (tok.Word word.Atomic) at ⨾ name g ⨾ in_braces (statements (n + 1) b)) ts
   statement n at (Freezes x) = one_at (tok.Word word.Freeze) at ⨾ name x ⨾ a_sign sign.Semicolon
-  statement n at (Shares x g) = one_at (tok.Word word.Share) at ⨾ name x ⨾ a_word word.Into ⨾ name g ⨾ a_sign sign.Semicolon
+  statement n at (Shares x g) = one_at (tok.Word word.Share) at ⨾ name x ⨾ a_word word.Into ⨾ name g
+      ⨾ a_sign sign.Semicolon
   statement n at (Prints e) = one_at (tok.Word word.Print) at ⨾ whole_expression e ⨾ a_sign sign.Semicolon
   statement n at (PrintsText s) = one_at (tok.Word word.Print) at ⨾ one_token (tok.Text s) ⨾ a_sign sign.Semicolon
   statement n at (Asserts e) = one_at (tok.Word word.Assert) at ⨾ whole_expression e ⨾ a_sign sign.Semicolon
@@ -361,7 +377,8 @@ pub data Declaration : Type 0 where
 -- The declaration behind c classes and m methods.
 -- class = "class" NAME [gnames] "{" { type NAME ";" } { cmethod } "}"
 abbrev pub declaration : ℕ → ℕ → Declaration → Tokens → Type 0
-declaration c m (OfClass k ms) = λ ts. (k.methods ≡ numbers_from m (length ms)) × (a_word word.Class ⨾ name k.name ⨾ groups k.groups
+declaration c m (OfClass k ms) = λ ts. (k.methods ≡ numbers_from m (length ms))
+    × (a_word word.Class ⨾ name k.name ⨾ groups k.groups
     ⨾ a_sign sign.OpenBrace ⨾ one_by_one field k.fields ⨾ one_by_one (method (Some c)) ms ⨾ a_sign sign.CloseBrace) ts
 declaration c m (OfMethod d) = method None d
 

@@ -4,7 +4,9 @@ use Rattle.std.specs.Prelude.{◌≡◌, ℕ, Bool, false, nat_eq, ◌||◌, if�
 use Rattle.ae_text.specs.declared.refusal.Spot.{Spot}
 use Rattle.ae_text.specs.declared.refusal.Rule.{Rule}
 use Rattle.ae_text.specs.declared.refusal.Rule.TheVariants as rule
-use Rattle.ae_tree.specs.Plain.{Expression, Number, Truth, Nothing, Read, Item, Length, Grouped, Negated, Minus, Binary, RightSide, Value, Taken, Zeros, Made, Returned, Lines, End, Next, Definition, Code}
+use Rattle.ae_tree.specs.Plain.{Expression, Number, Truth, Nothing, Read, Item, Length, Grouped, Negated, Minus}
+use Rattle.ae_tree.specs.Plain.{Binary, RightSide, Value, Taken, Zeros, Made, Returned, Lines, End, Next, Definition}
+use Rattle.ae_tree.specs.Plain.{Code}
 use Rattle.ae_tree.specs.Plain.{Action, Declares, Assigns, Prints}
 use Rattle.ae_tree.specs.Names.{io}
 use Rattle.ae_tree.specs.Built.{Built}
@@ -59,7 +61,8 @@ today_judge_right (Returned c) scope = Holds scope
 
 -- a statement: the name of a `let` is free before it and visible behind it, an assigned name is visible before it
 abbrev pub judge_action : Action → Scope → Verdict
-judge_action (Declares ty x e) scope = then_judge (free x.name x.at scope) (λ s. then_judge (today_judge_right e s) (λ t. Holds (visible_also x.name t)))
+judge_action (Declares ty x e) scope = then_judge (free x.name x.at scope)
+    (λ s. then_judge (today_judge_right e s) (λ t. Holds (visible_also x.name t)))
 judge_action (Assigns x e) scope = then_judge (visible x.name x.at scope) (today_judge_right e)
 judge_action (Prints e) scope = judge_expression e scope
 judge_action _ scope = Holds scope

@@ -3,8 +3,11 @@ use Rattle.std.specs.Prelude.{◌≤◌, ◌<◌, ℕ, ◌+◌, ◌-◌, List, l
 use Rattle.ae_tree.specs.declared.limits.Limit.{Limit}
 use Rattle.ae_tree.specs.declared.limits.Limit.TheVariants as limit
 use Rattle.ae_tree.specs.declared.tree.Me.{Me}
-use Rattle.ae_tree.specs.Plain.{Expression, Number, Truth, Nothing, Read, Item, Length, Grouped, Negated, Minus, Binary, RightSide, Value, Taken, Zeros, Made, Returned, Lines, End, Next, Definition, Code}
-use Rattle.ae_tree.specs.Plain.{Action, Declares, Assigns, Stores, StoresAt, Calls, Chooses, ChoosesElse, Repeats, Groups, Splits, Locks, Freezes, Shares, Prints, PrintsText, Asserts, Returns}
+use Rattle.ae_tree.specs.Plain.{Expression, Number, Truth, Nothing, Read, Item, Length, Grouped, Negated, Minus}
+use Rattle.ae_tree.specs.Plain.{Binary, RightSide, Value, Taken, Zeros, Made, Returned, Lines, End, Next, Definition}
+use Rattle.ae_tree.specs.Plain.{Code}
+use Rattle.ae_tree.specs.Plain.{Action, Declares, Assigns, Stores, StoresAt, Calls, Chooses, ChoosesElse, Repeats}
+use Rattle.ae_tree.specs.Plain.{Groups, Splits, Locks, Freezes, Shares, Prints, PrintsText, Asserts, Returns}
 
 -- how many tokens of an expression count: operators, `(`, `[`, `.` and `len`
 abbrev pub marks : Expression → ℕ
@@ -59,7 +62,8 @@ abbrev mutual
   KeepsIn l n (StoresAt p i e) = KeepsDepth l i × KeepsDepth l e
   KeepsIn l n (Calls c) = AllKeepDepth l c.args
   KeepsIn l n (Chooses e k b) = KeepsDepth l e × Opens l n × IsFew l b × EachKeeps l (n - 1) b
-  KeepsIn l n (ChoosesElse e k b m c) = KeepsDepth l e × Opens l n × (IsFew l b × EachKeeps l (n - 1) b) × IsFew l c × EachKeeps l (n - 1) c
+  KeepsIn l n (ChoosesElse e k b m c) = KeepsDepth l e × Opens l n × (IsFew l b × EachKeeps l (n - 1) b) × IsFew l c
+      × EachKeeps l (n - 1) c
   KeepsIn l n (Repeats e k b) = KeepsDepth l e × Opens l n × IsFew l b × EachKeeps l (n - 1) b
   KeepsIn l n (Groups g) = Unit {0}
   KeepsIn l n (Splits gs k b) = Opens l n × IsFew l b × EachKeeps l (n - 1) b

@@ -1,5 +1,6 @@
 -- Which token is refused, and why: the first with which no program goes on, or none within the limits.
-use Rattle.std.specs.Prelude.{◌≡◌, ◌≢◌, ◌≤◌, ◌⊎◌, ℕ, ◌+◌, ◌++◌, List, [], ◌∷◌, length, take, drop, Bool, true, false, IsTrue, if◌then◌else◌, Some, slice_get}
+use Rattle.std.specs.Prelude.{◌≡◌, ◌≢◌, ◌≤◌, ◌⊎◌, ℕ, ◌+◌, ◌++◌, List, [], ◌∷◌, length, take, drop, Bool, true, false}
+use Rattle.std.specs.Prelude.{IsTrue, if◌then◌else◌, Some, slice_get}
 use Rattle.ae_text.specs.declared.refusal.Spot.{Spot}
 use Rattle.ae_text.specs.declared.refusal.Rule.{Rule}
 use Rattle.ae_text.specs.declared.refusal.Rule.TheVariants as rule
@@ -90,7 +91,8 @@ CanPassAt l ts k = (t : Lexeme) × (slice_get ts k ≡ Some t) × CanPass l t.ki
 
 -- with token k programs go on that keep to the limits named before this one, but none that keeps to this one
 abbrev pub Passes : Limit → List Token → ℕ → Type 0
-Passes l ts k = GoesUpTo ts k × CanPassAt l (lexemes ts) k × Goes (KeepsBefore l) ts (k + 1) × (Goes (KeepsTo l) ts (k + 1) → ⊥)
+Passes l ts k = GoesUpTo ts k × CanPassAt l (lexemes ts) k × Goes (KeepsBefore l) ts (k + 1)
+    × (Goes (KeepsTo l) ts (k + 1) → ⊥)
 
 -- ---- right sides that are not yet known to be an expression or a call
 
@@ -158,7 +160,8 @@ pub record Is257th (side : Tokens) (back : ℕ) : Type 0 where
 -- A token that passes a limit is refused itself, but where it makes an open right side an expression
 -- whose 257th token that counts stands before it: then that one is.
 abbrev pub IsPlaced : Limit → Tokens → ℕ → Type 0
-IsPlaced limit.Depth before back = ((s : OpenSide before) × Is257th s.side back) ⊎ ((back ≡ 0) × ((s : OpenSide before) → marks_in s.side ≤ 256))
+IsPlaced limit.Depth before back = ((s : OpenSide before) × Is257th s.side back)
+    ⊎ ((back ≡ 0) × ((s : OpenSide before) → marks_in s.side ≤ 256))
 IsPlaced l before back = back ≡ 0
 
 -- token k is refused for this limit

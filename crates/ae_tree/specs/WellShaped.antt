@@ -1,5 +1,6 @@
 -- The shape of a grammatical program: what the grammar gives, said of the plain data alone.
-use Rattle.std.specs.Prelude.{◌≡◌, ◌≢◌, ◌<◌, ◌⊎◌, ℕ, List, [], ◌∷◌, ◌++◌, length, Option, None, Some, is_some, slice_get, filter_map, nat_eq, All}
+use Rattle.std.specs.Prelude.{◌≡◌, ◌≢◌, ◌<◌, ◌⊎◌, ℕ, List, [], ◌∷◌, ◌++◌, length, Option, None, Some, is_some}
+use Rattle.std.specs.Prelude.{slice_get, filter_map, nat_eq, All}
 use Rattle.std.specs.List.{IsDistinct, flat_map}
 use Rattle.std.specs.Str.{bytes_eq}
 use Rattle.ae_text.specs.declared.token.Token.{Token}
@@ -18,8 +19,11 @@ use Rattle.ae_tree.specs.declared.tree.Class.{Class}
 use Rattle.ae_tree.specs.declared.tree.GroupNeed.{GroupNeed}
 use Rattle.ae_tree.specs.declared.tree.Decl.{Decl}
 use Rattle.ae_tree.specs.declared.tree.Decl.TheVariants as decl
-use Rattle.ae_tree.specs.Plain.{Expression, Number, Truth, Nothing, Read, Item, Length, Grouped, Negated, Minus, Binary, Invocation, RightSide, Value, Taken, Zeros, Made, Returned, Lines, End, Next, Definition, Code}
-use Rattle.ae_tree.specs.Plain.{Action, Declares, Assigns, Stores, StoresAt, Calls, Chooses, ChoosesElse, Repeats, Groups, Splits, Locks, Freezes, Shares, Prints, PrintsText, Asserts, Returns}
+use Rattle.ae_tree.specs.Plain.{Expression, Number, Truth, Nothing, Read, Item, Length, Grouped, Negated, Minus}
+use Rattle.ae_tree.specs.Plain.{Binary, Invocation, RightSide, Value, Taken, Zeros, Made, Returned, Lines, End, Next}
+use Rattle.ae_tree.specs.Plain.{Definition, Code}
+use Rattle.ae_tree.specs.Plain.{Action, Declares, Assigns, Stores, StoresAt, Calls, Chooses, ChoosesElse, Repeats}
+use Rattle.ae_tree.specs.Plain.{Groups, Splits, Locks, Freezes, Shares, Prints, PrintsText, Asserts, Returns}
 use Rattle.ae_tree.specs.Names.{first_names}
 use Rattle.ae_tree.specs.Grammar.{numbers_from, Derives}
 
@@ -92,7 +96,8 @@ ExpressionNamed n (Binary o a b) = ExpressionNamed n a × ExpressionNamed n b
 
 -- a call: its receiver, its method, its groups and its arguments
 abbrev pub CallNamed : ℕ → Invocation → Type 0
-CallNamed n c = IfThere (PathNamed n) c.on × HasNumberBelow n c.method × AreNamed n c.groups × All (ExpressionNamed n) c.args
+CallNamed n c = IfThere (PathNamed n) c.on × HasNumberBelow n c.method × AreNamed n c.groups
+    × All (ExpressionNamed n) c.args
 
 -- what stands right of a =
 abbrev pub RightNamed : ℕ → RightSide → Type 0

@@ -27,8 +27,15 @@ cell_of q g m n = record { name = record { path = q; group = g }; first = counte
 
 -- a report with these cells, whose program went through
 abbrev with_cells : List Event → List ℕ → List Cell → ℕ → Report
-with_cells events order cells n = record { ending = Done; out = line (pos n); events = events; past = 0;
-    order = order; cells = cells; trace = [] }
+with_cells events order cells n = record {
+  ending = Done;
+  out = line (pos n);
+  events = events;
+  past = 0;
+  order = order;
+  cells = cells;
+  trace = [];
+}
 
 -- the first cell that is entered is in the report at its place
 first_is_first : (passes : First → Type 0) (x y : First) (xs ys : List First) → passes x
@@ -63,8 +70,14 @@ abbrev in_call : ℕ → ℕ → ℕ → Event
 in_call cell j stamp = record {
   cell = cell;
   path = 3 ∷ j ∷ 0 ∷ [];
-  ask = record { path = 3 ∷ j ∷ 0 ∷ []; method = 0; block = 1; fuel = 99; depth = 2;
-      ins = record nothing_out { locals = counted } };
+  ask = record {
+    path = 3 ∷ j ∷ 0 ∷ [];
+    method = 0;
+    block = 1;
+    fuel = 99;
+    depth = 2;
+    ins = record nothing_out { locals = counted };
+  };
   out = Gave nothing_out;
   stamp = stamp;
 }

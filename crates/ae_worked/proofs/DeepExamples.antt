@@ -47,8 +47,10 @@ cell_just_low_enough-comes = record { ending = refl; out = refl; used = refl }
 -- a block's answer that gives a local an object of this height, and its cell, which is empty
 abbrev answer_of_height : ℕ → List Seen
 answer_of_height n =
-    OfBlock (Gave (record nothing_out { locals = λ x. if nat_eq 6 x then Some
-    (record { form = f.Object perm.Unique (kind.Class 3 []); value = tower n }) else None }))
+    OfBlock (Gave (record nothing_out {
+      locals = λ x. if nat_eq 6 x then Some
+          (record { form = f.Object perm.Unique (kind.Class 3 []); value = tower n }) else None;
+    }))
     ∷ OfCell (OfStore []) ∷ []
 
 answer_too_high-waits : Waits answer_too_high [] 100 (answer_of_height 1001) [] 0

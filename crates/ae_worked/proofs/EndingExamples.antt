@@ -11,8 +11,10 @@ use Rattle.ae_semantics.specs.Observations.{Piece, OfLog, Ask, Gave, Fuel}
 use Rattle.ae_semantics.specs.Meaning.{one, many, below}
 use Rattle.ae_semantics.specs.Means.{At, Turn, Asking, mean}
 use Rattle.ae_semantics.specs.Atom.{atom, part}
-use Rattle.ae_semantics.specs.Report.{Event, Cell, Report, LeadsTo, Legal, Explained, mean_of, part_of_report, asking_of}
-use Rattle.ae_semantics.specs.Report.{ended_at, LineRun, turn_path, IsLater, InTurnsFrom, Covers, IsLineOf, KeepInTime, traced_part}
+use Rattle.ae_semantics.specs.Report.{Event, Cell, Report, LeadsTo, Legal, Explained, mean_of, part_of_report}
+use Rattle.ae_semantics.specs.Report.{asking_of}
+use Rattle.ae_semantics.specs.Report.{ended_at, LineRun, turn_path, IsLater, InTurnsFrom, Covers, IsLineOf}
+use Rattle.ae_semantics.specs.Report.{KeepInTime, traced_part}
 use Rattle.ae_semantics.specs.Report.{Traced}
 use Rattle.ae_worked.proofs.ReportWords.{by_test, of_two, pair_of_two, two_differ, carried_same}
 use Rattle.ae_worked.proofs.ReportWords.{asking_same, two_same, not_both, unparted, fork_of, part_so, rises_two}
@@ -34,8 +36,13 @@ abbrev ask_in : ℕ → ℕ → Ask
 ask_in t fuel = record { path = block_in t; method = 0; block = 3; fuel = fuel; depth = 1; ins = nothing_out }
 
 abbrev event_in : ℕ → ℕ → ℕ → Event
-event_in t fuel stamp = record { cell = 0; path = block_in t; ask = ask_in t fuel; out = Gave nothing_out;
-    stamp = stamp }
+event_in t fuel stamp = record {
+  cell = 0;
+  path = block_in t;
+  ask = ask_in t fuel;
+  out = Gave nothing_out;
+  stamp = stamp;
+}
 
 abbrev piece_in : ℕ → Piece
 piece_in t = record { path = 0 ∷ 0 ∷ t ∷ 0 ∷ 0 ∷ []; bytes = line (pos 1) }
@@ -77,9 +84,11 @@ spent-ended_at = refl
 leads_one : (t fuel stamp : ℕ) (pieces : List Piece)
     → LeadsTo prints_forever (event_in t fuel stamp) (OfLog pieces) (OfLog (pieces ++ (piece_in t ∷ [])))
 unfolding mean one many below atom
-leads_one t fuel stamp pieces = record { image = refl;
-    out = nothing_given _ (λ x. by_test 2 x (λ e. rw e refl) (λ e. rw e refl))
-    (elim [ zero ↦ refl | suc g ↦ rw (eqb-zero-suc g) refl ]) refl }
+leads_one t fuel stamp pieces = record {
+  image = refl;
+  out = nothing_given _ (λ x. by_test 2 x (λ e. rw e refl) (λ e. rw e refl))
+      (elim [ zero ↦ refl | suc g ↦ rw (eqb-zero-suc g) refl ]) refl;
+}
 
 abbrev StampsRise : Event → Event → Type 0
 StampsRise d e = Ordered prints_forever d.path e.path → d.stamp < e.stamp
@@ -99,15 +108,22 @@ turns_rise d e a b = of_two (λ (x : Event). (y : Event) → Contains spent.even
 spent-legal : Legal prints_forever spent
 spent-legal = record {
   differ = two_differ 1 2 (λ (e : 1 ≡ 2). omega (arith, e));
-  places = elim [ zero ↦ (λ l. (0, omega arith, refl), λ c. omega arith)
-      | suc zero ↦ (λ l. (1, omega arith, refl), λ c. omega arith)
-      | suc (suc i) ↦ (λ l. absurd (omega (arith, l)), λ c. of_two (λ z. z < 2) 0 1 (omega arith) (omega arith)
-      (suc (suc i)) c) ];
+  places = elim [
+    | zero ↦ (λ l. (0, omega arith, refl), λ c. omega arith)
+    | suc zero ↦ (λ l. (1, omega arith, refl), λ c. omega arith)
+    | suc (suc i) ↦ (
+      λ l. absurd (omega (arith, l)),
+      λ c. of_two (λ z. z < 2) 0 1 (omega arith) (omega arith)
+          (suc (suc i)) c,
+    )
+  ];
   once = two_differ 0 1 (λ (e : 0 ≡ 1). omega (arith, e));
   rises = rises_two spent.events 0 1 (event_in 0 1 1) (event_in 1 0 2) refl refl (omega arith);
-  leads = one_cell prints_forever spent.events printed_twice
-      (OfLog (piece_in 0 ∷ []), leads_one 0 1 1 [],
-      (OfLog (piece_in 0 ∷ piece_in 1 ∷ []), leads_one 1 0 2 (piece_in 0 ∷ []), refl));
+  leads = one_cell prints_forever spent.events printed_twice (
+    OfLog (piece_in 0 ∷ []),
+    leads_one 0 1 1 [],
+    (OfLog (piece_in 0 ∷ piece_in 1 ∷ []), leads_one 1 0 2 (piece_in 0 ∷ []), refl),
+  );
   ordered = turns_rise;
 }
 
@@ -148,7 +164,7 @@ spent-explained = record {
   ending = refl;
   events = record {
     in_order = pair_of_two (λ (d e : Event). comes_before d.path e.path ≡ true) (event_in 0 1 1)
-    (event_in 1 0 2) refl;
+        (event_in 1 0 2) refl;
     own_path = of_two (λ (e : Event). e.ask.path ≡ e.path) (event_in 0 1 1) (event_in 1 0 2) refl refl;
     of_a_cell = of_two (λ (e : Event). e.cell < 1) (event_in 0 1 1) (event_in 1 0 2) (omega arith) (omega arith);
   };
@@ -224,12 +240,12 @@ late_turn : (q : Instance) (x : Turn) → Contains (traced_part prints_forever [
 unfolding part one many below
 late_turn q = every (λ (x : Turn). last_turn.path ≡ turn_path x → InTurnsFrom x q → 1 < third q)
     (traced_part prints_forever [] 2 spent).turns (
-  (λ e y. let d : 2 ≡ 0 = ap third e in absurd (omega (arith, d))),
-  (
-    (λ e y. let d : 2 ≡ 1 = ap third e in absurd (omega (arith, d))),
-    ((λ e y. let d : third q ≡ y.0 = ap third y.2 in let l : 2 < suc y.0 = y.3 in omega (arith, d, l)), tt),
-  ),
-)
+      (λ e y. let d : 2 ≡ 0 = ap third e in absurd (omega (arith, d))),
+      (
+        (λ e y. let d : 2 ≡ 1 = ap third e in absurd (omega (arith, d))),
+        ((λ e y. let d : third q ≡ y.0 = ap third y.2 in let l : 2 < suc y.0 = y.3 in omega (arith, d, l)), tt),
+      ),
+    )
 
 -- blocks of two turns
 blocks_apart : AreApart (line_in 0 3 4) (line_in 1 5 6)
@@ -257,7 +273,7 @@ spent-traced = record {
   spans = every (λ (l : LineRun). l.began < l.ended) spent.trace (omega arith, (omega arith, (omega arith, tt)));
   once = (
     of_two (AreApart (line_in 0 3 4)) (line_in 1 5 6) last_turn blocks_apart
-    (block_and_turn-apart 0 (omega arith) 3 4),
+        (block_and_turn-apart 0 (omega arith) 3 4),
     pair_of_two AreApart (line_in 1 5 6) last_turn (block_and_turn-apart 1 (omega arith) 5 6),
   );
   keeps = (
@@ -266,19 +282,31 @@ spent-traced = record {
   );
   all_run = every HasLine (mean_of prints_forever [] 2 spent).ran (
     (λ e. absurd (not_both _ refl e)),
-    ((λ e. absurd (not_both _ refl e)),
-    ((λ e. (line_in 0 3 4, (0, omega arith, refl), inl refl)),
-    ((λ e. (line_in 1 5 6, (1, omega arith, refl), inl refl)), tt))),
+    (
+      (λ e. absurd (not_both _ refl e)),
+      (
+        (λ e. (line_in 0 3 4, (0, omega arith, refl), inl refl)),
+        ((λ e. (line_in 1 5 6, (1, omega arith, refl), inl refl)), tt),
+      ),
+    ),
   );
   run_only = every (IsLineOf (traced_part prints_forever [] 2 spent)) spent.trace (
     inl (2, omega arith, refl),
-    (inl (3, omega arith, refl), (inr
-    (record { path = 0 ∷ 0 ∷ []; turn = 2 }, (2, omega arith, refl), refl, (1, omega arith, refl)), tt)),
+    (
+      inl (3, omega arith, refl),
+      (
+        inr
+            (record { path = 0 ∷ 0 ∷ []; turn = 2 }, (2, omega arith, refl), refl, (1, omega arith, refl)),
+        tt,
+      ),
+    ),
   );
   meant = every (λ (l : LineRun). IsAfterEnd l.path ⊎ IsLineOf (mean_of prints_forever [] 2 spent) l) spent.trace (
     inr (inl (2, omega arith, refl)),
-    (inr (inl (3, omega arith, refl)),
-    (inr (inr (record { path = 0 ∷ 0 ∷ []; turn = 2 }, (2, omega arith, refl), refl, (1, omega arith, refl))), tt)),
+    (
+      inr (inl (3, omega arith, refl)),
+      (inr (inr (record { path = 0 ∷ 0 ∷ []; turn = 2 }, (2, omega arith, refl), refl, (1, omega arith, refl))), tt),
+    ),
   );
   sorted = (
     of_two (λ (m : LineRun). comes_before (block_in 0) m.path ≡ true) (line_in 1 5 6) last_turn refl refl,

@@ -55,10 +55,17 @@ get_and_put-conflict = conflict lent_twice_then_changed (1 ∷ 0 ∷ []) (3 ∷ 
 get_and_put-ordered : Ordered lent_twice_then_changed (1 ∷ 0 ∷ []) (3 ∷ 0 ∷ [])
 get_and_put-ordered = ordered lent_twice_then_changed (1 ∷ 0 ∷ []) (3 ∷ 0 ∷ [])
     (parting lent_twice_then_changed (1 ∷ 0 ∷ []) (3 ∷ 0 ∷ [])) refl
-    (record { before = omega arith; on = resource.Local 9; conflict = refl;
-    clear = elim [ zero ↦ (λ l m. absurd (omega (arith, l)))
-    | suc zero ↦ (λ l m. absurd (omega (arith, l))) | suc (suc zero) ↦ (λ l m. refl)
-    | suc (suc (suc k)) ↦ (λ l m. absurd (omega (arith, m))) ] })
+    (record {
+      before = omega arith;
+      on = resource.Local 9;
+      conflict = refl;
+      clear = elim [
+        | zero ↦ (λ l m. absurd (omega (arith, l)))
+        | suc zero ↦ (λ l m. absurd (omega (arith, l)))
+        | suc (suc zero) ↦ (λ l m. refl)
+        | suc (suc (suc k)) ↦ (λ l m. absurd (omega (arith, m)))
+      ];
+    })
 
 -- a number that is given counts for nothing outside
 number_given : uses_from lent_twice_then_changed (first_point lent_twice_then_changed) (3 ∷ 0 ∷ [])

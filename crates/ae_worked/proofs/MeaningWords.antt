@@ -40,8 +40,12 @@ pieces_out pieces = record { locals = λ x. None; stores = λ g. None; pieces = 
 
 -- one number comes out of a block
 abbrev pub number_out : ℕ → ℤ → Carried
-number_out y n = record { locals = λ x. if nat_eq y x then Some
-    (record { form = f.Int; value = OfInt n }) else None; stores = λ g. None; pieces = None }
+number_out y n = record {
+  locals = λ x. if nat_eq y x then Some
+      (record { form = f.Int; value = OfInt n }) else None;
+  stores = λ g. None;
+  pieces = None;
+}
 
 -- the local that an answer carries
 abbrev pub gave_local : Option Answer → ℕ → Option Bound

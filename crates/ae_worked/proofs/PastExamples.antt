@@ -48,9 +48,11 @@ leads_trap pieces = record { image = refl; out = refl }
 
 leads_past : LeadsTo trap_before_a_print (event_at second_block 3 1) (OfLog []) (OfLog (piece_two ∷ []))
 unfolding mean one many below atom
-leads_past = record { image = refl;
-    out = nothing_given _ (λ x. by_test 2 x (λ e. rw e refl) (λ e. rw e refl))
-    (elim [ zero ↦ refl | suc g ↦ rw (eqb-zero-suc g) refl ]) refl }
+leads_past = record {
+  image = refl;
+  out = nothing_given _ (λ x. by_test 2 x (λ e. rw e refl) (λ e. rw e refl))
+      (elim [ zero ↦ refl | suc g ↦ rw (eqb-zero-suc g) refl ]) refl;
+}
 
 trap_no_clash : (r : Resource) → IsConflict (used_at trap_before_a_print (inside_split trap_before_a_print) 0 r)
     (used_at trap_before_a_print (inside_split trap_before_a_print) 1 r) → ⊥
@@ -74,10 +76,15 @@ is_trapped_block = of_two (λ (e : Event). IsBlock e.path) trap_event (event_at 
 trapped-legal : Legal trap_before_a_print trapped
 trapped-legal = record {
   differ = two_differ 2 1 (λ (e : 2 ≡ 1). omega (arith, e));
-  places = elim [ zero ↦ (λ l. (1, omega arith, refl), λ c. omega arith)
-      | suc zero ↦ (λ l. (0, omega arith, refl), λ c. omega arith)
-      | suc (suc i) ↦ (λ l. absurd (omega (arith, l)), λ c. of_two (λ z. z < 2) 1 0 (omega arith) (omega arith)
-      (suc (suc i)) c) ];
+  places = elim [
+    | zero ↦ (λ l. (1, omega arith, refl), λ c. omega arith)
+    | suc zero ↦ (λ l. (0, omega arith, refl), λ c. omega arith)
+    | suc (suc i) ↦ (
+      λ l. absurd (omega (arith, l)),
+      λ c. of_two (λ z. z < 2) 1 0 (omega arith) (omega arith)
+          (suc (suc i)) c,
+    )
+  ];
   once = two_differ 1 0 (λ (e : 1 ≡ 0). omega (arith, e));
   rises = rises_two trapped.events 1 0 (event_at second_block 3 1) trap_event refl refl (omega arith);
   leads = one_cell trap_before_a_print (event_at second_block 3 1 ∷ trap_event ∷ []) (log_cell (piece_two ∷ []))
@@ -119,14 +126,17 @@ trapped-explained = record {
   ending = refl;
   events = record {
     in_order = pair_of_two (λ (d e : Event). comes_before d.path e.path ≡ true) trap_event
-    (event_at second_block 3 1) refl;
+        (event_at second_block 3 1) refl;
     own_path = of_two (λ (e : Event). e.ask.path ≡ e.path) trap_event (event_at second_block 3 1) refl refl;
     of_a_cell = of_two (λ (e : Event). e.cell < 1) trap_event (event_at second_block 3 1) (omega arith) (omega arith);
   };
   used = record { from = refl; asks = ap (map Some) trapped-asks };
-  past = record { within = omega arith;
-      later = λ e c. subst (λ (d : Event). comes_before first_block d.path ≡ true)
-      (one_thing (event_at second_block 3 1) e c) refl; none = λ d. absurd (not_done 5 (at 3 22) d) };
+  past = record {
+    within = omega arith;
+    later = λ e c. subst (λ (d : Event). comes_before first_block d.path ≡ true)
+        (one_thing (event_at second_block 3 1) e c) refl;
+    none = λ d. absurd (not_done 5 (at 3 22) d);
+  };
   asked = λ e x c q. subst (λ (l : List Asking). Contains l x) (sym trapped-asks_past) (is_trapped_asked e x c q);
   cells = inl (inl (0, omega arith, refl), ([], refl, refl));
   legal = trapped-legal;

@@ -15,7 +15,8 @@ use Rattle.ae_semantics.specs.Observations.{Piece, Image, OfLog, Carried, Ask, A
 use Rattle.ae_semantics.specs.Meaning.{one, many, below}
 use Rattle.ae_semantics.specs.Means.{Asking, mean, pieces_bytes}
 use Rattle.ae_semantics.specs.Atom.{atom, part}
-use Rattle.ae_semantics.specs.Report.{Event, Cell, LineRun, Report, Leads, LeadsTo, Legal, Explained, mean_of, part_of_report}
+use Rattle.ae_semantics.specs.Report.{Event, Cell, LineRun, Report, Leads, LeadsTo, Legal, Explained, mean_of}
+use Rattle.ae_semantics.specs.Report.{part_of_report}
 use Rattle.ae_semantics.specs.Report.{asking_of}
 use Rattle.ae_worked.proofs.ReportWords.{of_two, pair_of_two, two_differ, carried_same}
 use Rattle.ae_worked.proofs.ReportWords.{asking_same, two_same, unparted, part_so, fork_of, used_at, backwards}
@@ -118,50 +119,68 @@ is_block s t = of_two (λ (e : Event). IsBlock e.path) _ _ (inl refl) (inr refl)
 leads_first : (stamp : ℕ) (pieces : List Piece)
     → LeadsTo two_prints (event_at first_block 2 stamp) (OfLog pieces) (OfLog (pieces ++ (piece_one ∷ [])))
 unfolding mean one many below atom
-leads_first stamp pieces = record { image = refl;
-    out = nothing_given _ (λ x. by_test 2 x (λ e. rw e refl) (λ e. rw e refl))
-    (elim [ zero ↦ refl | suc g ↦ rw (eqb-zero-suc g) refl ]) refl }
+leads_first stamp pieces = record {
+  image = refl;
+  out = nothing_given _ (λ x. by_test 2 x (λ e. rw e refl) (λ e. rw e refl))
+      (elim [ zero ↦ refl | suc g ↦ rw (eqb-zero-suc g) refl ]) refl;
+}
 
 leads_second : (stamp : ℕ) (pieces : List Piece)
     → LeadsTo two_prints (event_at second_block 3 stamp) (OfLog pieces) (OfLog (pieces ++ (piece_two ∷ [])))
 unfolding mean one many below atom
-leads_second stamp pieces = record { image = refl;
-    out = nothing_given _ (λ x. by_test 2 x (λ e. rw e refl) (λ e. rw e refl))
-    (elim [ zero ↦ refl | suc g ↦ rw (eqb-zero-suc g) refl ]) refl }
+leads_second stamp pieces = record {
+  image = refl;
+  out = nothing_given _ (λ x. by_test 2 x (λ e. rw e refl) (λ e. rw e refl))
+      (elim [ zero ↦ refl | suc g ↦ rw (eqb-zero-suc g) refl ]) refl;
+}
 
 -- ---- legal order
 
 in_order-legal : Legal two_prints in_order
 in_order-legal = record {
   differ = two_differ 2 5 (λ (e : 2 ≡ 5). omega (arith, e));
-  places = elim [ zero ↦ (λ l. (0, omega arith, refl), λ c. omega arith)
-      | suc zero ↦ (λ l. (1, omega arith, refl), λ c. omega arith)
-      | suc (suc i) ↦ (λ l. absurd (omega (arith, l)), λ c. of_two (λ z. z < 2) 0 1 (omega arith) (omega arith)
-      (suc (suc i)) c) ];
+  places = elim [
+    | zero ↦ (λ l. (0, omega arith, refl), λ c. omega arith)
+    | suc zero ↦ (λ l. (1, omega arith, refl), λ c. omega arith)
+    | suc (suc i) ↦ (
+      λ l. absurd (omega (arith, l)),
+      λ c. of_two (λ z. z < 2) 0 1 (omega arith) (omega arith)
+          (suc (suc i)) c,
+    )
+  ];
   once = two_differ 0 1 (λ (e : 0 ≡ 1). omega (arith, e));
   rises = rises_two in_order.events 0 1 (event_at first_block 2 2) (event_at second_block 3 5) refl refl
       (omega arith);
   leads = one_cell two_prints (event_at first_block 2 2 ∷ event_at second_block 3 5 ∷ [])
-      (log_cell (piece_one ∷ piece_two ∷ []))
-      (OfLog (piece_one ∷ []), leads_first 2 [],
-      (OfLog (piece_one ∷ piece_two ∷ []), leads_second 5 (piece_one ∷ []), refl));
+      (log_cell (piece_one ∷ piece_two ∷ [])) (
+        OfLog (piece_one ∷ []),
+        leads_first 2 [],
+        (OfLog (piece_one ∷ piece_two ∷ []), leads_second 5 (piece_one ∷ []), refl),
+      );
   ordered = λ d e a b o. absurd (free d.path e.path (is_block 2 5 d a) (is_block 2 5 e b) o);
 }
 
 other_order-legal : Legal two_prints other_order
 other_order-legal = record {
   differ = two_differ 5 3 (λ (e : 5 ≡ 3). omega (arith, e));
-  places = elim [ zero ↦ (λ l. (1, omega arith, refl), λ c. omega arith)
-      | suc zero ↦ (λ l. (0, omega arith, refl), λ c. omega arith)
-      | suc (suc i) ↦ (λ l. absurd (omega (arith, l)), λ c. of_two (λ z. z < 2) 1 0 (omega arith) (omega arith)
-      (suc (suc i)) c) ];
+  places = elim [
+    | zero ↦ (λ l. (1, omega arith, refl), λ c. omega arith)
+    | suc zero ↦ (λ l. (0, omega arith, refl), λ c. omega arith)
+    | suc (suc i) ↦ (
+      λ l. absurd (omega (arith, l)),
+      λ c. of_two (λ z. z < 2) 1 0 (omega arith) (omega arith)
+          (suc (suc i)) c,
+    )
+  ];
   once = two_differ 1 0 (λ (e : 1 ≡ 0). omega (arith, e));
   rises = rises_two other_order.events 1 0 (event_at second_block 3 3) (event_at first_block 2 5) refl refl
       (omega arith);
   leads = one_cell two_prints (event_at second_block 3 3 ∷ event_at first_block 2 5 ∷ [])
-      (log_cell (piece_two ∷ piece_one ∷ []))
-      (OfLog (piece_two ∷ []), leads_second 3 [],
-      (OfLog (piece_two ∷ piece_one ∷ []), leads_first 5 (piece_two ∷ []), refl));
+      (log_cell (piece_two ∷ piece_one ∷ [])) (
+        OfLog (piece_two ∷ []),
+        leads_second 3 [],
+        (OfLog (piece_two ∷ piece_one ∷ []), leads_first 5 (piece_two ∷ []), refl),
+      );
   ordered = λ d e a b o. absurd (free d.path e.path (is_block 5 3 d a) (is_block 5 3 e b) o);
 }
 
@@ -216,11 +235,11 @@ explained s t order pieces out trace same legal = record {
   ending = refl;
   events = record {
     in_order = pair_of_two (λ (d e : Event). comes_before d.path e.path ≡ true) (event_at first_block 2 s)
-    (event_at second_block 3 t) refl;
+        (event_at second_block 3 t) refl;
     own_path = of_two (λ (e : Event). e.ask.path ≡ e.path) (event_at first_block 2 s)
-    (event_at second_block 3 t) refl refl;
+        (event_at second_block 3 t) refl refl;
     of_a_cell = of_two (λ (e : Event). e.cell < 1) (event_at first_block 2 s) (event_at second_block 3 t)
-    (omega arith) (omega arith);
+        (omega arith) (omega arith);
   };
   used = record { from = refl; asks = ap (map Some) (asked_in s t order pieces out trace) };
   past = record { within = omega arith; later = λ e c. absurd (empty_has_nothing e c); none = λ d. refl };
@@ -274,8 +293,10 @@ log_of_the_other-refused r = other_paths
 
 -- the first block trapped, where its statements give an answer
 abbrev other_answer : Report
-other_answer = record in_order { events = record (event_at first_block 2 2) { out = Trapped 5 (at 3 13) }
-    ∷ event_at second_block 3 5 ∷ [] }
+other_answer = record in_order {
+  events = record (event_at first_block 2 2) { out = Trapped 5 (at 3 13) }
+      ∷ event_at second_block 3 5 ∷ [];
+}
 
 two_answers : (x : Option Answer) (c : Carried) (code : ℕ) (spot : Spot) → x ≡ Some (Gave c) → x
     ≡ Some (Trapped code spot) → ⊥

@@ -11,7 +11,8 @@ use Rattle.ae_semantics.specs.Observations.{Piece, OfLog, Carried, Gave, Done}
 use Rattle.ae_semantics.specs.Meaning.{one, many, below}
 use Rattle.ae_semantics.specs.Means.{Asking, mean}
 use Rattle.ae_semantics.specs.Atom.{atom, part}
-use Rattle.ae_semantics.specs.Report.{Event, Cell, Report, LeadsTo, Legal, Explained, mean_of, part_of_report, asking_of}
+use Rattle.ae_semantics.specs.Report.{Event, Cell, Report, LeadsTo, Legal, Explained, mean_of, part_of_report}
+use Rattle.ae_semantics.specs.Report.{asking_of}
 use Rattle.ae_worked.proofs.ReportWords.{of_two, pair_of_two, two_differ, carried_same}
 use Rattle.ae_worked.proofs.ReportWords.{asking_same, two_same, unparted, part_so, fork_of, backwards, rises_two}
 use Rattle.ae_worked.proofs.ReportWords.{one_cell, by_test, nothing_given, one_line}
@@ -26,8 +27,12 @@ pub written_first : Ordered written_then_printed (1 ∷ 0 ∷ []) (1 ∷ 1 ∷ [
 written_first = record {
   fork = fork_of written_then_printed (1 ∷ 0 ∷ []) (1 ∷ 1 ∷ []);
   parts = refl;
-  order = inr (Direct 0 1 (record { before = omega arith; on = Local 3; conflict = refl;
-      clear = λ k l m. absurd (omega (arith, l, m)) }));
+  order = inr (Direct 0 1 (record {
+    before = omega arith;
+    on = Local 3;
+    conflict = refl;
+    clear = λ k l m. absurd (omega (arith, l, m));
+  }));
 }
 
 -- in every legal report the block that writes has the lower stamp
@@ -40,20 +45,32 @@ written_first-legal r l d e a b p q = l.ordered d e a b
 
 -- the report with the blocks in that order, which is legal
 abbrev writing : Event
-writing = record { cell = 0; path = 1 ∷ 0 ∷ [];
-    ask = record (asked_at (1 ∷ 0 ∷ []) 2) { ins = number_out 3 (pos 0) }; out = Gave (number_out 3 (pos 1));
-    stamp = 1 }
+writing = record {
+  cell = 0;
+  path = 1 ∷ 0 ∷ [];
+  ask = record (asked_at (1 ∷ 0 ∷ []) 2) { ins = number_out 3 (pos 0) };
+  out = Gave (number_out 3 (pos 1));
+  stamp = 1;
+}
 
 abbrev printing : Event
-printing = record { cell = 0; path = 1 ∷ 1 ∷ [];
-    ask = record (asked_at (1 ∷ 1 ∷ []) 3) { ins = number_out 3 (pos 1) }; out = Gave nothing_out; stamp = 2 }
+printing = record {
+  cell = 0;
+  path = 1 ∷ 1 ∷ [];
+  ask = record (asked_at (1 ∷ 1 ∷ []) 3) { ins = number_out 3 (pos 1) };
+  out = Gave nothing_out;
+  stamp = 2;
+}
 
 abbrev printed_one : Piece
 printed_one = record { path = 1 ∷ 1 ∷ 0 ∷ []; bytes = line (pos 1) }
 
 abbrev written_cell : Cell
-written_cell = record { name = record { path = 1 ∷ []; group = 0 }; first = OfLog [];
-    last = OfLog (printed_one ∷ []) }
+written_cell = record {
+  name = record { path = 1 ∷ []; group = 0 };
+  first = OfLog [];
+  last = OfLog (printed_one ∷ []);
+}
 
 abbrev pub writing_first : Report
 writing_first = record {
@@ -68,28 +85,36 @@ writing_first = record {
 
 -- the same events the other way round
 abbrev printing_first : Report
-printing_first = record writing_first { events = record writing { stamp = 2 } ∷ record printing { stamp = 1 } ∷ [];
-    order = 1 ∷ 0 ∷ [] }
+printing_first = record writing_first {
+  events = record writing { stamp = 2 } ∷ record printing { stamp = 1 } ∷ [];
+  order = 1 ∷ 0 ∷ [];
+}
 
 printing_first-refused : Legal written_then_printed printing_first → ⊥
-printing_first-refused r = omega
-    (arith, r.ordered (record writing { stamp = 2 }) (record printing { stamp = 1 }) (0, omega arith, refl)
-    (1, omega arith, refl) written_first)
+printing_first-refused r = omega (
+  arith,
+  r.ordered (record writing { stamp = 2 }) (record printing { stamp = 1 }) (0, omega arith, refl)
+      (1, omega arith, refl) written_first,
+)
 
 leads_writing : LeadsTo written_then_printed writing (OfLog []) (OfLog [])
 unfolding mean one many below atom
-leads_writing = record { image = refl;
-    out = ap (λ (c : Carried). Some (Gave c))
-    (carried_same _ (number_out 3 (pos 1))
-    (λ x. by_test 3 x (λ e. rw e refl) (λ e. by_test 2 x (λ d. rw (e, d) refl) (λ d. rw (e, d) refl)))
-    (elim [ zero ↦ refl | suc g ↦ rw (eqb-zero-suc g) refl ]) refl) }
+leads_writing = record {
+  image = refl;
+  out = ap (λ (c : Carried). Some (Gave c))
+      (carried_same _ (number_out 3 (pos 1))
+      (λ x. by_test 3 x (λ e. rw e refl) (λ e. by_test 2 x (λ d. rw (e, d) refl) (λ d. rw (e, d) refl)))
+      (elim [ zero ↦ refl | suc g ↦ rw (eqb-zero-suc g) refl ]) refl);
+}
 
 leads_printing : LeadsTo written_then_printed printing (OfLog []) (OfLog (printed_one ∷ []))
 unfolding mean one many below atom
-leads_printing = record { image = refl;
-    out = nothing_given _ (λ x. by_test 3 x (λ e. rw e refl)
-    (λ e. by_test 2 x (λ d. rw (e, d) refl) (λ d. rw (e, d) refl)))
-    (elim [ zero ↦ refl | suc g ↦ rw (eqb-zero-suc g) refl ]) refl }
+leads_printing = record {
+  image = refl;
+  out = nothing_given _ (λ x. by_test 3 x (λ e. rw e refl)
+      (λ e. by_test 2 x (λ d. rw (e, d) refl) (λ d. rw (e, d) refl)))
+      (elim [ zero ↦ refl | suc g ↦ rw (eqb-zero-suc g) refl ]) refl;
+}
 
 not_written_last : Ordered written_then_printed (1 ∷ 1 ∷ []) (1 ∷ 0 ∷ []) → ⊥
 not_written_last = part_so written_then_printed (1 ∷ 1 ∷ []) (1 ∷ 0 ∷ [])
@@ -113,10 +138,15 @@ rises_from d e a b = of_two (λ (x : Event). (y : Event) → Contains writing_fi
 writing_first-legal : Legal written_then_printed writing_first
 writing_first-legal = record {
   differ = two_differ 1 2 (λ (e : 1 ≡ 2). omega (arith, e));
-  places = elim [ zero ↦ (λ l. (0, omega arith, refl), λ c. omega arith)
-      | suc zero ↦ (λ l. (1, omega arith, refl), λ c. omega arith)
-      | suc (suc i) ↦ (λ l. absurd (omega (arith, l)), λ c. of_two (λ z. z < 2) 0 1 (omega arith) (omega arith)
-      (suc (suc i)) c) ];
+  places = elim [
+    | zero ↦ (λ l. (0, omega arith, refl), λ c. omega arith)
+    | suc zero ↦ (λ l. (1, omega arith, refl), λ c. omega arith)
+    | suc (suc i) ↦ (
+      λ l. absurd (omega (arith, l)),
+      λ c. of_two (λ z. z < 2) 0 1 (omega arith) (omega arith)
+          (suc (suc i)) c,
+    )
+  ];
   once = two_differ 0 1 (λ (e : 0 ≡ 1). omega (arith, e));
   rises = rises_two writing_first.events 0 1 writing printing refl refl (omega arith);
   leads = one_cell written_then_printed writing_first.events written_cell

@@ -8,7 +8,8 @@ use Rattle.ae_semantics.specs.Observations.{Piece, Done}
 use Rattle.ae_semantics.specs.Meaning.{one, many, below}
 use Rattle.ae_semantics.specs.Means.{At, mean}
 use Rattle.ae_semantics.specs.Atom.{part}
-use Rattle.ae_semantics.specs.Report.{LineRun, Report, AllDiffer, mean_of, Covers, IsLineOf, IsLater, KeepInTime, traced_part}
+use Rattle.ae_semantics.specs.Report.{LineRun, Report, AllDiffer, mean_of, Covers, IsLineOf, IsLater, KeepInTime}
+use Rattle.ae_semantics.specs.Report.{traced_part}
 use Rattle.ae_semantics.specs.Report.{Traced}
 use Rattle.ae_worked.proofs.ReportWords.{of_two, of_three, pair_of_two, and_false, not_both, fork_of}
 use Rattle.ae_worked.proofs.ReportWords.{conflict_so, all_differ-so, no_line}
@@ -81,13 +82,15 @@ traced s t order pieces out a b c d differ first second =
       spans = of_two (λ (k : LineRun). k.began < k.ended) l m first second;
       once = pair_of_two (AreApart r) l m (lines_apart s t order pieces out (both_lines a b c d) l m refl refl);
       keeps = pair_of_two (KeepInTime two_prints) l m
-      (elim [ inl x ↦ absurd (free first_block second_block (inl refl) (inr refl) x)
-      | inr x ↦ absurd (no_conflict x) ]);
+          (elim [
+            | inl x ↦ absurd (free first_block second_block (inl refl) (inr refl) x)
+            | inr x ↦ absurd (no_conflict x)
+          ]);
       all_run = all_covered r a b c d refl;
       run_only = of_two (IsLineOf (traced_part two_prints [] 10 r)) l m (inl (1, omega arith, refl))
-      (inl (2, omega arith, refl));
+          (inl (2, omega arith, refl));
       meant = of_two (λ (k : LineRun). IsLater (mean_of two_prints [] 10 r) Done k.path ⊎ IsLineOf
-      (mean_of two_prints [] 10 r) k) l m
+          (mean_of two_prints [] 10 r) k) l m
           (inr (inl (1, omega arith, refl))) (inr (inl (2, omega arith, refl)));
       sorted = pair_of_two (λ (j k : LineRun). comes_before j.path k.path ≡ true) l m refl;
     }
@@ -105,8 +108,11 @@ abbrev early_print : Report
 early_print = record writing_first { trace = block_line (1 ∷ 0 ∷ []) 4 5 6 ∷ block_line (1 ∷ 1 ∷ []) 5 3 4 ∷ [] }
 
 early_print-refused : Traced written_then_printed [] 10 early_print → ⊥
-early_print-refused r = omega (arith, r.keeps.0 (block_line (1 ∷ 1 ∷ []) 5 3 4) (0, omega arith, refl)
-    (inl written_first))
+early_print-refused r = omega (
+  arith,
+  r.keeps.0 (block_line (1 ∷ 1 ∷ []) 5 3 4) (0, omega arith, refl)
+      (inl written_first),
+)
 
 -- without a line no statement is covered
 empty_trace-refused : Traced written_then_printed [] 10 writing_first → ⊥

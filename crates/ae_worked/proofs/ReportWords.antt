@@ -58,8 +58,10 @@ nothing_given c p q r = ap (λ (d : Carried). Some (Gave d)) (carried_same c not
 
 pub asking_same : (x y : Asking) → x.cell ≡ y.cell → x.ask.path ≡ y.ask.path → x.ask.method ≡ y.ask.method
     → x.ask.block ≡ y.ask.block → x.ask.fuel ≡ y.ask.fuel → x.ask.depth ≡ y.ask.depth → x.ask.ins ≡ y.ask.ins → x ≡ y
-asking_same x y a b c d e f g = λ i. record { cell = a i;
-    ask = record { path = b i; method = c i; block = d i; fuel = e i; depth = f i; ins = g i } }
+asking_same x y a b c d e f g = λ i. record {
+  cell = a i;
+  ask = record { path = b i; method = c i; block = d i; fuel = e i; depth = f i; ins = g i };
+}
 
 pub one_same : {A : Type 0} (v x : A) → v ≡ x → v ∷ [] ≡ x ∷ []
 one_same v x e = ap (λ z. z ∷ []) e

@@ -16,8 +16,10 @@ use Rattle.ae_rules.specs.Verdict.{given}
 use Rattle.ae_semantics.specs.Meaning.{one, many, below}
 use Rattle.ae_semantics.specs.Atom.{part}
 use Rattle.ae_semantics.specs.Unfolding.{Passage, AgreesOnChanged, uses_of, BlockFrame, Begun, NoMore, Moment, Within}
-use Rattle.ae_semantics.specs.Unfolding.{IsAfter, trail, fresh, StandsFor, part_of_frame, trail_of, results, frames, halted}
-use Rattle.ae_semantics.specs.Unfolding.{left_out, Then, Halted, Finished, LeftOut, Waiting, Gained, IsFrameEntered, IsLeft}
+use Rattle.ae_semantics.specs.Unfolding.{IsAfter, trail, fresh, StandsFor, part_of_frame, trail_of, results, frames}
+use Rattle.ae_semantics.specs.Unfolding.{halted}
+use Rattle.ae_semantics.specs.Unfolding.{left_out, Then, Halted, Finished, LeftOut, Waiting, Gained, IsFrameEntered}
+use Rattle.ae_semantics.specs.Unfolding.{IsLeft}
 use Rattle.ae_semantics.specs.Unfolding.{halt_place}
 use Rattle.ae_worked.proofs.ReportWords.{fork_of}
 use Rattle.ae_worked.proofs.RunExamples.{trap_beside_a_print}
@@ -41,8 +43,18 @@ begun = given (fresh trap_beside_a_print []) (Begun no_values NoMore) (λ tree. 
 
 begun-entered : IsFrameEntered trap_beside_a_print (trail_of trap_beside_a_print [] 100 begun) [] begun
 unfolding part trail one many below
-begun-entered = (_, (0, omega arith, refl), refl, refl, record { locals = λ x h. refl; groups = λ g h. refl;
-    result = refl; log = λ h. refl })
+begun-entered = (
+  _,
+  (0, omega arith, refl),
+  refl,
+  refl,
+  record {
+    locals = λ x h. refl;
+    groups = λ g h. refl;
+    result = refl;
+    log = λ h. refl;
+  },
+)
 
 fresh-stands : StandsFor trap_beside_a_print [] 100 begun
 unfolding part trail one many below
@@ -98,13 +110,33 @@ not_there a false v = refl
 second-left : IsLeft trap_beside_a_print (trail_of trap_beside_a_print [] 100 halfway)
     (record { path = 1 ∷ []; left = two_in_b })
 unfolding part trail one many below
-second-left = (_, (0, omega arith, refl), refl, record { locals = λ x h. not_there (nat_eq 4 x) (changes_a x)
-    (Some two); groups = λ g h. refl; result = refl; log = λ h. refl })
+second-left = (
+  _,
+  (0, omega arith, refl),
+  refl,
+  record {
+    locals = λ x h. not_there (nat_eq 4 x) (changes_a x)
+        (Some two);
+    groups = λ g h. refl;
+    result = refl;
+    log = λ h. refl;
+  },
+)
 
 halfway-entered : IsFrameEntered trap_beside_a_print (trail_of trap_beside_a_print [] 100 halfway) [] halfway
 unfolding part trail one many below
-halfway-entered = (_, (0, omega arith, refl), refl, refl, record { locals = λ x h. refl; groups = λ g h. refl;
-    result = refl; log = λ h. refl })
+halfway-entered = (
+  _,
+  (0, omega arith, refl),
+  refl,
+  refl,
+  record {
+    locals = λ x h. refl;
+    groups = λ g h. refl;
+    result = refl;
+    log = λ h. refl;
+  },
+)
 
 first-before-third : IsAfter trap_beside_a_print (map halt_place (halted halfway)) (2 ∷ [])
 first-before-third = (
@@ -113,9 +145,16 @@ first-before-third = (
   record {
     fork = fork_of trap_beside_a_print (0 ∷ []) (2 ∷ []);
     parts = refl;
-    order = inr (Direct 0 2 (record { before = omega arith; on = Local 3; conflict = refl;
-    clear = elim [ zero ↦ (λ l m. absurd (omega (arith, l))) | suc zero ↦ (λ l m. tt)
-    | suc (suc k) ↦ (λ l m. absurd (omega (arith, m))) ] }));
+    order = inr (Direct 0 2 (record {
+      before = omega arith;
+      on = Local 3;
+      conflict = refl;
+      clear = elim [
+        | zero ↦ (λ l m. absurd (omega (arith, l)))
+        | suc zero ↦ (λ l m. tt)
+        | suc (suc k) ↦ (λ l m. absurd (omega (arith, m)))
+      ];
+    }));
   },
 )
 
@@ -145,8 +184,14 @@ halfway-stands = record {
 
 -- A tree with another value in that local does not stand for it.
 abbrev three_in_b : Moment
-three_in_b = record { state = record { locals = λ x. Some (record { form = f.Int; value = OfInt (pos 3) });
-    groups = λ g. None; result = None }; log = [] }
+three_in_b = record {
+  state = record {
+    locals = λ x. Some (record { form = f.Int; value = OfInt (pos 3) });
+    groups = λ g. None;
+    result = None;
+  };
+  log = [];
+}
 
 abbrev int_in : Val → ℕ
 int_in (OfInt (pos n)) = n

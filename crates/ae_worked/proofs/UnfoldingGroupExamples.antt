@@ -8,7 +8,8 @@ use Rattle.ae_semantics.specs.Meaning.{one, many, below}
 use Rattle.ae_semantics.specs.Means.{Asking}
 use Rattle.ae_semantics.specs.Atom.{part}
 use Rattle.ae_semantics.specs.Report.{Cell, same_instance}
-use Rattle.ae_semantics.specs.Unfolding.{BlockFrame, IsLeft, IsFrameEntered, Begun, NoMore, Then, Waiting, Task, Finished, InCall}
+use Rattle.ae_semantics.specs.Unfolding.{BlockFrame, IsLeft, IsFrameEntered, Begun, NoMore, Then, Waiting, Task}
+use Rattle.ae_semantics.specs.Unfolding.{Finished, InCall}
 use Rattle.ae_semantics.specs.Unfolding.{InSplit, Moment, Passage, Happened, Gained, Within, Only, trail, StandsFor}
 use Rattle.ae_semantics.specs.Unfolding.{part_of_frame, trail_of, results, unfolded, frames, events, cells}
 use Rattle.ae_worked.proofs.ProgramWords.{at}
@@ -39,8 +40,14 @@ found_at k = moment_at (trail four_in_a_group [] 100 known_so_far).found k
 abbrev no_asking : Asking
 no_asking = record {
   cell = record { path = []; group = 0 };
-  ask = record { path = []; method = 0; block = 0; fuel = 0; depth = 0;
-      ins = record { locals = λ x. None; stores = λ g. None; pieces = None } };
+  ask = record {
+    path = [];
+    method = 0;
+    block = 0;
+    fuel = 0;
+    depth = 0;
+    ins = record { locals = λ x. None; stores = λ g. None; pieces = None };
+  };
 }
 
 abbrev asked_first : Asking
@@ -76,24 +83,63 @@ tree = Begun (found_at 0)
 call_left : IsLeft four_in_a_group (trail_of four_in_a_group [] 100 tree)
     (record { path = 3 ∷ 0 ∷ []; left = left_at 4 })
 unfolding part trail one many below
-call_left = (_, (4, omega arith, refl), refl, record { locals = λ x h. refl; groups = λ g h. refl; result = refl;
-    log = λ h. refl })
+call_left = (
+  _,
+  (4, omega arith, refl),
+  refl,
+  record {
+    locals = λ x h. refl;
+    groups = λ g h. refl;
+    result = refl;
+    log = λ h. refl;
+  },
+)
 
 main_entered : IsFrameEntered four_in_a_group (trail_of four_in_a_group [] 100 tree) [] tree
 unfolding part trail one many below
-main_entered = (_, (0, omega arith, refl), refl, refl, record { locals = λ x h. refl; groups = λ g h. refl;
-    result = refl; log = λ h. refl })
+main_entered = (
+  _,
+  (0, omega arith, refl),
+  refl,
+  refl,
+  record {
+    locals = λ x h. refl;
+    groups = λ g h. refl;
+    result = refl;
+    log = λ h. refl;
+  },
+)
 
 split_entered : IsFrameEntered four_in_a_group (trail_of four_in_a_group [] 100 tree) (3 ∷ []) split_frame
 unfolding part trail one many below
-split_entered = (_, (4, omega arith, refl), refl, refl, record { locals = λ x h. refl; groups = λ g h. refl;
-    result = refl; log = λ h. refl })
+split_entered = (
+  _,
+  (4, omega arith, refl),
+  refl,
+  refl,
+  record {
+    locals = λ x h. refl;
+    groups = λ g h. refl;
+    result = refl;
+    log = λ h. refl;
+  },
+)
 
 body_entered : IsFrameEntered four_in_a_group (trail_of four_in_a_group [] 100 tree) (3 ∷ 1 ∷ [])
     (Begun (found_at 7) (Then Waiting NoMore))
 unfolding part trail one many below
-body_entered = (_, (7, omega arith, refl), refl, refl, record { locals = λ x h. refl; groups = λ g h. refl;
-    result = refl; log = λ h. refl })
+body_entered = (
+  _,
+  (7, omega arith, refl),
+  refl,
+  refl,
+  record {
+    locals = λ x h. refl;
+    groups = λ g h. refl;
+    result = refl;
+    log = λ h. refl;
+  },
+)
 
 first_thing : {A : Type 0} (xs : List A) (x : A) → slice_get xs 0 ≡ Some x → Contains xs x
 first_thing [] x e = absurd (cc e)
@@ -108,17 +154,50 @@ tree-stands : StandsFor four_in_a_group [] 100 tree
 unfolding part trail one many below
 tree-stands = record {
   each_left = every _ (results tree) (
-    ((at 6 1, (0, omega arith, refl)),
-    (_, (0, omega arith, refl), refl, record { locals = λ x h. refl; groups = λ g h. refl; result = refl;
-    log = λ h. refl })),
     (
-      ((at 7 1, (1, omega arith, refl)),
-      (_, (1, omega arith, refl), refl, record { locals = λ x h. refl; groups = λ g h. refl; result = refl;
-      log = λ h. refl })),
+      (at 6 1, (0, omega arith, refl)),
       (
-        ((at 8 1, (2, omega arith, refl)),
-        (_, (2, omega arith, refl), refl, record { locals = λ x h. refl; groups = λ g h. refl; result = refl;
-        log = λ h. refl })),
+        _,
+        (0, omega arith, refl),
+        refl,
+        record {
+          locals = λ x h. refl;
+          groups = λ g h. refl;
+          result = refl;
+          log = λ h. refl;
+        },
+      ),
+    ),
+    (
+      (
+        (at 7 1, (1, omega arith, refl)),
+        (
+          _,
+          (1, omega arith, refl),
+          refl,
+          record {
+            locals = λ x h. refl;
+            groups = λ g h. refl;
+            result = refl;
+            log = λ h. refl;
+          },
+        ),
+      ),
+      (
+        (
+          (at 8 1, (2, omega arith, refl)),
+          (
+            _,
+            (2, omega arith, refl),
+            refl,
+            record {
+              locals = λ x h. refl;
+              groups = λ g h. refl;
+              result = refl;
+              log = λ h. refl;
+            },
+          ),
+        ),
         (
           ((at 10 1, (4, omega arith, refl)), call_left),
           tt,
@@ -132,9 +211,14 @@ tree-stands = record {
   each_entered = every _ (frames tree) (main_entered, (split_entered, (body_entered, tt)));
   each_halt = every _ [] tt;
   each_left_out = every _ [] tt;
-  each_event = every _ (events tree)
-      (record { answer = refl; asked = first_thing
-      (part_of_frame four_in_a_group [] 100 tree).asked asked_first asked-same }, tt);
+  each_event = every _ (events tree) (
+    record {
+      answer = refl;
+      asked = first_thing
+          (part_of_frame four_in_a_group [] 100 tree).asked asked_first asked-same;
+    },
+    tt,
+  );
   each_cell = every _ (cells tree) (record { last = refl; entered = (0, omega arith, refl) }, tt);
   all_others = every _ (part_of_frame four_in_a_group [] 100 tree).ran (
     inl (Within (0 ∷ []), (0, omega arith, refl), refl),

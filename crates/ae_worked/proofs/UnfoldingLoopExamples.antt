@@ -5,8 +5,10 @@ use Rattle.ae_semantics.specs.Values.{OfInt}
 use Rattle.ae_semantics.specs.Places.{Bound}
 use Rattle.ae_semantics.specs.Meaning.{one, many, below}
 use Rattle.ae_semantics.specs.Atom.{part}
-use Rattle.ae_semantics.specs.Unfolding.{BlockFrame, Begun, NoMore, Then, Waiting, Loop, Finished, Moment, Trail, Within}
-use Rattle.ae_semantics.specs.Unfolding.{FromTurn, Only, before_turn, trail, StandsFor, IsFrameEntered, part_of_frame, trail_of}
+use Rattle.ae_semantics.specs.Unfolding.{BlockFrame, Begun, NoMore, Then, Waiting, Loop, Finished, Moment, Trail}
+use Rattle.ae_semantics.specs.Unfolding.{Within}
+use Rattle.ae_semantics.specs.Unfolding.{FromTurn, Only, before_turn, trail, StandsFor, IsFrameEntered}
+use Rattle.ae_semantics.specs.Unfolding.{part_of_frame, trail_of}
 use Rattle.ae_semantics.specs.Unfolding.{results, turns, betweens, unfolded, frames}
 use Rattle.ae_worked.proofs.ProgramWords.{at}
 use Rattle.ae_worked.proofs.UnfoldingExamples.{every, nothing_gained}
@@ -32,20 +34,54 @@ between_turns = Begun (moment_at noted.found 0)
 
 loop_entered : IsFrameEntered loop_of_three_turns (trail_of loop_of_three_turns [] 3 between_turns) [] between_turns
 unfolding part trail one many below
-loop_entered = (_, (0, omega arith, refl), refl, refl, record { locals = λ x h. refl; groups = λ g h. refl;
-    result = refl; log = λ h. refl })
+loop_entered = (
+  _,
+  (0, omega arith, refl),
+  refl,
+  refl,
+  record {
+    locals = λ x h. refl;
+    groups = λ g h. refl;
+    result = refl;
+    log = λ h. refl;
+  },
+)
 
 between_turns-stands : StandsFor loop_of_three_turns [] 3 between_turns
 unfolding part trail one many below
 between_turns-stands = record {
-  each_left = every _ (results between_turns)
-      (((at 2 1, (0, omega arith, refl)),
-      (_, (0, omega arith, refl), refl, record { locals = λ x h. refl; groups = λ g h. refl; result = refl;
-      log = λ h. refl })), tt);
+  each_left = every _ (results between_turns) (
+    (
+      (at 2 1, (0, omega arith, refl)),
+      (
+        _,
+        (0, omega arith, refl),
+        refl,
+        record {
+          locals = λ x h. refl;
+          groups = λ g h. refl;
+          result = refl;
+          log = λ h. refl;
+        },
+      ),
+    ),
+    tt,
+  );
   each_turn = every _ (turns between_turns) ((1, omega arith, refl), tt);
-  each_between = every _ (betweens between_turns)
-      ((_, (1, omega arith, refl), refl, record { locals = λ x h. refl; groups = λ g h. refl; result = refl;
-      log = λ h. refl }), tt);
+  each_between = every _ (betweens between_turns) (
+    (
+      _,
+      (1, omega arith, refl),
+      refl,
+      record {
+        locals = λ x h. refl;
+        groups = λ g h. refl;
+        result = refl;
+        log = λ h. refl;
+      },
+    ),
+    tt,
+  );
   each_unfolded = every _ (unfolded between_turns) ((at 3 1, (1, omega arith, refl)), tt);
   each_entered = every _ (frames between_turns) (loop_entered, tt);
   each_halt = every _ [] tt;

@@ -1,5 +1,6 @@
 -- An accepted program that is asked for is answered.
-use Rattle.std.proofs.Common.{◌≡◌, ◌⊎◌, inl, inr, ℕ, ◌+◌, ◌≤◌, List, [], ◌∷◌, ◌++◌, Option, None, Some, Result, Ok, refl, sym, ap, ◌∙◌, subst, arith, length, length-append, append-nil}
+use Rattle.std.proofs.Common.{◌≡◌, ◌⊎◌, inl, inr, ℕ, ◌+◌, ◌≤◌, List, [], ◌∷◌, ◌++◌, Option, None, Some, Result, Ok}
+use Rattle.std.proofs.Common.{refl, sym, ap, ◌∙◌, subst, arith, length, length-append, append-nil}
 use Rattle.std.specs.Io.KnownBytes.{Consumes, IsAtEnd}
 use Rattle.ae_text.specs.declared.refusal.Spot.{Spot}
 use Rattle.ae_text.specs.declared.refusal.Rule.{Rule}
@@ -13,39 +14,47 @@ use Rattle.aem.specs.declared.answer.Command.{Command}
 use Rattle.aem.specs.declared.answer.UsageKind.{UsageKind}
 use Rattle.aem.specs.Words.{command_of}
 use Rattle.ae_graph.specs.Graphs.{graph_text}
-use Rattle.aem.specs.Top.{IsWholeText, IsFirstBroken, IsMeant, IsDoneFor, IsDone, ByCommand, Caused, Answers, IsAsked, IsAnswered}
+use Rattle.aem.specs.Top.{IsWholeText, IsFirstBroken, IsMeant, IsDoneFor, IsDone, ByCommand, Caused, Answers}
+use Rattle.aem.specs.Top.{IsAsked, IsAnswered}
 use Rattle.aem.proofs.OneAnswer.{Laws, IsAccepted, one_source, refused_alone}
 
 -- where nothing of known bytes is left, all were taken
-all_were_taken : (text taken : List ℕ) (left : Option (List ℕ)) → Consumes (Some text) left taken → IsAtEnd left → text ≡ taken
+all_were_taken : (text taken : List ℕ) (left : Option (List ℕ)) → Consumes (Some text) left taken → IsAtEnd left
+    → text ≡ taken
 all_were_taken text taken None c e = absurd c
 all_were_taken text taken (Some ys) c e = c ∙ ap (λ l. taken ++ l) e ∙ append-nil taken
 
 -- no more than the known bytes were taken
-no_more_taken : (text taken : List ℕ) (left : Option (List ℕ)) → Consumes (Some text) left taken → length taken ≤ length text
+no_more_taken : (text taken : List ℕ) (left : Option (List ℕ)) → Consumes (Some text) left taken
+    → length taken ≤ length text
 no_more_taken text taken None c = absurd c
 no_more_taken text taken (Some ys) c = omega (arith, ap length c ∙ length-append taken ys)
 
 -- a rule that is broken first: the text was read to its end, or is too long
-whole_or_long : (rule : Rule) (at : Spot) (taken : List ℕ) (left : Option (List ℕ)) → IsFirstBroken rule at taken left → IsWholeText taken left ⊎ (length taken ≡ most + 1)
+whole_or_long : (rule : Rule) (at : Spot) (taken : List ℕ) (left : Option (List ℕ)) → IsFirstBroken rule at taken left
+    → IsWholeText taken left ⊎ (length taken ≡ most + 1)
 whole_or_long TooLong at taken left b = inr b.1
 whole_or_long rule at taken left b = inl b.0
 
 -- the text of an accepted program is not refused
-never_refused : Laws → (text taken : List ℕ) (left : Option (List ℕ)) (r : Refusal) (p : Code) → Consumes (Some text) left taken → length text ≤ most → IsAccepted text p →
+never_refused : Laws → (text taken : List ℕ) (left : Option (List ℕ)) (r : Refusal) (p : Code)
+    → Consumes (Some text) left taken → length text ≤ most → IsAccepted text p →
     IsFirstBroken r.rule r.at taken left → ⊥
 never_refused laws text taken left r p c short a b =
     elim (whole_or_long r.rule r.at taken left b) as (λ _. ⊥) [
-      | inl whole ↦ refused_alone laws taken left r p b whole (subst (λ (l : List ℕ). IsAccepted l p) (all_were_taken text taken left c whole.1) a)
+      | inl whole ↦ refused_alone laws taken left r p b whole
+          (subst (λ (l : List ℕ). IsAccepted l p) (all_were_taken text taken left c whole.1) a)
       | inr long ↦ omega (arith, long, short, no_more_taken text taken left c)
     ]
 
 -- what is done for a text is done for its program
-done_for_program : Laws → (command : Command) (text taken : List ℕ) (left : Option (List ℕ)) (p : Code) (what : What) → Consumes (Some text) left taken → length text ≤ most →
+done_for_program : Laws → (command : Command) (text taken : List ℕ) (left : Option (List ℕ)) (p : Code) (what : What)
+    → Consumes (Some text) left taken → length text ≤ most →
     IsAccepted text p → (what ≡ w.ReadFault → ⊥) → IsDone command taken left what → IsDoneFor command p what
 done_for_program laws command text taken left p (w.Usage kind) c short a n d = absurd d
 done_for_program laws command text taken left p w.ReadFault c short a n d = absurd (n refl)
-done_for_program laws command text taken left p (w.Refused r) c short a n d = absurd (never_refused laws text taken left r p c short a d)
+done_for_program laws command text taken left p (w.Refused r) c short a n d =
+    absurd (never_refused laws text taken left r p c short a d)
 done_for_program laws command text taken left p (w.Graph graph) c short a n (t, (is, (q, s, _, _, e))) =
     let b : IsAccepted taken p = subst (λ (l : List ℕ). IsAccepted l p) (all_were_taken text taken left c t.1) a in
     (is, e ∙ ap graph_text (one_source laws taken p q b.0 s))
@@ -55,17 +64,25 @@ done_for_program laws command text taken left p (w.Ran report) c short a n (t, (
 done_for_program laws command text taken left p w.Memory c short a n d = tt
 
 -- an answer with a cause is done for the command that the words ask for
-done_as_asked : (words : List (List ℕ)) (command : Command) (taken : List ℕ) (left : Option (List ℕ)) (what : What) → command_of words ≡ Ok command → Caused words taken left what →
+done_as_asked : (words : List (List ℕ)) (command : Command) (taken : List ℕ) (left : Option (List ℕ)) (what : What)
+    → command_of words ≡ Ok command → Caused words taken left what →
     IsDone command taken left what
 done_as_asked words command taken left w.Memory e c = tt
-done_as_asked words command taken left (w.Usage kind) e c = let P : Result Command UsageKind → Type 0 = λ r. ByCommand r taken left (w.Usage kind) in subst P e c
-done_as_asked words command taken left w.ReadFault e c = let P : Result Command UsageKind → Type 0 = λ r. ByCommand r taken left w.ReadFault in subst P e c
-done_as_asked words command taken left (w.Refused x) e c = let P : Result Command UsageKind → Type 0 = λ r. ByCommand r taken left (w.Refused x) in subst P e c
-done_as_asked words command taken left (w.Graph x) e c = let P : Result Command UsageKind → Type 0 = λ r. ByCommand r taken left (w.Graph x) in subst P e c
-done_as_asked words command taken left (w.Ran x) e c = let P : Result Command UsageKind → Type 0 = λ r. ByCommand r taken left (w.Ran x) in subst P e c
+done_as_asked words command taken left (w.Usage kind) e c = let P : Result Command UsageKind → Type 0 =
+    λ r. ByCommand r taken left (w.Usage kind) in subst P e c
+done_as_asked words command taken left w.ReadFault e c = let P : Result Command UsageKind → Type 0 =
+    λ r. ByCommand r taken left w.ReadFault in subst P e c
+done_as_asked words command taken left (w.Refused x) e c = let P : Result Command UsageKind → Type 0 =
+    λ r. ByCommand r taken left (w.Refused x) in subst P e c
+done_as_asked words command taken left (w.Graph x) e c = let P : Result Command UsageKind → Type 0 =
+    λ r. ByCommand r taken left (w.Graph x) in subst P e c
+done_as_asked words command taken left (w.Ran x) e c = let P : Result Command UsageKind → Type 0 =
+    λ r. ByCommand r taken left (w.Ran x) in subst P e c
 
 -- by the laws, an accepted program that is asked for is answered
 pub accepted_is_answered : Laws → IsAnswered
-accepted_is_answered laws words before after what command program asked (taken, consumed, caused) not_fault =
-    done_for_program laws command asked.text taken after program what (subst (λ (o : Option (List ℕ)). Consumes o after taken) asked.has consumed) asked.short
-    (asked.source, asked.built, asked.accepted) not_fault (done_as_asked words command taken after what asked.asked caused)
+accepted_is_answered laws words before after what command program asked (taken, consumed, caused) not_fault
+    = done_for_program laws command asked.text taken after program what
+    (subst (λ (o : Option (List ℕ)). Consumes o after taken) asked.has consumed) asked.short
+    (asked.source, asked.built, asked.accepted) not_fault
+    (done_as_asked words command taken after what asked.asked caused)

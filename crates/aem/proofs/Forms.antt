@@ -17,14 +17,20 @@ no_out b = ap (λ (c : Block). (braced c).no) (sym (roll-out-Block b)) ∙ no-ro
 abbrev need_of : Need → ℕ → Spot → GroupNeed
 need_of need name at = record { need = need; group = record { name = name; at = at } }
 
-pub exclusive_io : (n : GroupNeed) → n.need ≡ Exclusive → MatchBool (nat_eq n.group.name 0) (IsExclusiveIo n) (IsExclusiveIo n → ⊥)
+pub exclusive_io : (n : GroupNeed) → n.need ≡ Exclusive → MatchBool (nat_eq n.group.name 0) (IsExclusiveIo n)
+    (IsExclusiveIo n → ⊥)
 exclusive_io n h = by (nat_eq n.group.name 0) refl
   where
     by : (b : Bool) → nat_eq n.group.name 0 ≡ b → MatchBool b (IsExclusiveIo n) (IsExclusiveIo n → ⊥)
-    by true e = (n.group.at, ap (λ w. need_of w n.group.name n.group.at) h ∙ ap (λ x. need_of Exclusive x n.group.at) (eqb-true n.group.name 0 e))
+    by true e = (
+      n.group.at,
+      ap (λ w. need_of w n.group.name n.group.at) h ∙ ap (λ x. need_of Exclusive x n.group.at)
+          (eqb-true n.group.name 0 e),
+    )
     by false e = λ p. let t : nat_eq n.group.name 0 ≡ true = ap (λ (x : GroupNeed). nat_eq x.group.name 0) p.1 in cc
 
 -- a method `main` is built exactly where its statements are
-pub method_of : (m : Definition) → IsMain m → (l : Lines) → m.body ≡ l → (b : Bool) → MatchBool b (AreBuilt l) (AreBuilt l → ⊥) → MatchBool b (IsBuiltMethod m) (IsBuiltMethod m → ⊥)
+pub method_of : (m : Definition) → IsMain m → (l : Lines) → m.body ≡ l → (b : Bool)
+    → MatchBool b (AreBuilt l) (AreBuilt l → ⊥) → MatchBool b (IsBuiltMethod m) (IsBuiltMethod m → ⊥)
 method_of m h l e true n = (h, subst AreBuilt (sym e) n)
 method_of m h l e false n = λ p. n (subst AreBuilt e p.1)

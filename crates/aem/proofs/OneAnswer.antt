@@ -1,10 +1,13 @@
 -- Two causes of answers in one text agree.
-use Rattle.std.proofs.Common.{◌≡◌, ◌⊎◌, inl, inr, ℕ, ◌+◌, ◌≤◌, List, [], Option, None, Some, IsSome, Result, Ok, Err, refl, sym, ap, ◌∙◌, subst, arith, length}
+use Rattle.std.proofs.Common.{◌≡◌, ◌⊎◌, inl, inr, ℕ, ◌+◌, ◌≤◌, List, [], Option, None, Some, IsSome, Result, Ok, Err}
+use Rattle.std.proofs.Common.{refl, sym, ap, ◌∙◌, subst, arith, length}
 use Rattle.std.proofs.lemmas.List.{append_cancel_right}
 use Rattle.std.specs.Io.KnownBytes.{Consumes}
 use Rattle.ae_text.specs.declared.refusal.Spot.{Spot}
 use Rattle.ae_text.specs.declared.refusal.Rule.{Rule}
-use Rattle.ae_text.specs.declared.refusal.Rule.TheVariants.{NotText, BadChar, IntTooLarge, OpenText, TooLong, Unexpected, BlockTooLong, TooDeep, TooManyParams, NotBuilt, UnknownName, DuplicateLocal}
+use Rattle.ae_text.specs.declared.refusal.Rule.TheVariants.{NotText, BadChar, IntTooLarge, OpenText, TooLong}
+use Rattle.ae_text.specs.declared.refusal.Rule.TheVariants.{Unexpected, BlockTooLong, TooDeep, TooManyParams}
+use Rattle.ae_text.specs.declared.refusal.Rule.TheVariants.{NotBuilt, UnknownName, DuplicateLocal}
 use Rattle.ae_text.specs.declared.refusal.Refusal.{Refusal}
 use Rattle.ae_text.specs.declared.token.Token.{Token}
 use Rattle.ae_text.specs.Tokens.{Lexes, LexFault, place, first_spot}
@@ -31,7 +34,8 @@ use Rattle.aem.specs.declared.answer.UsageKind.{UsageKind}
 use Rattle.aem.specs.Words.{command_of}
 use Rattle.aem.specs.Small.{IsSource}
 use Rattle.ae_graph.specs.Graphs.{graph_text}
-use Rattle.aem.specs.Top.{IsWholeText, IsFaultAt, IsTokenAt, IsBroken, IsFirstBroken, IsMeant, IsAnswer, IsDone, ByCommand, Caused, Answers, IsTold, IsOneAnswer, IsOnlyAnswer}
+use Rattle.aem.specs.Top.{IsWholeText, IsFaultAt, IsTokenAt, IsBroken, IsFirstBroken, IsMeant, IsAnswer, IsDone}
+use Rattle.aem.specs.Top.{ByCommand, Caused, Answers, IsTold, IsOneAnswer, IsOnlyAnswer}
 
 -- what the layers below say of one text
 pub record Laws : Type 0 where
@@ -74,7 +78,8 @@ cause rule at text b = absurd b
 
 -- a text is a source of one program
 pub one_source : Laws → (text : List ℕ) (p q : Code) → IsSource text p → IsSource text q → q ≡ p
-one_source laws text p q s z = laws.program s.tokens q p (subst (λ l. Derives l q) (laws.tokens text z.tokens s.tokens z.lexes s.lexes) z.derives) s.derives
+one_source laws text p q s z = laws.program s.tokens q p
+    (subst (λ l. Derives l q) (laws.tokens text z.tokens s.tokens z.lexes s.lexes) z.derives) s.derives
 
 -- a text with a fault is a source of nothing
 fault_alone : Laws → (text : List ℕ) (rule : Rule) (at : Spot) (p : Code) → IsFaultAt rule at text → IsSource text p → ⊥
@@ -83,30 +88,38 @@ fault_alone laws text rule at p f s = laws.no_tokens text rule f.0 s.tokens f.1 
 -- no token of a source is refused
 token_alone : Laws → (text : List ℕ) (rule : Rule) (at : Spot) (p : Code) → IsTokenAt rule at text → IsSource text p → ⊥
 token_alone laws text rule at p t s =
-    laws.not_refused s.tokens p rule at s.derives s.within (subst (λ (l : List Token). IsRefused l rule at) (laws.tokens text t.0 s.tokens t.1 s.lexes) t.2)
+    laws.not_refused s.tokens p rule at s.derives s.within
+    (subst (λ (l : List Token). IsRefused l rule at) (laws.tokens text t.0 s.tokens t.1 s.lexes) t.2)
 
 -- one rule at one place
 abbrev Same : Rule → Spot → Rule → Spot → Type 0
 Same r at s spot = (r ≡ s) × (at ≡ spot)
 
-two_faults : Laws → (text : List ℕ) (r s : Rule) (at spot : Spot) → IsFaultAt r at text → IsFaultAt s spot text → Same r at s spot
-two_faults laws text r s at spot a b = let same = laws.fault text r s a.0 b.0 a.1 b.1 in (same.0, a.2 ∙ ap (place text) same.1 ∙ sym b.2)
+two_faults : Laws → (text : List ℕ) (r s : Rule) (at spot : Spot) → IsFaultAt r at text → IsFaultAt s spot text
+    → Same r at s spot
+two_faults laws text r s at spot a b = let same =
+    laws.fault text r s a.0 b.0 a.1 b.1 in (same.0, a.2 ∙ ap (place text) same.1 ∙ sym b.2)
 
-two_tokens : Laws → (text : List ℕ) (r s : Rule) (at spot : Spot) → IsTokenAt r at text → IsTokenAt s spot text → Same r at s spot
+two_tokens : Laws → (text : List ℕ) (r s : Rule) (at spot : Spot) → IsTokenAt r at text → IsTokenAt s spot text
+    → Same r at s spot
 two_tokens laws text r s at spot a b =
-    laws.refusal b.0 r s at spot (subst (λ (l : List Token). IsRefused l r at) (laws.tokens text a.0 b.0 a.1 b.1) a.2) b.2
+    laws.refusal b.0 r s at spot (subst (λ (l : List Token). IsRefused l r at) (laws.tokens text a.0 b.0 a.1 b.1) a.2)
+    b.2
 
-same_program : Laws → (p : Code) (r s : Rule) (at spot : Spot) → IsProgramBroken r at p → IsProgramBroken s spot p → Same r at s spot
+same_program : Laws → (p : Code) (r s : Rule) (at spot : Spot) → IsProgramBroken r at p → IsProgramBroken s spot p
+    → Same r at s spot
 same_program laws p r s at spot (inl a) (inl b) = (a.0 ∙ sym b.0, a.1 ∙ sym b.1)
 same_program laws p r s at spot (inl a) (inr b) = absurd (a.2 b.0)
 same_program laws p r s at spot (inr a) (inl b) = absurd (b.2 a.0)
 same_program laws p r s at spot (inr a) (inr b) = laws.first p r s at spot a.1 b.1
 
-two_programs : Laws → (text : List ℕ) (r s : Rule) (at spot : Spot) → IsProgramAt r at text → IsProgramAt s spot text → Same r at s spot
-two_programs laws text r s at spot a b =
-    same_program laws a.0 r s at spot a.2 (subst (IsProgramBroken s spot) (one_source laws text a.0 b.0 a.1 b.1) b.2)
+two_programs : Laws → (text : List ℕ) (r s : Rule) (at spot : Spot) → IsProgramAt r at text → IsProgramAt s spot text
+    → Same r at s spot
+two_programs laws text r s at spot a b
+    = same_program laws a.0 r s at spot a.2 (subst (IsProgramBroken s spot) (one_source laws text a.0 b.0 a.1 b.1) b.2)
 
-two_causes : Laws → (text : List ℕ) (r s : Rule) (at spot : Spot) → Cause r at text → Cause s spot text → Same r at s spot
+two_causes : Laws → (text : List ℕ) (r s : Rule) (at spot : Spot) → Cause r at text → Cause s spot text
+    → Same r at s spot
 two_causes laws text r s at spot (Fault a) (Fault b) = two_faults laws text r s at spot a b
 two_causes laws text r s at spot (Fault a) (Refused b) = absurd (laws.no_tokens text r a.0 b.0 a.1 b.1)
 two_causes laws text r s at spot (Fault a) (Program b) = absurd (fault_alone laws text r at b.0 a b.1)
@@ -123,29 +136,35 @@ program_unbroken laws p r at built a (inl b) = b.2 built
 program_unbroken laws p r at built a (inr b) = laws.never_both p r at a b.1
 
 -- the text of an accepted program has no cause of a refusal
-uncaused : Laws → (text : List ℕ) (p : Code) (r : Rule) (at : Spot) → IsSource text p → Built p → Accepts p → Cause r at text → ⊥
+uncaused : Laws → (text : List ℕ) (p : Code) (r : Rule) (at : Spot) → IsSource text p → Built p → Accepts p
+    → Cause r at text → ⊥
 uncaused laws text p r at s built a (Fault f) = fault_alone laws text r at p f s
 uncaused laws text p r at s built a (Refused t) = token_alone laws text r at p t s
-uncaused laws text p r at s built a (Program b) = program_unbroken laws p r at built a (subst (IsProgramBroken r at) (one_source laws text p b.0 s b.1) b.2)
+uncaused laws text p r at s built a (Program b) = program_unbroken laws p r at built a
+    (subst (IsProgramBroken r at) (one_source laws text p b.0 s b.1) b.2)
 
 -- a rule that a text breaks first: the text is too long, or was read to its end and is broken
 abbrev IsLongOrBroken : Rule → Spot → List ℕ → Type 0
-IsLongOrBroken rule at text = ((rule ≡ TooLong) × (at ≡ first_spot) × (length text ≡ most + 1)) ⊎ ((length text ≤ most) × Cause rule at text)
+IsLongOrBroken rule at text = ((rule ≡ TooLong) × (at ≡ first_spot) × (length text ≡ most + 1))
+    ⊎ ((length text ≤ most) × Cause rule at text)
 
-long_or_broken : (rule : Rule) (at : Spot) (taken : List ℕ) (left : Option (List ℕ)) → IsFirstBroken rule at taken left → IsLongOrBroken rule at taken
+long_or_broken : (rule : Rule) (at : Spot) (taken : List ℕ) (left : Option (List ℕ))
+    → IsFirstBroken rule at taken left → IsLongOrBroken rule at taken
 long_or_broken TooLong at taken left b = inl (refl, b.0, b.1)
 long_or_broken rule at taken left b = inr (b.0.0, cause rule at taken b.1)
 
 not_long : (text : List ℕ) → length text ≡ most + 1 → length text ≤ most → ⊥
 not_long text long short = omega (arith, long, short)
 
-two_broken : Laws → (text : List ℕ) (r s : Rule) (at spot : Spot) → IsLongOrBroken r at text → IsLongOrBroken s spot text → Same r at s spot
+two_broken : Laws → (text : List ℕ) (r s : Rule) (at spot : Spot) → IsLongOrBroken r at text
+    → IsLongOrBroken s spot text → Same r at s spot
 two_broken laws text r s at spot (inl a) (inl b) = (a.0 ∙ sym b.0, a.1 ∙ sym b.1)
 two_broken laws text r s at spot (inl a) (inr b) = absurd (not_long text a.2 b.0)
 two_broken laws text r s at spot (inr a) (inl b) = absurd (not_long text b.2 a.0)
 two_broken laws text r s at spot (inr a) (inr b) = two_causes laws text r s at spot a.1 b.1
 
-unbroken : Laws → (text : List ℕ) (p : Code) (r : Rule) (at : Spot) → IsSource text p → Built p → Accepts p → length text ≤ most → IsLongOrBroken r at text → ⊥
+unbroken : Laws → (text : List ℕ) (p : Code) (r : Rule) (at : Spot) → IsSource text p → Built p → Accepts p
+    → length text ≤ most → IsLongOrBroken r at text → ⊥
 unbroken laws text p r at s built a short (inl b) = not_long text b.2 short
 unbroken laws text p r at s built a short (inr b) = uncaused laws text p r at s built a b.1
 
@@ -193,28 +212,41 @@ same_refusal x y a b = ap (λ z. refusal z x.at) a ∙ ap (refusal y.rule) b
 abbrev pub IsAccepted : List ℕ → Code → Type 0
 IsAccepted text p = IsSource text p × Built p × Accepts p
 
-pub refused_alone : Laws → (taken : List ℕ) (left : Option (List ℕ)) (r : Refusal) (p : Code) → IsFirstBroken r.rule r.at taken left → IsWholeText taken left → IsAccepted taken p → ⊥
-refused_alone laws taken left r p b t a = unbroken laws taken p r.rule r.at a.0 a.1 a.2 t.0 (long_or_broken r.rule r.at taken left b)
+pub refused_alone : Laws → (taken : List ℕ) (left : Option (List ℕ)) (r : Refusal) (p : Code)
+    → IsFirstBroken r.rule r.at taken left → IsWholeText taken left → IsAccepted taken p → ⊥
+refused_alone laws taken left r p b t a = unbroken laws taken p r.rule r.at a.0 a.1 a.2 t.0
+    (long_or_broken r.rule r.at taken left b)
 
 not_both_modes : (command : Command) → command ≡ Graph → command ≡ Run → ⊥
 not_both_modes command a b = cc
 
-two_graphs : Laws → (command : Command) (text : List ℕ) (x y : List ℕ) → IsAnswer command text (w.Graph x) → IsAnswer command text (w.Graph y) → x ≡ y
-two_graphs laws command text x y (c, (p, s, _, _, a)) (d, (q, z, _, _, b)) = a ∙ ap graph_text (sym (one_source laws text p q s z)) ∙ sym b
+two_graphs : Laws → (command : Command) (text : List ℕ) (x y : List ℕ) → IsAnswer command text (w.Graph x)
+    → IsAnswer command text (w.Graph y) → x ≡ y
+two_graphs laws command text x y (c, (p, s, _, _, a)) (d, (q, z, _, _, b)) = a
+    ∙ ap graph_text (sym (one_source laws text p q s z)) ∙ sym b
 
-two_runs : Laws → (command : Command) (text : List ℕ) (x y : RunReport) → IsAnswer command text (w.Ran x) → IsAnswer command text (w.Ran y) → x ≡ y
-two_runs laws command text x y (c, (p, s, _, _, a)) (d, (q, z, _, _, b)) = two_reports x y p a (subst (IsMeant y) (one_source laws text p q s z) b)
+two_runs : Laws → (command : Command) (text : List ℕ) (x y : RunReport) → IsAnswer command text (w.Ran x)
+    → IsAnswer command text (w.Ran y) → x ≡ y
+two_runs laws command text x y (c, (p, s, _, _, a)) (d, (q, z, _, _, b)) = two_reports x y p a
+    (subst (IsMeant y) (one_source laws text p q s z) b)
 
-one_done : Laws → (command : Command) (taken : List ℕ) (left : Option (List ℕ)) (a b : What) → IsTold a → IsTold b → IsDone command taken left a → IsDone command taken left b → a ≡ b
+one_done : Laws → (command : Command) (taken : List ℕ) (left : Option (List ℕ)) (a b : What) → IsTold a → IsTold b
+    → IsDone command taken left a → IsDone command taken left b → a ≡ b
 one_done laws command taken left (w.Refused r) (w.Refused s) _ _ x y =
-    let same = two_broken laws taken r.rule s.rule r.at s.at (long_or_broken r.rule r.at taken left x) (long_or_broken s.rule s.at taken left y) in
+    let same = two_broken laws taken r.rule s.rule r.at s.at (long_or_broken r.rule r.at taken left x)
+    (long_or_broken s.rule s.at taken left y) in
     ap w.Refused (same_refusal r s same.0 same.1)
-one_done laws command taken left (w.Refused r) (w.Graph g) _ _ x (t, (_, (p, s, b, a, _))) = absurd (refused_alone laws taken left r p x t (s, b, a))
-one_done laws command taken left (w.Refused r) (w.Ran g) _ _ x (t, (_, (p, s, b, a, _))) = absurd (refused_alone laws taken left r p x t (s, b, a))
-one_done laws command taken left (w.Graph g) (w.Refused r) _ _ (t, (_, (p, s, b, a, _))) y = absurd (refused_alone laws taken left r p y t (s, b, a))
-one_done laws command taken left (w.Graph g) (w.Graph h) _ _ x y = ap w.Graph (two_graphs laws command taken g h x.1 y.1)
+one_done laws command taken left (w.Refused r) (w.Graph g) _ _ x (t, (_, (p, s, b, a, _))) =
+    absurd (refused_alone laws taken left r p x t (s, b, a))
+one_done laws command taken left (w.Refused r) (w.Ran g) _ _ x (t, (_, (p, s, b, a, _))) =
+    absurd (refused_alone laws taken left r p x t (s, b, a))
+one_done laws command taken left (w.Graph g) (w.Refused r) _ _ (t, (_, (p, s, b, a, _))) y =
+    absurd (refused_alone laws taken left r p y t (s, b, a))
+one_done laws command taken left (w.Graph g) (w.Graph h) _ _ x y = ap w.Graph
+    (two_graphs laws command taken g h x.1 y.1)
 one_done laws command taken left (w.Graph g) (w.Ran h) _ _ x y = absurd (not_both_modes command x.1.0 y.1.0)
-one_done laws command taken left (w.Ran g) (w.Refused r) _ _ (t, (_, (p, s, b, a, _))) y = absurd (refused_alone laws taken left r p y t (s, b, a))
+one_done laws command taken left (w.Ran g) (w.Refused r) _ _ (t, (_, (p, s, b, a, _))) y =
+    absurd (refused_alone laws taken left r p y t (s, b, a))
 one_done laws command taken left (w.Ran g) (w.Graph h) _ _ x y = absurd (not_both_modes command y.1.0 x.1.0)
 one_done laws command taken left (w.Ran g) (w.Ran h) _ _ x y = ap w.Ran (two_runs laws command taken g h x.1 y.1)
 one_done laws command taken left (w.Usage k) b _ _ x y = absurd x
@@ -224,12 +256,14 @@ one_done laws command taken left a (w.Usage k) _ _ x y = absurd y
 one_done laws command taken left a w.ReadFault _ i x y = absurd i
 one_done laws command taken left a w.Memory _ i x y = absurd i
 
-one_by : Laws → (asked : Result Command UsageKind) (taken : List ℕ) (left : Option (List ℕ)) (a b : What) → IsTold a → IsTold b → ByCommand asked taken left a → ByCommand asked taken left b → a ≡ b
+one_by : Laws → (asked : Result Command UsageKind) (taken : List ℕ) (left : Option (List ℕ)) (a b : What) → IsTold a
+    → IsTold b → ByCommand asked taken left a → ByCommand asked taken left b → a ≡ b
 one_by laws (Ok command) taken left a b i j x y = one_done laws command taken left a b i j x y
 one_by laws (Err kind) taken left a b i j x y = x.0 ∙ sym y.0
 
 -- an answer that is told comes of the command
-by_command : (words : List (List ℕ)) (taken : List ℕ) (left : Option (List ℕ)) (a : What) → IsTold a → Caused words taken left a → ByCommand (command_of words) taken left a
+by_command : (words : List (List ℕ)) (taken : List ℕ) (left : Option (List ℕ)) (a : What) → IsTold a
+    → Caused words taken left a → ByCommand (command_of words) taken left a
 by_command words taken left (w.Usage kind) i c = c
 by_command words taken left w.ReadFault i c = c
 by_command words taken left (w.Refused r) i c = c
@@ -239,16 +273,21 @@ by_command words taken left w.Memory i c = absurd i
 
 -- by the laws, words and bytes have one answer
 pub one_answer : Laws → IsOneAnswer
-one_answer laws words taken left a b i j x y =
-    one_by laws (command_of words) taken left a b i j (by_command words taken left a i x) (by_command words taken left b j y)
+one_answer laws words taken left a b i j x y
+    = one_by laws (command_of words) taken left a b i j (by_command words taken left a i x)
+    (by_command words taken left b j y)
 
 -- what was taken of known bytes is told by what is left
-same_taken : (before after : Option (List ℕ)) (a b : List ℕ) → IsSome before → Consumes before after a → Consumes before after b → b ≡ a
+same_taken : (before after : Option (List ℕ)) (a b : List ℕ) → IsSome before → Consumes before after a
+    → Consumes before after b → b ≡ a
 same_taken None after a b known x y = let no : ⊥ = cc in absurd no
 same_taken (Some xs) None a b known x y = absurd x
 same_taken (Some xs) (Some ys) a b known x y = append_cancel_right b a ys (sym y ∙ x)
 
 -- so an answer that has a cause is the only one
-pub only_answer : IsOneAnswer → (words : List (List ℕ)) (before after : Option (List ℕ)) (what : What) → Answers words before after what → IsOnlyAnswer words before after what
+pub only_answer : IsOneAnswer → (words : List (List ℕ)) (before after : Option (List ℕ)) (what : What)
+    → Answers words before after what → IsOnlyAnswer words before after what
 only_answer one words before after what (taken, consumed, caused) known told other is_told (others, also, causes) =
-    one words taken after other what is_told told (subst (λ (l : List ℕ). Caused words l after other) (same_taken before after taken others known consumed also) causes) caused
+    one words taken after other what is_told told
+    (subst (λ (l : List ℕ). Caused words l after other) (same_taken before after taken others known consumed also)
+    causes) caused

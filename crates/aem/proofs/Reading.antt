@@ -14,7 +14,8 @@ use Rattle.ae_tree.specs.Refused.{IsRefused, IsTokenDenied as ParserDenies}
 use Rattle.std.proofs.Common.{Option}
 use Rattle.ae_text.specs.declared.refusal.Spot.{Spot}
 use Rattle.ae_text.specs.declared.refusal.Rule.{Rule}
-use Rattle.ae_text.specs.declared.refusal.Rule.TheVariants.{NotText, BadChar, IntTooLarge, OpenText, TooLong, Unexpected, BlockTooLong, TooDeep, TooManyParams}
+use Rattle.ae_text.specs.declared.refusal.Rule.TheVariants.{NotText, BadChar, IntTooLarge, OpenText, TooLong}
+use Rattle.ae_text.specs.declared.refusal.Rule.TheVariants.{Unexpected, BlockTooLong, TooDeep, TooManyParams}
 use Rattle.aem.specs.declared.answer.What.{What}
 use Rattle.aem.specs.declared.answer.What.TheVariants as w
 use Rattle.std.proofs.Common.{Result, Ok}
@@ -24,7 +25,8 @@ use Rattle.aem.specs.Words.{command_of}
 use Rattle.aem.specs.Top.{IsUnread, IsWholeText, IsBroken, IsFirstBroken, IsAnswer, IsDone, ByCommand, Caused}
 
 -- a fault that stands there is that of a rule of texts
-fault_broken : (r : Rule) (at : Spot) (text : List ℕ) (offset : ℕ) → LexFault text r offset → at ≡ place text offset → IsBroken r at text
+fault_broken : (r : Rule) (at : Spot) (text : List ℕ) (offset : ℕ) → LexFault text r offset → at ≡ place text offset
+    → IsBroken r at text
 fault_broken NotText at text offset f e = (offset, f, e)
 fault_broken BadChar at text offset f e = (offset, f, e)
 fault_broken IntTooLarge at text offset f e = (offset, f, e)
@@ -36,10 +38,12 @@ denied text (d.Refused r) f = fault_broken r.rule r.at text f.0 f.1 f.2
 denied text d.Memory f = tt
 
 -- a token that is refused is so in each text with these tokens
-pub unparsed : (text : List ℕ) (tokens : List Token) (e : Deny) → Lexes text tokens → ParserDenies tokens e → IsUnread text e
+pub unparsed : (text : List ℕ) (tokens : List Token) (e : Deny) → Lexes text tokens → ParserDenies tokens e
+    → IsUnread text e
 unparsed text tokens (d.Refused r) l u = token_broken r.rule r.at text tokens l u
   where
-    token_broken : (rule : Rule) (at : Spot) (text : List ℕ) (tokens : List Token) → Lexes text tokens → IsRefused tokens rule at → IsBroken rule at text
+    token_broken : (rule : Rule) (at : Spot) (text : List ℕ) (tokens : List Token) → Lexes text tokens
+        → IsRefused tokens rule at → IsBroken rule at text
     token_broken Unexpected at text tokens l u = (tokens, l, u)
     token_broken BlockTooLong at text tokens l u = (tokens, l, u)
     token_broken TooDeep at text tokens l u = (tokens, l, u)
@@ -48,19 +52,27 @@ unparsed text tokens (d.Refused r) l u = token_broken r.rule r.at text tokens l 
 unparsed text tokens d.Memory l u = tt
 
 -- the body of the one method
-pub one_body : (ms : List Method) (m : Method) (ls : List Stmt) → length ms ≡ 1 → m ≡ get_or ms 0 m → ls ≡ (out-Block m.body).stmts
+pub one_body : (ms : List Method) (m : Method) (ls : List Stmt) → length ms ≡ 1 → m ≡ get_or ms 0 m
+    → ls ≡ (out-Block m.body).stmts
     → (x : Definition) × (map definition ms ≡ x ∷ []) × (x.body ≡ lines_from ls)
 one_body [] m ls n e b = absurd (omega arith)
-one_body (x ∷ []) m ls n e b = (definition x, refl, lines-out x.body ∙ ap (λ (y : Method). lines_from (out-Block y.body).stmts) (sym e) ∙ ap lines_from (sym b))
+one_body (x ∷ []) m ls n e b = (
+  definition x,
+  refl,
+  lines-out x.body ∙ ap (λ (y : Method). lines_from (out-Block y.body).stmts) (sym e)
+      ∙ ap lines_from (sym b),
+)
 one_body (x ∷ y ∷ ms) m ls n e b = absurd (omega arith)
 
 -- a rule that a whole text breaks first
-first_broken : (r : Rule) (at : Spot) (taken : List ℕ) (left : Option (List ℕ)) → IsWholeText taken left → IsBroken r at taken → IsFirstBroken r at taken left
+first_broken : (r : Rule) (at : Spot) (taken : List ℕ) (left : Option (List ℕ)) → IsWholeText taken left
+    → IsBroken r at taken → IsFirstBroken r at taken left
 first_broken TooLong at taken left whole b = absurd b
 first_broken r at taken left whole b = (whole, b)
 
 -- an answer to a whole text has its cause
-done_whole : (command : Command) (taken : List ℕ) (left : Option (List ℕ)) (what : What) → IsWholeText taken left → IsAnswer command taken what → IsDone command taken left what
+done_whole : (command : Command) (taken : List ℕ) (left : Option (List ℕ)) (what : What) → IsWholeText taken left
+    → IsAnswer command taken what → IsDone command taken left what
 done_whole command taken left (w.Usage kind) t a = absurd a
 done_whole command taken left w.ReadFault t a = absurd a
 done_whole command taken left (w.Refused r) t a = first_broken r.rule r.at taken left t a
@@ -69,10 +81,13 @@ done_whole command taken left (w.Ran report) t a = (t, a)
 done_whole command taken left w.Memory t a = tt
 
 -- a command's answer has its cause in the words
-by_words : (words : List (List ℕ)) (command : Command) (taken : List ℕ) (left : Option (List ℕ)) (what : What) → command_of words ≡ Ok command → IsDone command taken left what → ByCommand (command_of words) taken left what
-by_words words command taken left what e d = let P : Result Command UsageKind → Type 0 = λ r. ByCommand r taken left what in subst P (sym e) d
+by_words : (words : List (List ℕ)) (command : Command) (taken : List ℕ) (left : Option (List ℕ)) (what : What)
+    → command_of words ≡ Ok command → IsDone command taken left what → ByCommand (command_of words) taken left what
+by_words words command taken left what e d = let P : Result Command UsageKind → Type 0 =
+    λ r. ByCommand r taken left what in subst P (sym e) d
 
-pub done_caused : (words : List (List ℕ)) (command : Command) (taken : List ℕ) (left : Option (List ℕ)) (what : What) → command_of words ≡ Ok command → IsDone command taken left what → Caused words taken left what
+pub done_caused : (words : List (List ℕ)) (command : Command) (taken : List ℕ) (left : Option (List ℕ)) (what : What)
+    → command_of words ≡ Ok command → IsDone command taken left what → Caused words taken left what
 done_caused words command taken left (w.Usage kind) e d = absurd d
 done_caused words command taken left w.ReadFault e d = by_words words command taken left w.ReadFault e d
 done_caused words command taken left (w.Refused r) e d = by_words words command taken left (w.Refused r) e d
@@ -80,5 +95,8 @@ done_caused words command taken left (w.Graph graph) e d = by_words words comman
 done_caused words command taken left (w.Ran report) e d = by_words words command taken left (w.Ran report) e d
 done_caused words command taken left w.Memory e d = tt
 
-pub caused : (words : List (List ℕ)) (command : Command) (taken : List ℕ) (left : Option (List ℕ)) (what : What) → command_of words ≡ Ok command → IsWholeText taken left → IsAnswer command taken what → Caused words taken left what
-caused words command taken left what e t a = done_caused words command taken left what e (done_whole command taken left what t a)
+pub caused : (words : List (List ℕ)) (command : Command) (taken : List ℕ) (left : Option (List ℕ)) (what : What)
+    → command_of words ≡ Ok command → IsWholeText taken left → IsAnswer command taken what
+    → Caused words taken left what
+caused words command taken left what e t a = done_caused words command taken left what e
+    (done_whole command taken left what t a)

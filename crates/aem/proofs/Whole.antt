@@ -29,7 +29,8 @@ pub declares : BuiltDeclaresOne → (text : List ℕ) (p : Code) → IsSource te
 declares one text p s b = one s.tokens p s.derives b
 
 -- after the one method nothing is judged
-one_judged : (p : Code) (b : Lines) → HasBody p b → judge_methods p.methods ≡ then_judge (judge b nobody) (λ _. Holds nobody)
+one_judged : (p : Code) (b : Lines) → HasBody p b → judge_methods p.methods ≡ then_judge (judge b nobody)
+    (λ _. Holds nobody)
 one_judged p b h = ap judge_methods h.1 ∙ ap (λ l. then_judge (judge l nobody) (λ _. Holds nobody)) h.2
 
 held_still : (v : Verdict) → IsHeld v → IsHeld (then_judge v (λ _. Holds nobody))
@@ -37,8 +38,10 @@ held_still (Holds scope) h = tt
 held_still (Broken rule at) h = h
 
 -- where today's judgement finds nothing, the whole rules accept
-pub accepts : BuiltDeclaresOne → TodaysJudgementIsACase → (text : List ℕ) (p : Code) → IsSource text p → Built p → (b : Lines) → HasBody p b → FoundIn (judge b nobody) None → Accepts p
-accepts one alike text p s built b h held = (alike p built (declares one text p s built)).0 (built, subst IsHeld (sym (one_judged p b h)) (held_still (judge b nobody) held))
+pub accepts : BuiltDeclaresOne → TodaysJudgementIsACase → (text : List ℕ) (p : Code) → IsSource text p → Built p
+    → (b : Lines) → HasBody p b → FoundIn (judge b nobody) None → Accepts p
+accepts one alike text p s built b h held = (alike p built (declares one text p s built)).0
+    (built, subst IsHeld (sym (one_judged p b h)) (held_still (judge b nobody) held))
 
 -- a rule that today's judgement gives is one of the two
 name_broken : (rule : Rule) (at : Spot) (text : List ℕ) → IsOfNames rule → IsNameAt rule at text → IsBroken rule at text
@@ -47,14 +50,16 @@ name_broken DuplicateLocal at text n h = h
 name_broken rule at text n h = absurd n
 
 -- what today's judgement finds broken, the whole rules find broken first
-pub broken : BuiltDeclaresOne → TodaysJudgementIsACase → (text : List ℕ) (p : Code) → IsSource text p → Built p → (b : Lines) → HasBody p b → (r : Refusal)
+pub broken : BuiltDeclaresOne → TodaysJudgementIsACase → (text : List ℕ) (p : Code) → IsSource text p → Built p
+    → (b : Lines) → HasBody p b → (r : Refusal)
     → FoundIn (judge b nobody) (Some r) → IsBroken r.rule r.at text
-broken one alike text p s built b h r e =
-    name_broken r.rule r.at text e.1 (
+broken one alike text p s built b h r e
+    = name_broken r.rule r.at text e.1 (
       p,
       s,
       built,
-      (alike p built (declares one text p s built)).2 r.rule r.at (one_judged p b h ∙ ap (λ v. then_judge v (λ _. Holds nobody)) e.0),
+      (alike p built (declares one text p s built)).2 r.rule r.at
+          (one_judged p b h ∙ ap (λ v. then_judge v (λ _. Holds nobody)) e.0),
     )
 
 -- what is accepted by the whole rules is accepted by today's
@@ -62,20 +67,26 @@ pub accepted : TodaysJudgementIsACase → (p : Code) → Built p → DeclaresOne
 accepted alike p built d a = (alike p built d).1 a
 
 -- what is reported of today's meaning is so of the whole one
-as_meant : (report : RunReport) (m : today.Meaning) (w : whole.Meant) → IsAsToday m w → Some report.ending ≡ m.ending → report.out ≡ m.out
+as_meant : (report : RunReport) (m : today.Meaning) (w : whole.Meant) → IsAsToday m w → Some report.ending ≡ m.ending
+    → report.out ≡ m.out
     → (Some (as_whole report.ending) ≡ w.ending) × (report.out ≡ whole.bytes w [])
 as_meant report m w same e o = (
   ap (option_map as_whole) e ∙ sym same.ending,
-  o ∙ sym same.out ∙ sym (append-nil (pieces_bytes w.log)) ∙ ap (λ c. pieces_bytes w.log ++ given c [] (λ _. [])) (sym same.unsplit),
+  o ∙ sym same.out ∙ sym (append-nil (pieces_bytes w.log)) ∙ ap (λ c. pieces_bytes w.log ++ given c [] (λ _. []))
+      (sym same.unsplit),
 )
 
 -- an accepted program of the forms that run today is reported by the whole meaning
-pub meant : TodaysJudgementIsACase → cases.TodayIsACase → (p : Code) → Built p → DeclaresOne p → Accepts p → (report : RunReport)
-    → Some report.ending ≡ (today.today_seq p [] 100000).ending → report.out ≡ (today.today_seq p [] 100000).out → IsMeant report p
-meant alike same p built d a report e o = as_meant report (today.today_seq p [] 100000) (whole.seq p [] 100000) (same p (accepted alike p built d a) d [] 100000) e o
+pub meant : TodaysJudgementIsACase → cases.TodayIsACase → (p : Code) → Built p → DeclaresOne p → Accepts p
+    → (report : RunReport)
+    → Some report.ending ≡ (today.today_seq p [] 100000).ending → report.out ≡ (today.today_seq p [] 100000).out
+    → IsMeant report p
+meant alike same p built d a report e o = as_meant report (today.today_seq p [] 100000) (whole.seq p [] 100000)
+    (same p (accepted alike p built d a) d [] 100000) e o
 
 -- what an accepted program of this text comes to is the text's answer
-pub answered : (command : Command) (text : List ℕ) (p : Code) → IsSource text p → Built p → Accepts p → (what : What) → IsDoneFor command p what → IsAnswer command text what
+pub answered : (command : Command) (text : List ℕ) (p : Code) → IsSource text p → Built p → Accepts p → (what : What)
+    → IsDoneFor command p what → IsAnswer command text what
 answered command text p s b a (w.Usage kind) d = d
 answered command text p s b a w.ReadFault d = d
 answered command text p s b a (w.Refused r) d = absurd d

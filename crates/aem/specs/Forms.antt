@@ -22,7 +22,8 @@ NeedsIo ns = (at : Spot) × (ns ≡ record { need = Exclusive; group = record { 
 
 -- a method at the top named main, without a result, groups and parameters
 abbrev pub IsBare : Definition → Type 0
-IsBare m = (m.class ≡ None) × (m.result ≡ None) × (m.name.name ≡ main) × (m.groups ≡ []) × (m.me ≡ None) × (m.params ≡ []) × (m.no ≡ 0)
+IsBare m = (m.class ≡ None) × (m.result ≡ None) × (m.name.name ≡ main) × (m.groups ≡ []) × (m.me ≡ None)
+    × (m.params ≡ []) × (m.no ≡ 0)
 
 -- a method `main` all of whose statements run today
 abbrev pub IsBuiltMethod : Definition → Type 0

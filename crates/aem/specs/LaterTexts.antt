@@ -29,7 +29,8 @@ pub record TaskLine : Type 0 where
 -- == task LINE:COL BEGAN ENDED
 abbrev pub task_text : TaskLine → List ℕ
 task_text t =
-    codes "== task " ++ decimal t.at.line ++ codes ":" ++ decimal t.at.col ++ codes " " ++ decimal t.began ++ codes " " ++ decimal t.ended ++ codes "\n"
+    codes "== task " ++ decimal t.at.line ++ codes ":" ++ decimal t.at.col ++ codes " " ++ decimal t.began
+    ++ codes " " ++ decimal t.ended ++ codes "\n"
 
 abbrev pub trace_text : List TaskLine → List ℕ
 trace_text [] = []
@@ -49,9 +50,11 @@ plain_text r = r.out ++ feed_after (last_byte r.out) ++ ending_text r.ending
 
 -- the same with the order, what is past, and where it is asked for the trace
 abbrev pub run_text : WholeRun → (traced : Bool) → List ℕ
-run_text r traced = plain_text r ++ order_text r.order ++ past_text r.past ++ (if traced then trace_text r.trace else [])
+run_text r traced = plain_text r ++ order_text r.order ++ past_text r.past
+    ++ (if traced then trace_text r.trace else [])
 
 -- a made program of this size with that many methods, its number of events, and its run
 abbrev pub made_text : (size methods events : ℕ) → WholeRun → List ℕ
 made_text size methods events r =
-    codes "made " ++ decimal size ++ codes ": methods " ++ decimal methods ++ codes " events " ++ decimal events ++ codes "\n" ++ plain_text r
+    codes "made " ++ decimal size ++ codes ": methods " ++ decimal methods ++ codes " events " ++ decimal events
+    ++ codes "\n" ++ plain_text r

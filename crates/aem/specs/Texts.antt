@@ -1,5 +1,6 @@
 -- The texts that are printed.
-use Rattle.std.specs.Prelude.{ℕ, ◌-◌, List, [], ◌∷◌, ◌++◌, length, slice_get, Option, None, Some, codes, nat_eq, if◌then◌else◌}
+use Rattle.std.specs.Prelude.{ℕ, ◌-◌, List, [], ◌∷◌, ◌++◌, length, slice_get, Option, None, Some, codes, nat_eq}
+use Rattle.std.specs.Prelude.{if◌then◌else◌}
 use Rattle.std.specs.Fmt.{decimal}
 use Rattle.ae_text.specs.declared.refusal.Refusal.{Refusal}
 use Rattle.ae_text.specs.Rules.{rule_text}
@@ -14,11 +15,13 @@ usage_text = codes "usage: aem check | aem graph | aem run [--workers N] [--fuel
 
 -- refused CODE NAME at LINE:COL
 abbrev pub refusal_text : Refusal → List ℕ
-refusal_text r = codes "refused " ++ rule_text r.rule ++ codes " at " ++ decimal r.at.line ++ codes ":" ++ decimal r.at.col ++ codes "\n"
+refusal_text r = codes "refused " ++ rule_text r.rule ++ codes " at " ++ decimal r.at.line ++ codes ":"
+    ++ decimal r.at.col ++ codes "\n"
 
 abbrev pub ending_text : Ending → List ℕ
 ending_text Done = codes "== done\n"
-ending_text (Trap code at) = codes "== trap " ++ decimal code ++ codes " at " ++ decimal at.line ++ codes ":" ++ decimal at.col ++ codes "\n"
+ending_text (Trap code at) = codes "== trap " ++ decimal code ++ codes " at " ++ decimal at.line ++ codes ":"
+    ++ decimal at.col ++ codes "\n"
 ending_text (Fuel at) = codes "== fuel at " ++ decimal at.line ++ codes ":" ++ decimal at.col ++ codes "\n"
 
 -- a line feed is missing at the end of a text that is not empty

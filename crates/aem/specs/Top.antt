@@ -1,9 +1,12 @@
 -- What the top call answers, and why.
-use Rattle.std.specs.Prelude.{◌≡◌, ℕ, ◌+◌, ◌≤◌, List, [], ◌∷◌, length, take, Option, None, Some, IsSome, Result, Ok, Err}
+use Rattle.std.specs.Prelude.{◌≡◌, ℕ, ◌+◌, ◌≤◌, List, [], ◌∷◌, length, take, Option, None, Some, IsSome, Result, Ok}
+use Rattle.std.specs.Prelude.{Err}
 use Rattle.std.specs.Io.KnownBytes.{Consumes, IsAtEnd, Appends}
 use Rattle.ae_text.specs.declared.refusal.Spot.{Spot}
 use Rattle.ae_text.specs.declared.refusal.Rule.{Rule}
-use Rattle.ae_text.specs.declared.refusal.Rule.TheVariants.{NotText, BadChar, IntTooLarge, OpenText, TooLong, Unexpected, BlockTooLong, TooDeep, TooManyParams, NotBuilt, UnknownName, DuplicateLocal}
+use Rattle.ae_text.specs.declared.refusal.Rule.TheVariants.{NotText, BadChar, IntTooLarge, OpenText, TooLong}
+use Rattle.ae_text.specs.declared.refusal.Rule.TheVariants.{Unexpected, BlockTooLong, TooDeep, TooManyParams}
+use Rattle.ae_text.specs.declared.refusal.Rule.TheVariants.{NotBuilt, UnknownName, DuplicateLocal}
 use Rattle.ae_text.specs.Whole.{most}
 use Rattle.ae_text.specs.declared.refusal.Deny.{Deny}
 use Rattle.ae_text.specs.declared.refusal.Deny.TheVariants as d
@@ -73,7 +76,8 @@ IsUnread text d.Memory = Unit {0}
 -- The report has the ending and the bytes of the program's meaning, with no integers and a fuel of 100,000.
 -- No form that runs today splits `io`, so no pieces of a cell come behind the log.
 abbrev pub IsMeant : RunReport → Code → Type 0
-IsMeant report program = (Some (as_whole report.ending) ≡ (seq program [] 100000).ending) × (report.out ≡ bytes (seq program [] 100000) [])
+IsMeant report program = (Some (as_whole report.ending) ≡ (seq program [] 100000).ending)
+    × (report.out ≡ bytes (seq program [] 100000) [])
 
 -- what an accepted program comes to: the text of its graphs, or the report of its run
 abbrev pub IsDoneFor : Command → Code → What → Type 0
@@ -89,8 +93,11 @@ abbrev pub IsAnswer : Command → List ℕ → What → Type 0
 IsAnswer command text (w.Usage kind) = ⊥
 IsAnswer command text w.ReadFault = ⊥
 IsAnswer command text (w.Refused r) = IsBroken r.rule r.at text
-IsAnswer command text (w.Graph graph) = (command ≡ Graph) × ((program : Code) × IsSource text program × Built program × Accepts program × (graph ≡ graph_text program))
-IsAnswer command text (w.Ran report) = (command ≡ Run) × ((program : Code) × IsSource text program × Built program × Accepts program × IsMeant report program)
+IsAnswer command text (w.Graph graph) = (command ≡ Graph)
+    × ((program : Code) × IsSource text program × Built program × Accepts program × (graph ≡ graph_text program))
+IsAnswer command text (w.Ran report) =
+    (command ≡ Run) × ((program : Code) × IsSource text program × Built program × Accepts program
+    × IsMeant report program)
 IsAnswer command text w.Memory = Unit {0}
 
 -- why this is the answer to a command, where these bytes were taken and this is left
@@ -123,14 +130,17 @@ IsTold _ = Unit {0}
 
 -- two answers that the words and the bytes tell are one, where both have their cause in them
 abbrev pub IsOneAnswer : Type 0
-IsOneAnswer = (words : List (List ℕ)) (taken : List ℕ) (left : Option (List ℕ)) (a b : What) → IsTold a → IsTold b → Caused words taken left a → Caused words taken left b → a ≡ b
+IsOneAnswer = (words : List (List ℕ)) (taken : List ℕ) (left : Option (List ℕ)) (a b : What) → IsTold a → IsTold b
+    → Caused words taken left a → Caused words taken left b → a ≡ b
 
 -- of the answers that words and known bytes tell, no other one has a cause
 abbrev pub IsOnlyAnswer : List (List ℕ) → Option (List ℕ) → Option (List ℕ) → What → Type 0
-IsOnlyAnswer words before after what = IsSome before → IsTold what → (other : What) → IsTold other → Answers words before after other → other ≡ what
+IsOnlyAnswer words before after what = IsSome before → IsTold what → (other : What) → IsTold other
+    → Answers words before after other → other ≡ what
 
 -- the words ask for this command, and the source has a text of this program, which is accepted and of forms that run today
-pub record IsAsked (words : List (List ℕ)) (before : Option (List ℕ)) (command : Command) (program : Code) : Type 0 where
+pub record IsAsked (words : List (List ℕ)) (before : Option (List ℕ)) (command : Command) (program : Code) : Type
+    0 where
   pub asked : command_of words ≡ Ok command
   pub text : List ℕ
   pub has : before ≡ Some text
@@ -141,12 +151,15 @@ pub record IsAsked (words : List (List ℕ)) (before : Option (List ℕ)) (comma
 
 -- an accepted program that is asked for has no other answer than that of its command, but for a failed read
 abbrev pub IsAnswered : Type 0
-IsAnswered = (words : List (List ℕ)) (before after : Option (List ℕ)) (what : What) (command : Command) (program : Code) →
-    IsAsked words before command program → Answers words before after what → (what ≡ w.ReadFault → ⊥) → IsDoneFor command program what
+IsAnswered = (words : List (List ℕ)) (before after : Option (List ℕ)) (what : What) (command : Command)
+    (program : Code) →
+    IsAsked words before command program → Answers words before after what → (what ≡ w.ReadFault → ⊥)
+    → IsDoneFor command program what
 
 -- each accepted program that is asked for has the answer of its command, or want of memory, and nothing of it was cut
 abbrev pub IsComplete : List (List ℕ) → Option (List ℕ) → What → Option ℕ → Type 0
-IsComplete words before what cut = (command : Command) (program : Code) → IsAsked words before command program → IsDoneFor command program what × (cut ≡ None)
+IsComplete words before what cut = (command : Command) (program : Code) → IsAsked words before command program
+    → IsDoneFor command program what × (cut ≡ None)
 
 -- the sink took the whole text, or its first bytes where the answer was cut
 abbrev pub Wrote : Option (List ℕ) → Option (List ℕ) → List ℕ → Option ℕ → Type 0

@@ -4,7 +4,8 @@ ghost use Rattle.ae_text.specs.declared.refusal.Spot.{Spot};
 ghost use Rattle.ae_tree.specs.Shown.{expression, right_side, action, lines_from, definition, code};
 ghost use Rattle.ae_tree.specs.Grammar.{level};
 ghost use Rattle.ae_tree.specs.Names.{this};
-ghost use Rattle.ae_tree.specs.Built.{IsBuiltExpression, IsBuiltRight, IsBuiltType, IsBuiltAction, AreBuilt, IsMain, Built};
+ghost use Rattle.ae_tree.specs.Built.{IsBuiltExpression, IsBuiltRight, IsBuiltType, IsBuiltAction, AreBuilt, IsMain};
+ghost use Rattle.ae_tree.specs.Built.{Built};
 ghost use Rattle.aem.specs.Forms.{IsExclusiveIo, NeedsIo, IsPlainName, IsBare, IsBuiltMethod};
 
 use ae_tree::{Expr, GroupNeed, Method, Name, Need, Op, Path, Program, Rhs, Stmt, StmtKind, Ty};

@@ -2,7 +2,8 @@
 ghost use Rattle.std.specs.Prelude.{◌≡◌, ◌++◌, IfOk, string_bytes, codes};
 ghost use Rattle.std.specs.Fmt.{decimal};
 ghost use Rattle.ae_text.specs.Rules.{rule_text};
-ghost use Rattle.aem.specs.Texts.{refusal_text, ending_text, report_text, feed_after, last_byte, output, ending_status, whole_status, usage_text};
+ghost use Rattle.aem.specs.Texts.{refusal_text, ending_text, report_text, feed_after, last_byte, output};
+ghost use Rattle.aem.specs.Texts.{ending_status, whole_status, usage_text};
 
 use crate::answer::What;
 use ae_meaning::{Ending, RunReport};
@@ -13,19 +14,22 @@ const USAGE: &[u8] =
     b"usage: aem check | aem graph | aem run [--workers N] [--fuel N] [--trace] [--] [INT]... | aem make N\n";
 
 fn refused_line(alloc: Global, rule: &str, line: u32, col: u32) -> Result<String, AllocError>
-    ensures { IfOk result (λ t. string_bytes t ≡ codes "refused " ++ rule.now ++ codes " at " ++ decimal line ++ codes ":" ++ decimal col ++ codes "\n") }
+    ensures { IfOk result (λ t. string_bytes t ≡ codes "refused " ++ rule.now ++ codes " at " ++ decimal line
+        ++ codes ":" ++ decimal col ++ codes "\n") }
 {
     format!(in alloc; "refused {rule} at {line}:{col}\n")
 }
 
 fn trap_line(alloc: Global, code: u8, line: u32, col: u32) -> Result<String, AllocError>
-    ensures { IfOk result (λ t. string_bytes t ≡ codes "== trap " ++ decimal code ++ codes " at " ++ decimal line ++ codes ":" ++ decimal col ++ codes "\n") }
+    ensures { IfOk result (λ t. string_bytes t ≡ codes "== trap " ++ decimal code ++ codes " at " ++ decimal line
+        ++ codes ":" ++ decimal col ++ codes "\n") }
 {
     format!(in alloc; "== trap {code} at {line}:{col}\n")
 }
 
 fn fuel_line(alloc: Global, line: u32, col: u32) -> Result<String, AllocError>
-    ensures { IfOk result (λ t. string_bytes t ≡ codes "== fuel at " ++ decimal line ++ codes ":" ++ decimal col ++ codes "\n") }
+    ensures { IfOk result (λ t. string_bytes t ≡ codes "== fuel at " ++ decimal line ++ codes ":" ++ decimal col
+        ++ codes "\n") }
 {
     format!(in alloc; "== fuel at {line}:{col}\n")
 }

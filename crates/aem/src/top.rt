@@ -8,7 +8,8 @@ ghost use Rattle.ae_rules.specs.Judges.{Accepts};
 ghost use Rattle.aem.specs.Small.{IsSource, HasSource};
 ghost use Rattle.aem.specs.Texts.{output, whole_status, status_of};
 ghost use Rattle.aem.specs.declared.answer.Command.{Command};
-ghost use Rattle.aem.specs.Top.{HasBody, IsUnread, IsDoneFor, IsAnswer, Answers, IsTold, IsOneAnswer, IsOnlyAnswer, IsAsked, IsAnswered, IsComplete, Wrote, IsUsage};
+ghost use Rattle.aem.specs.Top.{HasBody, IsUnread, IsDoneFor, IsAnswer, Answers, IsTold, IsOneAnswer, IsOnlyAnswer};
+ghost use Rattle.aem.specs.Top.{IsAsked, IsAnswered, IsComplete, Wrote, IsUsage};
 
 use crate::answer::{Answer, Command, What};
 use crate::built::is_built;
@@ -16,9 +17,10 @@ use crate::names::first_broken;
 use crate::texts::{status, text_of};
 use crate::words::command;
 use ae_cases::today_is_a_case;
-use ae_tree::{Program, Stmt, derived_programs_are_well_shaped};
-use ae_parser::{parse, programs_are_not_refused, refusals_are_unique, tokens_stand_for_one_program};
 use ae_graph::graph_text;
+use ae_parser::{
+    parse, programs_are_not_refused, refusals_are_unique, tokens_stand_for_one_program,
+};
 use ae_rules::{
     a_built_program_declares_one_method, first_broken_rule_is_one, preds_are_edges,
     programs_are_never_both, todays_judgement_is_a_case, todays_uses_are_a_case,
@@ -28,6 +30,7 @@ use ae_text::{
     Deny, Gate, ReadEnd, Refusal, Rule, Sink, Source, Spot, SureSink, SureSource,
     faults_are_unique, lex, read_all, tokens_are_unique, write_all,
 };
+use ae_tree::{Program, Stmt, derived_programs_are_well_shaped};
 use std::alloc::Global;
 use std::thread::Threads;
 
@@ -185,7 +188,10 @@ fn decide<S: Source, G: Gate>(
     ensures fault { result ≡ What.ReadFault → Rose S.last (S.faults source.old) (S.faults source.new) }
     ensures kept { IsTold result → S.faults source.new ≡ S.faults source.old }
     ensures unread { IsUsage result → source.new ≡ source.old }
-    ensures complete { ¬ Rose S.last (S.faults source.old) (S.faults source.new) → (command : Command) (program : Code) → IsAsked (map string_bytes words.now) (S.left source.old) command program → IsDoneFor command program result }
+    ensures complete { ¬ Rose S.last (S.faults source.old) (S.faults source.new)
+        → (command : Command) (program : Code)
+        → IsAsked (map string_bytes words.now) (S.left source.old) command program
+        → IsDoneFor command program result }
 {
     answers_are_unique();
     find_answer(rt, alloc, words, source, gate)
@@ -214,7 +220,9 @@ pub fn aeminium<S: Source, K: Sink, G: Gate>(
     ensures sink_kept { result.cut ≡ None → K.faults sink.new ≡ K.faults sink.old }
     ensures cut { IfSome result.cut (λ _. Rose K.last (K.faults sink.old) (K.faults sink.new)) }
     ensures unwritten { result.what ≡ What.Memory → sink.new ≡ sink.old }
-    ensures complete { ¬ Rose S.last (S.faults source.old) (S.faults source.new) → ¬ Rose K.last (K.faults sink.old) (K.faults sink.new) → IsComplete (map string_bytes words.now) (S.left source.old) result.what result.cut }
+    ensures complete { ¬ Rose S.last (S.faults source.old) (S.faults source.new)
+        → ¬ Rose K.last (K.faults sink.old) (K.faults sink.new)
+        → IsComplete (map string_bytes words.now) (S.left source.old) result.what result.cut }
 {
     let what = decide(rt, alloc, words, source, gate);
     let Ok(text) = text_of(alloc, &what) else {
@@ -247,7 +255,8 @@ pub fn faultless<G: Gate>(
     sink: &mut SureSink,
     gate: &G,
 ) -> Answer
-    ensures { IsComplete (map string_bytes words.now) (⟦<SureSource as Source>⟧.left source.old) result.what result.cut }
+    ensures { IsComplete (map string_bytes words.now) (⟦<SureSource as Source>⟧.left source.old) result.what
+        result.cut }
 {
     aeminium(rt, alloc, words, source, sink, gate)
 }

@@ -12,17 +12,21 @@ use Rattle.ae_expressions.proofs.expressions.length.Goals as goal
 pub returns-in_err-at-clause-reads : goal.returns-in_err-at-clause-reads
 returns-in_err-at-clause-reads c =
     let all : c.args.budget - 1 + 1 ≡ c.args.budget = omega (arith, c.requires.one) in
-    exits counted len_operand (AtMostMarks c.args.budget) (Ends 5) c.args.ts.now _ _ (length_failed_word _ _ _ _ all c.in_err-at.ensures) c.from_residual.ensures.1
+    exits counted len_operand (AtMostMarks c.args.budget) (Ends 5) c.args.ts.now _ _
+    (length_failed_word _ _ _ _ all c.in_err-at.ensures) c.from_residual.ensures.1
 
 pub returns-in_err-array-clause-reads : goal.returns-in_err-array-clause-reads
 returns-in_err-array-clause-reads c =
     let all : c.args.budget - 1 + 1 ≡ c.args.budget = omega (arith, c.requires.one) in
-    exits counted len_operand (AtMostMarks c.args.budget) (Ends 5) c.args.ts.now _ _ (length_failed_path _ _ _ _ _ _ all c.in_ok-at.ensures c.in_err-array.ensures) c.from_residual-in_err-array.ensures.1
+    exits counted len_operand (AtMostMarks c.args.budget) (Ends 5) c.args.ts.now _ _
+    (length_failed_path _ _ _ _ _ _ all c.in_ok-at.ensures c.in_err-array.ensures)
+    c.from_residual-in_err-array.ensures.1
 
 pub returns-clause-reads : goal.returns-clause-reads
 returns-clause-reads c =
     let all : c.args.budget - 1 + 1 ≡ c.args.budget = omega (arith, c.requires.one) in
-    let P : Expression → Type 0 = λ x. Took len_operand (AtMostMarks c.args.budget) (Ends 5) c.args.ts.now x c.in_ok-array.rest.now in
+    let P : Expression → Type 0 = λ x. Took len_operand (AtMostMarks c.args.budget)
+    (Ends 5) c.args.ts.now x c.in_ok-array.rest.now in
     subst P (sym (expression-Len _ _)) (length_took _ _ _ _ _ _ _ all c.in_ok-at.ensures c.in_ok-array.ensures)
 
 pub returns-clause-count : goal.returns-clause-count

@@ -8,7 +8,8 @@ use Rattle.ae_expressions.proofs.OperandLemmas.{took_literal, literal_end, liter
 use Rattle.ae_expressions.proofs.expressions.literal.Goals as goal
 
 pub returns-in_default-clause-reads : goal.returns-in_default-clause-reads
-returns-in_default-clause-reads c = refuses counted literal Free Always _ _ c.unexpected.ensures (literal_end _ c.in_default.ensures)
+returns-in_default-clause-reads c = refuses counted literal Free Always _ _ c.unexpected.ensures
+    (literal_end _ c.in_default.ensures)
 
 pub returns-in-Some-literal_of-clause-reads : goal.returns-in-Some-literal_of-clause-reads
 returns-in-Some-literal_of-clause-reads c =
@@ -17,4 +18,5 @@ returns-in-Some-literal_of-clause-reads c =
     subst P (sym (ap expression c.leaf.ensures.tree)) (took_literal _ _ _ _ c.in-Some.ensures d)
 
 pub returns-in-None-clause-reads : goal.returns-in-None-clause-reads
-returns-in-None-clause-reads c = refuses counted literal Free Always _ _ c.unexpected-in-None.ensures (literal_other _ _ _ c.in-Some.ensures c.in-None.ensures)
+returns-in-None-clause-reads c = refuses counted literal Free Always _ _ c.unexpected-in-None.ensures
+    (literal_other _ _ _ c.in-Some.ensures c.in-None.ensures)

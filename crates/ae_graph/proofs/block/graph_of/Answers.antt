@@ -9,13 +9,21 @@ pub preds_of-requires : goal.preds_of-requires
 preds_of-requires c = omega (arith, c.requires, count_lines c.args.stmts.now)
 
 pub succs_of-requires-clause-few : goal.succs_of-requires-clause-few
-succs_of-requires-clause-few c = omega (arith, c.requires, c.in_ok-preds.ensures.0, count_lines c.args.stmts.now, ap length c.as_slice.ensures)
+succs_of-requires-clause-few c =
+    omega (arith, c.requires, c.in_ok-preds.ensures.0, count_lines c.args.stmts.now, ap length c.as_slice.ensures)
 
 pub succs_of-requires-clause-earlier : goal.succs_of-requires-clause-earlier
-succs_of-requires-clause-earlier c = subst AreEarlier (sym c.as_slice.ensures) (earlier (lines_from c.args.stmts.now) c.in_ok-preds.preds c.in_ok-preds.ensures.1)
+succs_of-requires-clause-earlier c = subst AreEarlier (sym c.as_slice.ensures)
+    (earlier (lines_from c.args.stmts.now) c.in_ok-preds.preds c.in_ok-preds.ensures.1)
 
 pub edges_of-requires : goal.edges_of-requires
-edges_of-requires c = omega (arith, c.requires, c.in_ok-preds.ensures.0, count_lines c.args.stmts.now, ap length c.as_slice-2.ensures)
+edges_of-requires c = omega (
+  arith,
+  c.requires,
+  c.in_ok-preds.ensures.0,
+  count_lines c.args.stmts.now,
+  ap length c.as_slice-2.ensures,
+)
 
 pub invariant_of-result : goal.invariant_of-result
 invariant_of-result c = (

@@ -10,7 +10,9 @@ loop-at-preserved c =
       len = j.len ∙ c.loop-at.invariant.len;
       each = λ i h.
           let m : i < length c.loop-at.succs.items = omega (arith, h, c.loop-at.invariant.len) in
-          succs_more c.args.preds.now i c.loop-at.at c.index-preds-at.result (get_or c.loop-at.succs.items i []) (get_or c.join.new.succs.items i []) (c.loop-at.invariant.each i h)
+          succs_more c.args.preds.now i c.loop-at.at c.index-preds-at.result (get_or c.loop-at.succs.items i [])
+          (get_or c.join.new.succs.items i []) (c.loop-at.invariant.each i h)
           c.loop-at-test.true c.index-preds-at.is
-          (j.each i m ∙ ap (λ (l : List ℕ). joined (is_among l i) c.loop-at.at (get_or c.loop-at.succs.items i [])) c.as_slice.ensures);
+          (j.each i m ∙ ap (λ (l : List ℕ). joined (is_among l i) c.loop-at.at (get_or c.loop-at.succs.items i []))
+          c.as_slice.ensures);
     }

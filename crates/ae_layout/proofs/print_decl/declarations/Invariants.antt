@@ -5,4 +5,5 @@ use Rattle.ae_layout.proofs.print_decl.declarations.Given as goal
 
 -- what is written and what is left are together the whole
 abbrev pub invariant-loop-decl : goal.invariant-loop-decl
-invariant-loop-decl l = l.initial.out.items ++ rows_text (decls_rows (code l.program) l.program.decls) ≡ l.out.items ++ rows_text (decls_rows (code l.program) (drop l.decl-index l.decl-items))
+invariant-loop-decl l = l.initial.out.items ++ rows_text (decls_rows (code l.program) l.program.decls) ≡ l.out.items
+    ++ rows_text (decls_rows (code l.program) (drop l.decl-index l.decl-items))

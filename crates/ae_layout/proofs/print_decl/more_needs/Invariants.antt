@@ -5,4 +5,5 @@ use Rattle.ae_layout.proofs.print_decl.more_needs.Given as goal
 
 -- what is written and what is left are together the whole
 abbrev pub invariant-loop-item : goal.invariant-loop-item
-invariant-loop-item l = l.initial.out.items ++ tokens_text (after_commas (need_tokens l.names false) l.list) ≡ l.out.items ++ tokens_text (after_commas (need_tokens l.names false) (drop l.item-index l.list))
+invariant-loop-item l = l.initial.out.items ++ tokens_text (after_commas (need_tokens l.names false) l.list)
+    ≡ l.out.items ++ tokens_text (after_commas (need_tokens l.names false) (drop l.item-index l.list))

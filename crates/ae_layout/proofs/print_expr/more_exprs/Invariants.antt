@@ -6,4 +6,6 @@ use Rattle.ae_layout.proofs.print_expr.more_exprs.Given as goal
 
 -- what is written and what is left are together the whole
 abbrev pub invariant-loop-item : goal.invariant-loop-item
-invariant-loop-item l = l.initial.out.items ++ tokens_text (after_commas (expression_tokens l.names false) (map expression l.list)) ≡ l.out.items ++ tokens_text (after_commas (expression_tokens l.names false) (map expression (drop l.item-index l.list)))
+invariant-loop-item l = l.initial.out.items
+    ++ tokens_text (after_commas (expression_tokens l.names false) (map expression l.list)) ≡ l.out.items
+    ++ tokens_text (after_commas (expression_tokens l.names false) (map expression (drop l.item-index l.list)))

@@ -5,4 +5,6 @@ use Rattle.ae_layout.proofs.print_stmt.+lines.Given as goal
 
 -- what is written and what is left are together the whole
 abbrev pub invariant-braces-loop-stmt : goal.invariant-braces-loop-stmt
-invariant-braces-loop-stmt l = l.initial.out.items ++ rows_text (rows l.names (indented_more l.indent) (braced l.block).lines) ≡ l.out.items ++ rows_text (rows l.names (indented_more l.indent) (lines_from (drop l.stmt-index l.stmt-items)))
+invariant-braces-loop-stmt l = l.initial.out.items
+    ++ rows_text (rows l.names (indented_more l.indent) (braced l.block).lines) ≡ l.out.items
+    ++ rows_text (rows l.names (indented_more l.indent) (lines_from (drop l.stmt-index l.stmt-items)))

@@ -7,4 +7,5 @@ pub returns-clause-ends : goal.returns-clause-ends
 unfolding today_seq
 returns-clause-ends c =
     let p = code c.args.program.now in
-    ending_some c.run_main.result (today_seq p c.args.ints.now c.args.fuel).ending c.run_main.ensures.ending (program_ends p c.requires.accepted c.args.ints.now c.args.fuel)
+    ending_some c.run_main.result (today_seq p c.args.ints.now c.args.fuel).ending c.run_main.ensures.ending
+    (program_ends p c.requires.accepted c.args.ints.now c.args.fuel)

@@ -8,7 +8,9 @@ pub method-requires : goal.method-requires
 method-requires c = omega (arith, c.requires.methods)
 
 pub returns-in_err-method : goal.returns-in_err-method
-returns-in_err-method c = leaves_one method_behind _ _ _ _ _ (method_fails (length c.args.parts.now.classes) (length c.args.parts.now.methods) _ _ c.in_err-method.ensures) c.from_residual.ensures.1
+returns-in_err-method c = leaves_one method_behind _ _ _ _ _
+    (method_fails (length c.args.parts.now.classes) (length c.args.parts.now.methods) _ _ c.in_err-method.ensures)
+    c.from_residual.ensures.1
 
 pub returns : goal.returns
 returns c =

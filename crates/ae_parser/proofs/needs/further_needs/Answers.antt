@@ -10,13 +10,16 @@ pub needs-init : goal.needs-init
 needs-init c = loop_start (further need) Opening _ _ c.new-needs.ensures
 
 pub returns-in_err-need : goal.returns-in_err-need
-returns-in_err-need c = exits itself (one_by_one (further need)) Free Opening _ _ _ (loop_failed (further need) Opening _ _ _ _ (comma_or_brace _ c.needs-test.ensures) c.needs.invariant c.in_err-need.ensures) c.from_residual.ensures.1
+returns-in_err-need c = exits itself (one_by_one (further need)) Free Opening _ _ _
+    (loop_failed (further need) Opening _ _ _ _ (comma_or_brace _ c.needs-test.ensures) c.needs.invariant
+    c.in_err-need.ensures) c.from_residual.ensures.1
 
 pub needs-smaller : goal.needs-smaller
 needs-smaller c = mark_smaller Comma need Free Always _ _ _ c.in_ok-need.ensures
 
 pub needs-preserved : goal.needs-preserved
-needs-preserved c = loop_more (further need) Opening _ _ _ _ _ _ (comma_or_brace _ c.needs-test.ensures) c.in_ok-push.ensures.ok c.needs.invariant c.in_ok-need.ensures
+needs-preserved c = loop_more (further need) Opening _ _ _ _ _ _ (comma_or_brace _ c.needs-test.ensures)
+    c.in_ok-push.ensures.ok c.needs.invariant c.in_ok-need.ensures
 
 pub returns : goal.returns
 returns c = commas_end need Opening _ _ _ c.needs-test.ensures c.needs.invariant

@@ -7,10 +7,19 @@ use Rattle.ae_parser.proofs.MethodLemmas.{need_there, need_left}
 use Rattle.ae_parser.proofs.needs.need.Goals as goal
 
 pub returns-then-is_word_next : goal.returns-then-is_word_next
-returns-then-is_word_next c = passes itself (need_by _) need Free Free Always Always _ _ _ (λ x rest s. took_as need (need_by _) (λ q. q) (need_there word.Exclusive _ c.if-is_word_next.ensures) s) (λ e s. failed_as need (need_by _) (λ q. q) (need_there word.Exclusive _ c.if-is_word_next.ensures) s) c.need_by.ensures
+returns-then-is_word_next c = passes itself (need_by _) need Free Free Always Always _ _ _
+    (λ x rest s. took_as need (need_by _) (λ q. q) (need_there word.Exclusive _ c.if-is_word_next.ensures) s)
+    (λ e s. failed_as need (need_by _) (λ q. q) (need_there word.Exclusive _ c.if-is_word_next.ensures) s)
+    c.need_by.ensures
 
 pub returns-then-is_word_next-2 : goal.returns-then-is_word_next-2
-returns-then-is_word_next-2 c = passes itself (need_by _) need Free Free Always Always _ _ _ (λ x rest s. took_as need (need_by _) (λ q. q) (need_there word.Shared _ c.if-is_word_next-2.ensures) s) (λ e s. failed_as need (need_by _) (λ q. q) (need_there word.Shared _ c.if-is_word_next-2.ensures) s) c.need_by-then-is_word_next-2.ensures
+returns-then-is_word_next-2 c = passes itself (need_by _) need Free Free Always Always _ _ _
+    (λ x rest s. took_as need (need_by _) (λ q. q) (need_there word.Shared _ c.if-is_word_next-2.ensures) s)
+    (λ e s. failed_as need (need_by _) (λ q. q) (need_there word.Shared _ c.if-is_word_next-2.ensures) s)
+    c.need_by-then-is_word_next-2.ensures
 
 pub returns-else-is_word_next-2 : goal.returns-else-is_word_next-2
-returns-else-is_word_next-2 c = passes itself (need_by _) need Free Free Always Always _ _ _ (λ x rest s. took_as need (need_by _) (λ q. q) (need_left _ c.if-is_word_next.ensures c.if-is_word_next-2.ensures) s) (λ e s. failed_as need (need_by _) (λ q. q) (need_left _ c.if-is_word_next.ensures c.if-is_word_next-2.ensures) s) c.need_by-else-is_word_next-2.ensures
+returns-else-is_word_next-2 c = passes itself (need_by _) need Free Free Always Always _ _ _
+    (λ x rest s. took_as need (need_by _) (λ q. q) (need_left _ c.if-is_word_next.ensures c.if-is_word_next-2.ensures)
+    s) (λ e s. failed_as need (need_by _) (λ q. q) (need_left _ c.if-is_word_next.ensures c.if-is_word_next-2.ensures)
+    s) c.need_by-else-is_word_next-2.ensures

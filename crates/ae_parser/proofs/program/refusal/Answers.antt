@@ -6,4 +6,5 @@ bounds-tokens-tokens c = left_index c.args.why c.args.tokens.now c.args.left c.r
 
 pub returns : goal.returns
 returns c =
-    refused_at c.args.why c.args.tokens.now c.args.left c.index-tokens-tokens.result c.broken_rule.result c.requires.refused c.requires.whole c.index-tokens-tokens.is c.broken_rule.ensures
+    refused_at c.args.why c.args.tokens.now c.args.left c.index-tokens-tokens.result c.broken_rule.result
+    c.requires.refused c.requires.whole c.index-tokens-tokens.is c.broken_rule.ensures

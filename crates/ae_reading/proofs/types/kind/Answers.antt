@@ -9,10 +9,15 @@ use Rattle.ae_reading.proofs.TypeLemmas.{NoLess, ints_when, class_along}
 use Rattle.ae_reading.proofs.types.kind.Goals as goal
 
 pub returns-in_err-at : goal.returns-in_err-at
-returns-in_err-at c = exits itself kind Free NoLess _ _ _ (failed_when kind (Token (tok.Word word.Ints)) kind_at.Ints (ints_when _ c.if-is_word_next.ensures) c.in_err-at.ensures) c.from_residual.ensures.1
+returns-in_err-at c = exits itself kind Free NoLess _ _ _
+    (failed_when kind (Token (tok.Word word.Ints)) kind_at.Ints (ints_when _ c.if-is_word_next.ensures)
+    c.in_err-at.ensures) c.from_residual.ensures.1
 
 pub returns-in_ok-at : goal.returns-in_ok-at
-returns-in_ok-at c = took_when kind (Token (tok.Word word.Ints)) kind_at.Ints (ints_when _ c.if-is_word_next.ensures) c.in_ok-at.ensures
+returns-in_ok-at c = took_when kind (Token (tok.Word word.Ints)) kind_at.Ints (ints_when _ c.if-is_word_next.ensures)
+    c.in_ok-at.ensures
 
 pub returns-else-is_word_next : goal.returns-else-is_word_next
-returns-else-is_word_next c = passes itself class kind Free Free NoLess NoLess _ _ _ (λ x rest s. took_as kind class (λ q. q) (class_along _ c.if-is_word_next.ensures) s) (λ e s. failed_as kind class (λ q. q) (class_along _ c.if-is_word_next.ensures) s) c.class.ensures
+returns-else-is_word_next c = passes itself class kind Free Free NoLess NoLess _ _ _
+    (λ x rest s. took_as kind class (λ q. q) (class_along _ c.if-is_word_next.ensures) s)
+    (λ e s. failed_as kind class (λ q. q) (class_along _ c.if-is_word_next.ensures) s) c.class.ensures

@@ -9,22 +9,36 @@ use Rattle.ae_reading.proofs.TypeLemmas.{unique_along, immutable_along, lent_alo
 use Rattle.ae_reading.proofs.types.permission.Goals as goal
 
 pub returns-in_err-at : goal.returns-in_err-at
-returns-in_err-at c = exits itself permission Free Always _ _ _ (failed_as permission (Token (tok.Word word.Unique)) perm_at.Unique (unique_along _ c.if-is_word_next.ensures) c.in_err-at.ensures) c.from_residual.ensures.1
+returns-in_err-at c = exits itself permission Free Always _ _ _
+    (failed_as permission (Token (tok.Word word.Unique)) perm_at.Unique (unique_along _ c.if-is_word_next.ensures)
+    c.in_err-at.ensures) c.from_residual.ensures.1
 
 pub returns-in_ok-at : goal.returns-in_ok-at
-returns-in_ok-at c = took_as permission (Token (tok.Word word.Unique)) perm_at.Unique (unique_along _ c.if-is_word_next.ensures) c.in_ok-at.ensures
+returns-in_ok-at c = took_as permission (Token (tok.Word word.Unique)) perm_at.Unique
+    (unique_along _ c.if-is_word_next.ensures) c.in_ok-at.ensures
 
 pub returns-in_err-at-2 : goal.returns-in_err-at-2
-returns-in_err-at-2 c = exits itself permission Free Always _ _ _ (failed_as permission (Token (tok.Word word.Immutable)) perm_at.Immutable (immutable_along _ c.if-is_word_next-2.ensures) c.in_err-at-2.ensures) c.from_residual-in_err-at-2.ensures.1
+returns-in_err-at-2 c = exits itself permission Free Always _ _ _
+    (failed_as permission (Token (tok.Word word.Immutable)) perm_at.Immutable
+    (immutable_along _ c.if-is_word_next-2.ensures) c.in_err-at-2.ensures) c.from_residual-in_err-at-2.ensures.1
 
 pub returns-in_ok-at-2 : goal.returns-in_ok-at-2
-returns-in_ok-at-2 c = took_as permission (Token (tok.Word word.Immutable)) perm_at.Immutable (immutable_along _ c.if-is_word_next-2.ensures) c.in_ok-at-2.ensures
+returns-in_ok-at-2 c = took_as permission (Token (tok.Word word.Immutable)) perm_at.Immutable
+    (immutable_along _ c.if-is_word_next-2.ensures) c.in_ok-at-2.ensures
 
 pub returns-in_err-at-3 : goal.returns-in_err-at-3
-returns-in_err-at-3 c = exits itself permission Free Always _ _ _ (failed_as permission (Token (tok.Word word.Lent)) perm_at.Lent (lent_along _ c.if-is_word_next-3.ensures) c.in_err-at-3.ensures) c.from_residual-in_err-at-3.ensures.1
+returns-in_err-at-3 c = exits itself permission Free Always _ _ _
+    (failed_as permission (Token (tok.Word word.Lent)) perm_at.Lent (lent_along _ c.if-is_word_next-3.ensures)
+    c.in_err-at-3.ensures) c.from_residual-in_err-at-3.ensures.1
 
 pub returns-in_ok-at-3 : goal.returns-in_ok-at-3
-returns-in_ok-at-3 c = took_as permission (Token (tok.Word word.Lent)) perm_at.Lent (lent_along _ c.if-is_word_next-3.ensures) c.in_ok-at-3.ensures
+returns-in_ok-at-3 c = took_as permission (Token (tok.Word word.Lent)) perm_at.Lent
+    (lent_along _ c.if-is_word_next-3.ensures) c.in_ok-at-3.ensures
 
 pub returns-else-is_word_next-3 : goal.returns-else-is_word_next-3
-returns-else-is_word_next-3 c = passes itself shared_permission permission Free Free Always Always _ _ _ (λ x rest s. took_as permission shared_permission (λ q. q) (shared_along _ c.if-is_word_next.ensures c.if-is_word_next-2.ensures c.if-is_word_next-3.ensures) s) (λ e s. failed_as permission shared_permission (λ q. q) (shared_along _ c.if-is_word_next.ensures c.if-is_word_next-2.ensures c.if-is_word_next-3.ensures) s) c.shared.ensures
+returns-else-is_word_next-3 c = passes itself shared_permission permission Free Free Always Always _ _ _
+    (λ x rest s. took_as permission shared_permission (λ q. q)
+    (shared_along _ c.if-is_word_next.ensures c.if-is_word_next-2.ensures c.if-is_word_next-3.ensures) s)
+    (λ e s. failed_as permission shared_permission (λ q. q)
+    (shared_along _ c.if-is_word_next.ensures c.if-is_word_next-2.ensures c.if-is_word_next-3.ensures) s)
+    c.shared.ensures

@@ -5,4 +5,7 @@ use Rattle.ae_statements.proofs.blocks.simple.Goals as goal
 
 pub returns : goal.returns
 returns c = λ n levels. refuses shown_stmt (stmt n) (KeepsStmt levels) NoElse _ _ c.unexpected.ensures
-    (stmt_refused n levels c.args.ts.now (no_words _ c.requires c.if-is_word_next.ensures c.if-is_word_next-2.ensures c.if-is_word_next-3.ensures c.if-is_word_next-4.ensures c.if-is_word_next-5.ensures c.if-is_word_next-6.ensures c.if-is_root_next.ensures))
+    (stmt_refused n levels c.args.ts.now
+    (no_words _ c.requires c.if-is_word_next.ensures c.if-is_word_next-2.ensures c.if-is_word_next-3.ensures
+    c.if-is_word_next-4.ensures c.if-is_word_next-5.ensures c.if-is_word_next-6.ensures
+    c.if-is_root_next.ensures))

@@ -12,13 +12,15 @@ pub more-init : goal.more-init
 more-init c = arguments_start _ _ c.new-args.ensures
 
 pub returns-in_err-arg : goal.returns-in_err-arg
-returns-in_err-arg c = exits (map shown.expression) (one_by_one (further whole_expression)) AllKeepDepth Closed _ _ _ (arguments_failed _ _ _ _ c.more-test.ensures c.more.invariant c.in_err-arg.ensures) c.from_residual.ensures.1
+returns-in_err-arg c = exits (map shown.expression) (one_by_one (further whole_expression)) AllKeepDepth Closed _ _ _
+    (arguments_failed _ _ _ _ c.more-test.ensures c.more.invariant c.in_err-arg.ensures) c.from_residual.ensures.1
 
 pub more-smaller : goal.more-smaller
 more-smaller c = mark_smaller Comma whole_expression KeepsDepth (Ends 0) _ _ _ c.in_ok-arg.ensures
 
 pub more-preserved : goal.more-preserved
-more-preserved c = arguments_more _ _ _ _ _ _ c.more-test.ensures c.in_ok-push.ensures.ok c.more.invariant c.in_ok-arg.ensures
+more-preserved c = arguments_more _ _ _ _ _ _ c.more-test.ensures c.in_ok-push.ensures.ok c.more.invariant
+    c.in_ok-arg.ensures
 
 pub returns : goal.returns
 returns c = arguments_end _ _ _ c.more-test.ensures c.more.invariant

@@ -5,7 +5,9 @@ pub returns-in_default : goal.returns-in_default
 returns-in_default c = name_none _ c.in_default.ensures
 
 pub returns-then-follows_compared : goal.returns-then-follows_compared
-returns-then-follows_compared c = name_value _ _ _ c.in-Some.ensures c.if-follows_group.ensures c.if-follows_compared.ensures
+returns-then-follows_compared c = name_value _ _ _ c.in-Some.ensures c.if-follows_group.ensures
+    c.if-follows_compared.ensures
 
 pub returns-else-follows_compared : goal.returns-else-follows_compared
-returns-else-follows_compared c = name_neither _ _ _ c.in-Some.ensures c.if-follows_group.ensures c.if-follows_compared.ensures
+returns-else-follows_compared c = name_neither _ _ _ c.in-Some.ensures c.if-follows_group.ensures
+    c.if-follows_compared.ensures

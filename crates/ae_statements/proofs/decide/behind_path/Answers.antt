@@ -8,10 +8,13 @@ pub returns-then-is_sign_next : goal.returns-then-is_sign_next
 returns-then-is_sign_next c = path_dot _ _ _ c.in-Some.ensures c.if-is_sign_next.ensures
 
 pub returns-then-is_sign_next-3 : goal.returns-then-is_sign_next-3
-returns-then-is_sign_next-3 c = path_less _ _ _ _ c.in-Some.ensures c.if-is_sign_next.ensures c.if-is_sign_next-3.ensures c.behind_less.ensures
+returns-then-is_sign_next-3 c = path_less _ _ _ _ c.in-Some.ensures c.if-is_sign_next.ensures
+    c.if-is_sign_next-3.ensures c.behind_less.ensures
 
 pub returns-then-follows_path : goal.returns-then-follows_path
-returns-then-follows_path c = path_value _ _ _ c.in-Some.ensures c.if-is_sign_next.ensures c.if-is_sign_next-2.ensures c.if-is_sign_next-3.ensures c.if-follows_path.ensures
+returns-then-follows_path c = path_value _ _ _ c.in-Some.ensures c.if-is_sign_next.ensures c.if-is_sign_next-2.ensures
+    c.if-is_sign_next-3.ensures c.if-follows_path.ensures
 
 pub returns-else-follows_path : goal.returns-else-follows_path
-returns-else-follows_path c = path_neither _ _ _ c.in-Some.ensures c.if-is_sign_next.ensures c.if-is_sign_next-2.ensures c.if-is_sign_next-3.ensures c.if-follows_path.ensures
+returns-else-follows_path c = path_neither _ _ _ c.in-Some.ensures c.if-is_sign_next.ensures
+    c.if-is_sign_next-2.ensures c.if-is_sign_next-3.ensures c.if-follows_path.ensures

@@ -6,7 +6,8 @@ pub returns-in_default : goal.returns-in_default
 returns-in_default c = from_none _ c.requires c.in_default.ensures
 
 pub returns-then-is_name_next : goal.returns-then-is_name_next
-returns-then-is_name_next c = from_name _ _ _ _ _ c.in-Some.ensures c.if-is_name_next.ensures c.behind_steps.ensures c.behind_path.ensures
+returns-then-is_name_next c = from_name _ _ _ _ _ c.in-Some.ensures c.if-is_name_next.ensures c.behind_steps.ensures
+    c.behind_path.ensures
 
 pub returns-then-is_word_next : goal.returns-then-is_word_next
 returns-then-is_word_next c = from_this _ _ _ _ c.in-Some.ensures c.if-is_word_next.ensures c.behind_this.ensures

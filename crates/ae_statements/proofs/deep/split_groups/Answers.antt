@@ -7,10 +7,12 @@ use Rattle.ae_statements.proofs.DeepLemmas.{split_took, split_first, split_secon
 use Rattle.ae_statements.proofs.deep.split_groups.Goals as goal
 
 pub returns-in_err-at : goal.returns-in_err-at
-returns-in_err-at c = exits itself split_groups Free (Isnt (tok.Sign sign.Comma)) _ _ _ (split_first c.in_err-at.ensures) c.from_residual.ensures.1
+returns-in_err-at c = exits itself split_groups Free (Isnt (tok.Sign sign.Comma)) _ _ _
+    (split_first c.in_err-at.ensures) c.from_residual.ensures.1
 
 pub returns-in_err-groups : goal.returns-in_err-groups
-returns-in_err-groups c = exits itself split_groups Free (Isnt (tok.Sign sign.Comma)) _ _ _ (split_second c.in_ok-at.ensures c.in_err-groups.ensures) c.from_residual-in_err-groups.ensures.1
+returns-in_err-groups c = exits itself split_groups Free (Isnt (tok.Sign sign.Comma)) _ _ _
+    (split_second c.in_ok-at.ensures c.in_err-groups.ensures) c.from_residual-in_err-groups.ensures.1
 
 pub returns : goal.returns
 returns c = split_took c.in_ok-at.ensures c.in_ok-groups.ensures

@@ -7,13 +7,17 @@ use Rattle.ae_statements.specs.Productions.{shown_tail, action_of}
 use Rattle.ae_statements.proofs.led.kind_of.Goals as goal
 
 pub returns-in-Assign : goal.returns-in-Assign
-returns-in-Assign c = let P : Tail → Action = λ t. action_of c.args.path (shown_tail t) in action-Assign _ _ ∙ ap P (sym c.in-Assign.is)
+returns-in-Assign c = let P : Tail → Action = λ t. action_of c.args.path (shown_tail t) in action-Assign _ _
+    ∙ ap P (sym c.in-Assign.is)
 
 pub returns-in-Field : goal.returns-in-Field
-returns-in-Field c = let P : Tail → Action = λ t. action_of c.args.path (shown_tail t) in action-Field _ _ ∙ ap P (sym c.in-Field.is)
+returns-in-Field c = let P : Tail → Action = λ t. action_of c.args.path (shown_tail t) in action-Field _ _
+    ∙ ap P (sym c.in-Field.is)
 
 pub returns-in-Index : goal.returns-in-Index
-returns-in-Index c = let P : Tail → Action = λ t. action_of c.args.path (shown_tail t) in action-Index _ _ _ ∙ ap P (sym c.in-Index.is)
+returns-in-Index c = let P : Tail → Action = λ t. action_of c.args.path (shown_tail t) in action-Index _ _ _
+    ∙ ap P (sym c.in-Index.is)
 
 pub returns-in-Call : goal.returns-in-Call
-returns-in-Call c = let P : Tail → Action = λ t. action_of c.args.path (shown_tail t) in action-Call _ ∙ ap Calls c.invoke.ensures ∙ ap P (sym c.in-Call.is)
+returns-in-Call c = let P : Tail → Action = λ t. action_of c.args.path (shown_tail t) in action-Call _
+    ∙ ap Calls c.invoke.ensures ∙ ap P (sym c.in-Call.is)

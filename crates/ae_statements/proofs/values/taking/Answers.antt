@@ -9,13 +9,23 @@ use Rattle.ae_statements.proofs.MadeLemmas.{taking, taken, take_along, ended_mem
 use Rattle.ae_statements.proofs.values.taking.Goals as goal
 
 pub returns-in_err-at : goal.returns-in_err-at
-returns-in_err-at c = exits shown.right_side (with_semicolon right_of_equals) KeepsRight Always _ _ _ (failed_as (with_semicolon right_of_equals) taking taken (take_along _ c.requires) (first (free (with_semicolon member) Always) ended_member c.in_err-at.ensures)) c.from_residual.ensures.1
+returns-in_err-at c = exits shown.right_side (with_semicolon right_of_equals) KeepsRight Always _ _ _
+    (failed_as (with_semicolon right_of_equals) taking taken (take_along _ c.requires)
+    (first (free (with_semicolon member) Always) ended_member c.in_err-at.ensures)) c.from_residual.ensures.1
 
 pub returns-in_err-path : goal.returns-in_err-path
-returns-in_err-path c = exits shown.right_side (with_semicolon right_of_equals) KeepsRight Always _ _ _ (failed_as (with_semicolon right_of_equals) taking taken (take_along _ c.requires) (second (free (with_semicolon member) Always) c.in_ok-at.ensures (suf_first member no_dot tt c.in_err-path.ensures))) c.from_residual-in_err-path.ensures.1
+returns-in_err-path c = exits shown.right_side (with_semicolon right_of_equals) KeepsRight Always _ _ _
+    (failed_as (with_semicolon right_of_equals) taking taken (take_along _ c.requires)
+    (second (free (with_semicolon member) Always) c.in_ok-at.ensures
+    (suf_first member no_dot tt c.in_err-path.ensures))) c.from_residual-in_err-path.ensures.1
 
 pub returns-in_err-rest : goal.returns-in_err-rest
-returns-in_err-rest c = exits shown.right_side (with_semicolon right_of_equals) KeepsRight Always _ _ _ (failed_as (with_semicolon right_of_equals) taking taken (take_along _ c.requires) (second (free (with_semicolon member) Always) c.in_ok-at.ensures (suf_second member no_dot c.in_ok-path.ensures c.in_err-rest.ensures))) c.from_residual-in_err-rest.ensures.1
+returns-in_err-rest c = exits shown.right_side (with_semicolon right_of_equals) KeepsRight Always _ _ _
+    (failed_as (with_semicolon right_of_equals) taking taken (take_along _ c.requires)
+    (second (free (with_semicolon member) Always) c.in_ok-at.ensures
+    (suf_second member no_dot c.in_ok-path.ensures c.in_err-rest.ensures))) c.from_residual-in_err-rest.ensures.1
 
 pub returns : goal.returns
-returns c = took_as (with_semicolon right_of_equals) taking taken (take_along _ c.requires) (both (free (with_semicolon member) Always) c.in_ok-at.ensures (took_suf member no_dot c.in_ok-path.ensures c.in_ok-rest.ensures))
+returns c = took_as (with_semicolon right_of_equals) taking taken (take_along _ c.requires)
+    (both (free (with_semicolon member) Always) c.in_ok-at.ensures
+    (took_suf member no_dot c.in_ok-path.ensures c.in_ok-rest.ensures))

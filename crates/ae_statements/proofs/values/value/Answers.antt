@@ -8,7 +8,9 @@ use Rattle.ae_statements.proofs.ValueLemmas.{value_took, value_failed}
 use Rattle.ae_statements.proofs.values.value.Goals as goal
 
 pub returns-in-Err : goal.returns-in-Err
-returns-in-Err c = let P : Fail → Type 0 = Failed (with_semicolon right_of_equals) KeepsRight Always c.args.ts.now in subst P (sym c.no_earlier.ensures) (value_failed _ _ _ c.requires c.in-Err.ensures)
+returns-in-Err c = let P : Fail
+    → Type 0 = Failed (with_semicolon right_of_equals) KeepsRight Always c.args.ts.now in subst P
+    (sym c.no_earlier.ensures) (value_failed _ _ _ c.requires c.in-Err.ensures)
 
 pub returns : goal.returns
 returns c = value_took _ _ _ c.in-Ok.ensures

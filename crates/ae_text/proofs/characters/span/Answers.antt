@@ -5,7 +5,10 @@ pub span-init : goal.span-init
 span-init c = (c.utf8.text, run_start _ _)
 
 pub span-preserved : goal.span-preserved
-span-preserved c = (front_utf8 _ _ _ c.in-Some.ensures.front c.span.invariant.0, run_more _ _ _ _ c.span.invariant.1 c.in-Some.ensures)
+span-preserved c = (
+  front_utf8 _ _ _ c.in-Some.ensures.front c.span.invariant.0,
+  run_more _ _ _ _ c.span.invariant.1 c.in-Some.ensures,
+)
 
 pub span-smaller : goal.span-smaller
 span-smaller c = run_smaller _ _ _ c.in-Some.ensures

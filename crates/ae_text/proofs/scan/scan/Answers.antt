@@ -4,14 +4,18 @@ use Rattle.ae_text.specs.declared.token.Token.{Token}
 use Rattle.ae_text.specs.declared.refusal.Deny.{Deny}
 use Rattle.ae_text.specs.Tokens.{Lexes, IsTextDenied, spot_after}
 use Rattle.ae_text.specs.Scan.{denied}
-use Rattle.ae_text.proofs.CutLemmas.{scanned_end, scanned_next, scanned_place, scanned_denied, scanned_refused, cuts_smaller, cuts_utf8}
+use Rattle.ae_text.proofs.CutLemmas.{scanned_end, scanned_next, scanned_place, scanned_denied, scanned_refused}
+use Rattle.ae_text.proofs.CutLemmas.{cuts_smaller, cuts_utf8}
 use Rattle.ae_text.proofs.scan.scan.Goals as goal
 
 pub pieces-preserved : goal.pieces-preserved
 pieces-preserved c =
     let size : ℕ = length c.pieces.rest.now - length c.in-Ok.after.now in
-    let spot = c.advance-spot.ensures ∙ ap (λ r. spot_after c.pieces.spot (take size r)) c.as_bytes.ensures.value in
-    (cuts_utf8 _ _ _ c.in-Ok.ensures c.pieces.invariant.0, scanned_next _ _ _ _ _ _ _ _ c.pieces.invariant.1 c.in-Ok.ensures spot c.in_ok-push_token-in-Ok.ensures)
+    let spot = c.advance-spot.ensures ∙ ap (λ r. spot_after c.pieces.spot (take size r)) c.as_bytes.ensures.value in (
+      cuts_utf8 _ _ _ c.in-Ok.ensures c.pieces.invariant.0,
+      scanned_next _ _ _ _ _ _ _ _ c.pieces.invariant.1
+          c.in-Ok.ensures spot c.in_ok-push_token-in-Ok.ensures,
+    )
 
 pub pieces-smaller : goal.pieces-smaller
 pieces-smaller c = cuts_smaller _ _ _ c.in-Ok.ensures
@@ -19,12 +23,26 @@ pieces-smaller c = cuts_smaller _ _ _ c.in-Ok.ensures
 pub advance-spot-requires-clause-line : goal.advance-spot-requires-clause-line
 advance-spot-requires-clause-line c =
     let p = scanned_place _ _ _ _ c.pieces.invariant.1 in
-    omega (arith, p.0, c.requires, length-take (length c.pieces.rest.now - length c.in-Ok.after.now) c.as_bytes.result.now, ap length c.as_bytes.ensures.value)
+    omega (
+      arith,
+      p.0,
+      c.requires,
+      length-take (length c.pieces.rest.now - length c.in-Ok.after.now)
+          c.as_bytes.result.now,
+      ap length c.as_bytes.ensures.value,
+    )
 
 pub advance-spot-requires-clause-col : goal.advance-spot-requires-clause-col
 advance-spot-requires-clause-col c =
     let p = scanned_place _ _ _ _ c.pieces.invariant.1 in
-    omega (arith, p.1, c.requires, length-take (length c.pieces.rest.now - length c.in-Ok.after.now) c.as_bytes.result.now, ap length c.as_bytes.ensures.value)
+    omega (
+      arith,
+      p.1,
+      c.requires,
+      length-take (length c.pieces.rest.now - length c.in-Ok.after.now)
+          c.as_bytes.result.now,
+      ap length c.as_bytes.ensures.value,
+    )
 
 pub advance-spot-requires-clause-first : goal.advance-spot-requires-clause-first
 advance-spot-requires-clause-first c = (scanned_place _ _ _ _ c.pieces.invariant.1).2
@@ -50,7 +68,8 @@ returns-in-Err-clause-refused c =
 
 pub returns-in-Err-clause-only : goal.returns-in-Err-clause-only
 returns-in-Err-clause-only c = λ tokens l.
-    c.deny.ensures ∙ ap (λ r. denied c.in-Err.fault r c.pieces.spot) c.as_bytes-in-Err.ensures.value ∙ scanned_refused _ _ _ _ tokens _ c.pieces.invariant.1 c.in-Err.ensures l
+    c.deny.ensures ∙ ap (λ r. denied c.in-Err.fault r c.pieces.spot) c.as_bytes-in-Err.ensures.value
+    ∙ scanned_refused _ _ _ _ tokens _ c.pieces.invariant.1 c.in-Err.ensures l
 
 pub returns-clause-ok : goal.returns-clause-ok
 returns-clause-ok c =

@@ -6,4 +6,5 @@ use Rattle.aem.proofs.names.first_broken.Given as goal
 
 -- the rest is judged from here as all is from the beginning
 abbrev pub invariant-loop-stmt : goal.invariant-loop-stmt
-invariant-loop-stmt l = judge (lines_from l.stmts) nobody ≡ judge (lines_from (drop l.stmt-index l.stmts)) (scope l.seen)
+invariant-loop-stmt l = judge (lines_from l.stmts) nobody ≡ judge (lines_from (drop l.stmt-index l.stmts))
+    (scope l.seen)

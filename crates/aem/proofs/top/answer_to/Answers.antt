@@ -10,20 +10,23 @@ done-requires-clause-source g c κs within = (c.args.text.now, c.in-Ok.ensures.o
 
 pub done-requires-clause-accepted : goal.done-requires-clause-accepted
 done-requires-clause-accepted g c κs within =
-    accepts c.a_built_program_declares_one_method.ensures c.todays_judgement_is_a_case.ensures c.args.text.now (code c.in-Ok.program) c.in-Ok.ensures.ok
+    accepts c.a_built_program_declares_one_method.ensures c.todays_judgement_is_a_case.ensures c.args.text.now
+    (code c.in-Ok.program) c.in-Ok.ensures.ok
     c.if-not-is_built.ensures (lines_from c.body_of.result.now) c.body_of.ensures
     (subst (FoundIn (judge (lines_from c.body_of.result.now) nobody)) c.in-Ok-None.field-0-is c.in-Ok-None.ensures)
 
 pub returns-in-Ok-None : goal.returns-in-Ok-None
 returns-in-Ok-None g c =
     answered c.args.command c.args.text.now (code c.in-Ok.program) c.in-Ok.ensures.ok c.if-not-is_built.ensures
-    (accepts c.a_built_program_declares_one_method.ensures c.todays_judgement_is_a_case.ensures c.args.text.now (code c.in-Ok.program) c.in-Ok.ensures.ok
+    (accepts c.a_built_program_declares_one_method.ensures c.todays_judgement_is_a_case.ensures c.args.text.now
+    (code c.in-Ok.program) c.in-Ok.ensures.ok
     c.if-not-is_built.ensures (lines_from c.body_of.result.now) c.body_of.ensures
     (subst (FoundIn (judge (lines_from c.body_of.result.now) nobody)) c.in-Ok-None.field-0-is c.in-Ok-None.ensures))
     c.done.result c.done.ensures
 
 pub returns-in-Ok-Some : goal.returns-in-Ok-Some
 returns-in-Ok-Some g c =
-    broken c.a_built_program_declares_one_method.ensures c.todays_judgement_is_a_case.ensures c.args.text.now (code c.in-Ok.program) c.in-Ok.ensures.ok c.if-not-is_built.ensures
+    broken c.a_built_program_declares_one_method.ensures c.todays_judgement_is_a_case.ensures c.args.text.now
+    (code c.in-Ok.program) c.in-Ok.ensures.ok c.if-not-is_built.ensures
     (lines_from c.body_of.result.now) c.body_of.ensures c.in-Ok-Some.refusal
     (subst (FoundIn (judge (lines_from c.body_of.result.now) nobody)) c.in-Ok-Some.field-0-is c.in-Ok-Some.ensures)

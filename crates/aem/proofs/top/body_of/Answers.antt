@@ -5,4 +5,5 @@ use Rattle.aem.proofs.top.body_of.Goals as goal
 pub returns : goal.returns
 returns c =
     one_body c.args.program.now.methods c.main-item.result c.as_slice-in-len1.result.now
-    (omega (arith, ap length c.as_slice.ensures)) (c.main-item.is ∙ ap (λ l. get_or l 0 c.main-item.result) c.as_slice.ensures) c.as_slice-in-len1.ensures
+    (omega (arith, ap length c.as_slice.ensures))
+    (c.main-item.is ∙ ap (λ l. get_or l 0 c.main-item.result) c.as_slice.ensures) c.as_slice-in-len1.ensures

@@ -10,7 +10,8 @@ pub graph_text-requires-clause-accepted : goal.graph_text-requires-clause-accept
 graph_text-requires-clause-accepted g c =
     let source = c.requires.source in
     accepted c.todays_judgement_is_a_case.ensures (code c.args.program.now) c.requires.built
-    (declares c.a_built_program_declares_one_method.ensures source.0 (code c.args.program.now) source.1 c.requires.built) c.requires.accepted
+    (declares c.a_built_program_declares_one_method.ensures source.0 (code c.args.program.now) source.1
+    c.requires.built) c.requires.accepted
 
 pub graph_text-requires-clause-within : goal.graph_text-requires-clause-within
 graph_text-requires-clause-within g c = c.requires.source.1.within
@@ -22,24 +23,29 @@ pub run-requires-clause-accepted : goal.run-requires-clause-accepted
 run-requires-clause-accepted g c κs within =
     let source = c.requires.source in
     accepted c.todays_judgement_is_a_case.ensures (code c.args.program.now) c.requires.built
-    (declares c.a_built_program_declares_one_method.ensures source.0 (code c.args.program.now) source.1 c.requires.built) c.requires.accepted
+    (declares c.a_built_program_declares_one_method.ensures source.0 (code c.args.program.now) source.1
+    c.requires.built) c.requires.accepted
 
 pub returns-in-Ok : goal.returns-in-Ok
 returns-in-Ok g c =
     let source = c.requires.source in
     let p : Code = code c.args.program.now in
-    let d : DeclaresOne p = declares c.a_built_program_declares_one_method.ensures source.0 p source.1 c.requires.built in (
+    let d : DeclaresOne p = declares c.a_built_program_declares_one_method.ensures source.0 p source.1
+    c.requires.built in (
       c.in-Graph.is,
       text_is c.todays_uses_are_a_case.ensures c.preds_are_edges.ensures p
           (accepted c.todays_judgement_is_a_case.ensures p c.requires.built d c.requires.accepted)
-          d c.requires.built (names_below c.derived_programs_are_well_shaped.ensures source.1.tokens p source.1.derives c.requires.built) c.in-Ok.text c.in-Ok.ensures,
+          d c.requires.built (names_below c.derived_programs_are_well_shaped.ensures source.1.tokens p
+          source.1.derives c.requires.built) c.in-Ok.text c.in-Ok.ensures,
     )
 
 pub returns-in-Ok-run : goal.returns-in-Ok-run
 returns-in-Ok-run g c =
     let source = c.requires.source in
     let p : Code = code c.args.program.now in
-    let d : DeclaresOne p = declares c.a_built_program_declares_one_method.ensures source.0 p source.1 c.requires.built in (
+    let d : DeclaresOne p = declares c.a_built_program_declares_one_method.ensures source.0 p source.1
+    c.requires.built in (
       c.in-Run.is,
-      meant c.todays_judgement_is_a_case.ensures c.today_is_a_case.ensures p c.requires.built d c.requires.accepted c.in-Ok-run.report c.in-Ok-run.ensures.ending c.in-Ok-run.ensures.out,
+      meant c.todays_judgement_is_a_case.ensures c.today_is_a_case.ensures p c.requires.built d c.requires.accepted
+          c.in-Ok-run.report c.in-Ok-run.ensures.ending c.in-Ok-run.ensures.out,
     )

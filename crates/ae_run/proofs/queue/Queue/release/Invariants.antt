@@ -7,7 +7,8 @@ use Rattle.ae_text.specs.Numbers.{times}
 abbrev pub invariant-loop-succ : goal.invariant-loop-succ
 invariant-loop-succ l = record {
   size : length l.self.waits.items ≡ length l.initial.self.waits.items;
-  waits : (i : ℕ) → waits_of l.self.waits.items i + times i (take l.succ-index l.succs) ≡ waits_of l.initial.self.waits.items i;
+  waits : (i : ℕ) → waits_of l.self.waits.items i + times i (take l.succ-index l.succs)
+      ≡ waits_of l.initial.self.waits.items i;
   ready : (i : ℕ) → times i (heap_items l.self.ready) + zero_as_one (waits_of l.initial.self.waits.items i)
       ≡ times i (heap_items l.initial.self.ready) + zero_as_one (waits_of l.self.waits.items i);
 }
