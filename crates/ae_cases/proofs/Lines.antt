@@ -20,7 +20,8 @@ use Rattle.ae_semantics.specs.Values.{Val, OfInt}
 use Rattle.ae_semantics.specs.Places.{Outcome, Fine, ◌>>=◌, Bound, State, with_bound}
 use Rattle.ae_semantics.specs.Expressions.{value}
 use Rattle.ae_semantics.specs.Contexts.{or_before}
-use Rattle.ae_semantics.specs.Observations.{Piece, Seen, Ran, Notes}
+use Rattle.ae_semantics.specs.declared.report.Piece.{Piece}
+use Rattle.ae_semantics.specs.Observations.{Seen, Ran, Notes}
 use Rattle.ae_semantics.specs.Runs.{Run, Went, Ends, Stops, Act, and_then, outcome_given, marked, logged, Where}
 use Rattle.ae_semantics.specs.Runs.{deeper, knowing, Below}
 use Rattle.ae_semantics.specs.Calls.{without_moved}

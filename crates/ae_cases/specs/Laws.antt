@@ -6,15 +6,16 @@ use Rattle.ae_tree.specs.Judgement.{Accepted}
 use Rattle.ae_meaning.specs.declared.report.Ending as today_ending
 use Rattle.ae_meaning.specs.declared.report.Ending.TheVariants as ends_today
 use Rattle.ae_meaning.specs.Meaning as today
-use Rattle.ae_semantics.specs.Observations as whole_ending
+use Rattle.ae_semantics.specs.declared.report.Ending as whole_ending
+use Rattle.ae_semantics.specs.declared.report.Ending.TheVariants as ends
 use Rattle.ae_semantics.specs.Means as whole
 use Rattle.ae_semantics.specs.Means.{pieces_bytes}
 
 -- an ending of today, as an ending of the whole language
 abbrev pub as_whole : today_ending.Ending → whole_ending.Ending
-as_whole ends_today.Done = whole_ending.Done
-as_whole (ends_today.Trap code at) = whole_ending.Trap code at
-as_whole (ends_today.Fuel at) = whole_ending.Fuel at
+as_whole ends_today.Done = ends.Done
+as_whole (ends_today.Trap code at) = ends.Trap code at
+as_whole (ends_today.Fuel at) = ends.Fuel at
 
 -- the ending and the bytes are those of today, and `io` is not split at the end, so that there are no other bytes
 pub record IsAsToday (m : today.Meaning) (w : whole.Meant) : Type 0 where

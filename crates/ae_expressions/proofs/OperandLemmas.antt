@@ -818,12 +818,7 @@ mark_over m n ts none i =
     let token_is : b.0 ≡ mark_token m b.0.at = ap (λ k. record { kind = k; at = b.0.at }) b.3 in
     let P : Lexeme → Type 0 = λ t. at_level 5 (mark_tree m b.0.at) (t ∷ mark_after m) in
     over_here (Over Depth) (has_at_level 5 n)
-    (λ y us r d h w. omega (
-      arith,
-      mark_counts y m (form_is (start.Counted m) y us r ts b.1 b.0 is b.2 d h),
-      none,
-      w refl,
-    ))
+    (λ y us r d h w. omega (arith, mark_counts y m (form_is (start.Counted m) y us r ts b.1 b.0 is b.2 d h), none, w refl))
     (record {
       next = b.0;
       later = b.1;

@@ -206,15 +206,7 @@ operand_cases n l high (Item p e) us d =
       OfPath,
       (p, Some (tt, (e, tt))),
       refl,
-      record {
-        front = e0.front;
-        back = e0.back;
-        parts = e0.parts;
-        first = e0.first;
-        second =
-            shorter (one_token (tok.Sign sign.OpenBracket)) (one_token (tok.Sign sign.CloseBracket)) n 0 e e0.back
-            (one_long (tok.Sign sign.OpenBracket)) (omega (arith, a, less)) e0.second;
-      },
+      record { front = e0.front; back = e0.back; parts = e0.parts; first = e0.first; second = shorter (one_token (tok.Sign sign.OpenBracket)) (one_token (tok.Sign sign.CloseBracket)) n 0 e e0.back (one_long (tok.Sign sign.OpenBracket)) (omega (arith, a, less)) e0.second },
     )
 operand_cases n l high (Length p at) us d = (OfLength, (at, p), refl, d.1)
 operand_cases n l high (Grouped e at) us d = (

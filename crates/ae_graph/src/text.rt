@@ -77,7 +77,7 @@ fn put_block_head(
     count: usize,
 ) -> Result<(), AllocError>
     ensures { OnOk result (text.new.items ≡ text.old.items
-        ++ (codes "block " ++ decimal number ++ codes " has " ++ decimal statement_count ++ codes "\n")) }
+        ++ (codes "block " ++ decimal number ++ codes " has " ++ decimal count ++ codes "\n")) }
 {
     let head = format!(in alloc; "block {number} has {count}\n")?;
     text.extend_from_slice(head.as_bytes())

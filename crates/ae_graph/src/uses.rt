@@ -11,10 +11,8 @@ ghost use Rattle.ae_graph.specs.Footprint.{written_by, is_written, local_use, Ar
 use crate::rising::rising;
 use ae_rules::{Footprint, Mode, Resource, Use};
 use ae_text::{Items, Memory};
-use ae_tree::{Block, Expr, Name, Program, Rhs, Stmt, StmtAt, StmtKind};
+use ae_tree::{Block, Expr, IO, Name, Program, Rhs, Stmt, StmtAt, StmtKind};
 use std::alloc::{AllocError, Global};
-
-const IO: Name = 0;
 
 /// Whether two uses of a resource may go together: two reads may, and two that share a group.
 pub fn compatible(a: Mode, b: Mode) -> bool

@@ -119,15 +119,15 @@ moves_sign g = moves_mark (tok.Sign g)
 pub moves_word : (w : Keyword) → Moves (a_word w) (λ (y : Unit {0}). a_word w) (λ y. Unit {0})
 moves_word w = moves_mark (tok.Word w)
 
-pub no_tokens : (us vs : Tokens) → kinds us ≡ kinds vs → no_tokens us → no_tokens vs
-no_tokens us [] e d = refl
-no_tokens us (y ∷ vs) e d = let none : [] ≡ y.kind ∷ kinds vs = ap kinds (sym d) ∙ e in absurd (cc)
+pub nothing_stays_nothing : (us vs : Tokens) → kinds us ≡ kinds vs → no_tokens us → no_tokens vs
+nothing_stays_nothing us [] e d = refl
+nothing_stays_nothing us (y ∷ vs) e d = let none : [] ≡ y.kind ∷ kinds vs = ap kinds (sym d) ∙ e in absurd (cc)
 
 -- ---- lists
 
 pub moved_each : {A B : Type 0} (D : Lang A) (bare : A → B) → ((x : A) → Moved D bare x) → (xs : List A)
     → Moved (one_by_one D) (map bare) xs
-moved_each D bare m [] us vs e d = record { y = []; is = no_tokens us vs e d; same = refl }
+moved_each D bare m [] us vs e d = record { y = []; is = nothing_stays_nothing us vs e d; same = refl }
 moved_each D bare m (x ∷ xs) us vs e d =
     let a = moves_then (m x) (moved_each D bare m xs) us vs e d in
     record { y = a.y.0 ∷ a.y.1; is = a.is; same = ap2 (λ z zs. z ∷ zs) a.same.0 a.same.1 }
@@ -147,7 +147,7 @@ moved_separated D bare m (x ∷ xs) us vs e d =
 
 pub moved_listed : {A B : Type 0} (D : Lang A) (bare : A → B) → ((x : A) → Moved D bare x) → (xs : List A)
     → Moved (comma_list D) (map bare) xs
-moved_listed D bare m [] us vs e d = record { y = []; is = no_tokens us vs e d; same = refl }
+moved_listed D bare m [] us vs e d = record { y = []; is = nothing_stays_nothing us vs e d; same = refl }
 moved_listed D bare m (x ∷ xs) us vs e d =
     let a = moves_then (m x) (moved_each (further D) bare (moved_further D bare m) xs) us vs e d in
     record { y = a.y.0 ∷ a.y.1; is = a.is; same = ap2 (λ z zs. z ∷ zs) a.same.0 a.same.1 }
@@ -186,7 +186,7 @@ moved_path p us vs e d =
     }
 
 pub moved_groups : (gs : List NameAt) → Moved groups (map unplaced_name) gs
-moved_groups [] us vs e d = record { y = []; is = no_tokens us vs e d; same = refl }
+moved_groups [] us vs e d = record { y = []; is = nothing_stays_nothing us vs e d; same = refl }
 moved_groups (g ∷ gs) us vs e d =
     let a = moves_then (moves_sign sign.Less)
     (moves_then (moves_then (moved_name g)
@@ -270,7 +270,7 @@ moved_arguments es us vs e d =
     record { y = a.y.1.0; is = a.is; same = a.same.1.0 }
 
 pub moved_receiver : (r : Option Path) → Moved receiver (optional unplaced_path) r
-moved_receiver None us vs e d = record { y = None; is = no_tokens us vs e d; same = refl }
+moved_receiver None us vs e d = record { y = None; is = nothing_stays_nothing us vs e d; same = refl }
 moved_receiver (Some p) us vs e d =
     let a = moves_then (moved_path p) (moves_sign sign.Dot) us vs e d in
     record { y = Some a.y.0; is = a.is; same = ap Some a.same.0 }

@@ -13,7 +13,7 @@ use Rattle.ae_tree.specs.Grammar.{return_end, with_return, method_body}
 use Rattle.ae_layout.specs.Places.{nowhere, unplaced_name, unplaced_path, unplaced_expression, unplaced_action}
 use Rattle.ae_layout.specs.Places.{unplaced_lines}
 use Rattle.ae_layout.proofs.Moved.{ap2, ap3, Lang, Moves, Moved, moves_then, moves_at, moves_mark, moves_sign}
-use Rattle.ae_layout.proofs.Moved.{moves_word, no_tokens, not_empty, moved_name, moved_names, moved_path, moved_type}
+use Rattle.ae_layout.proofs.Moved.{moves_word, nothing_stays_nothing, not_empty, moved_name, moved_names, moved_path, moved_type}
 use Rattle.ae_layout.proofs.Moved.{moved_whole, moved_call, moved_right}
 
 -- ---- the numbers of blocks
@@ -191,7 +191,7 @@ mutual
   moved_statement n at (Returns x) us vs e d = absurd d
 
   pub moved_statements : (n : ℕ) (b : Lines) → Block n b
-  moved_statements n End us vs e d = record { y = End; is = no_tokens us vs e d; same = refl }
+  moved_statements n End us vs e d = record { y = End; is = nothing_stays_nothing us vs e d; same = refl }
   moved_statements n (Next at x rest) us vs e d =
       let a = moves_then (moved_statement n at x) (moved_statements (n + blocks_opened x) rest) us vs e d in
       let P : ℕ → Type 0 = λ k. (statement n a.y.0.0 a.y.0.1 ⨾ statements (n + k) a.y.1) vs in
@@ -210,7 +210,7 @@ unplaced_return (Some r) = Some (nowhere, unplaced_expression r.1)
 
 moved_returning : (r : Option (Spot × Expression)) → Moved return_end unplaced_return r
 unfolding unplaced_return
-moved_returning None us vs e d = record { y = None; is = no_tokens us vs e d; same = refl }
+moved_returning None us vs e d = record { y = None; is = nothing_stays_nothing us vs e d; same = refl }
 moved_returning (Some r) us vs e d =
     let a = moves_then (moves_at (tok.Word word.Return) r.0)
     (moves_then (moved_whole r.1) (moves_sign sign.Semicolon)) us vs e d in

@@ -25,7 +25,7 @@ use Rattle.ae_tree.specs.Names.{spelled_before, spellings, names_of, lexical, nu
 use Rattle.ae_layout.specs.Places.{nowhere, optional, unplaced_type, unplaced_away, unplaced_param, unplaced_me}
 use Rattle.ae_layout.specs.Places.{unplaced_need, unplaced_method, unplaced_field, unplaced_class, unplaced}
 use Rattle.ae_layout.proofs.Moved.{ap2, ap3, ap4, kinds, Lang, Moves, Moved, moves_then, moves_at, moves_mark}
-use Rattle.ae_layout.proofs.Moved.{moves_sign, moves_word, no_tokens, moved_each, moved_further, moved_listed}
+use Rattle.ae_layout.proofs.Moved.{moves_sign, moves_word, nothing_stays_nothing, moved_each, moved_further, moved_listed}
 use Rattle.ae_layout.proofs.Moved.{moved_name, moved_groups, moved_permission, moved_type}
 use Rattle.ae_layout.proofs.MovedLines.{moved_body}
 
@@ -37,7 +37,7 @@ moved_result (Some t) us vs e d = let a = moved_type t us vs e d in record
     { y = Some a.y; is = a.is; same = ap Some a.same }
 
 moved_away : (o : Option Spot) → Moved away unplaced_away o
-moved_away None us vs e d = record { y = None; is = no_tokens us vs e d; same = refl }
+moved_away None us vs e d = record { y = None; is = nothing_stays_nothing us vs e d; same = refl }
 moved_away (Some at) us vs e d =
     let a = moves_then (moves_at (tok.Sign sign.Away) at) (moves_word word.None) us vs e d in
     record { y = Some a.y.0; is = a.is; same = refl }
@@ -89,7 +89,7 @@ moved_need n us vs e d =
     }
 
 moved_needs : (ns : List GroupNeed) → Moved needs (map unplaced_need) ns
-moved_needs [] us vs e d = record { y = []; is = no_tokens us vs e d; same = refl }
+moved_needs [] us vs e d = record { y = []; is = nothing_stays_nothing us vs e d; same = refl }
 moved_needs (n ∷ ns) us vs e d =
     let a = moves_then (moves_word word.With)
     (moves_then (moved_need n) (moved_each (further need) unplaced_need
@@ -250,7 +250,7 @@ bare_decls c m (x ∷ xs) =
     ∙ bare_decls (c + length (classes_in x)) (m + length (methods_in x)) xs)
 
 moved_declarations : (c m : ℕ) (xs : List Declaration) → Moved (declarations c m) (map unplaced_declaration) xs
-moved_declarations c m [] us vs e d = record { y = []; is = no_tokens us vs e d; same = refl }
+moved_declarations c m [] us vs e d = record { y = []; is = nothing_stays_nothing us vs e d; same = refl }
 moved_declarations c m (x ∷ xs) us vs e d =
     let a = moves_then (moved_declaration c m x)
     (moved_declarations (c + length (classes_in x)) (m + length (methods_in x)) xs) us vs e d in

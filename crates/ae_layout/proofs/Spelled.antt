@@ -73,11 +73,7 @@ held_key names s = by (list_any (bytes_eq s) names) refl
 
 held_all : (names xs : Spellings) → Every (Held (insert_all bytes_eq names xs)) xs
 held_all names [] = tt
-held_all names (x ∷ xs) = (
-  held_grows (insert_key bytes_eq names x) _ x (grows_all (insert_key bytes_eq names x) xs)
-      (held_key names x),
-  held_all (insert_key bytes_eq names x) xs,
-)
+held_all names (x ∷ xs) = (held_grows (insert_key bytes_eq names x) _ x (grows_all (insert_key bytes_eq names x) xs) (held_key names x), held_all (insert_key bytes_eq names x) xs)
 
 -- ---- numbers and spellings
 

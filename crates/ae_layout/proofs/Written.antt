@@ -59,11 +59,7 @@ written_int n h =
       characters = decimal n;
       bytes = encodes-IsAscii (decimal n) (IsAscii-decimal n fits);
       scalars = decimal_scalars n fits;
-      spells = (
-        some_digits (decimal n) (decimal_nonempty n fits) (digits_decimal model n fits),
-        ap (λ m. pos m)
-            (sym same),
-      );
+      spells = (some_digits (decimal n) (decimal_nonempty n fits) (digits_decimal model n fits), ap (λ m. pos m) (sym same));
       in_range = omega (arith, same);
     }
 

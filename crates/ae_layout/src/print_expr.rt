@@ -140,7 +140,7 @@ pub fn type_name(
 
 #[tactic(auto, using(crate::proofs::Texts::texts))]
 fn truth_word(truth: bool) -> Keyword
-    ensures { result ≡ truth_word truth_word }
+    ensures { result ≡ truth_word truth }
 {
     if truth { Keyword::True } else { Keyword::False }
 }

@@ -7,11 +7,8 @@ ghost use Rattle.ae_layout.specs.Spelling.{escaped_byte, all_escaped, gap, print
 ghost use Rattle.ae_layout.specs.Layout.{token, name_kind, root_kind};
 
 use ae_text::{Items, Keyword, Sign};
-use ae_tree::Name;
+use ae_tree::{Name, THIS};
 use std::alloc::{AllocError, Global};
-
-// `this` is the third name of every program.
-const THIS: Name = 2;
 
 // The space before a token that is not close to the one before it.
 #[tactic(auto, using(crate::proofs::Texts::spells))]

@@ -12,11 +12,8 @@ use crate::locals::Locals;
 use crate::report::{Ending, Meant};
 use crate::value::{Fault, value_of};
 use ae_text::{Items, Memory, Spot};
-use ae_tree::{Block, Expr, Method, Program, Rhs, Stmt, StmtKind};
+use ae_tree::{Block, Expr, MAIN, Method, Program, Rhs, Stmt, StmtKind};
 use std::alloc::{AllocError, Global};
-
-// `main` is the second name of every program.
-const MAIN: u32 = 1;
 
 /// The locals, and the bytes printed so far.
 #[derive(Drop)]
@@ -66,7 +63,7 @@ fn right(rhs: &Rhs, locals: &Locals, at: Spot) -> Result<i64, Stop>
 
 // The number and a line feed.
 fn print(alloc: Global, log: &mut Vec<u8>, value: i64) -> Result<(), AllocError>
-    ensures { OnOk result (log.new.items ≡ log.old.items ++ (signed_decimal today_value ++ 10 ∷ [])) }
+    ensures { OnOk result (log.new.items ≡ log.old.items ++ (signed_decimal value ++ 10 ∷ [])) }
 {
     let text = format!(in alloc; "{value}\n")?;
     log.extend_from_slice(text.as_bytes())

@@ -286,8 +286,8 @@ abbrev pub MethodParts : Type 0
 MethodParts = Unit {0} × (Option Ty
     × (NameAt × (List NameAt × (Unit {0} × (Given × (Unit {0} × (List GroupNeed × Lines)))))))
 
-abbrev pub method_body : Option ℕ → Lang MethodParts
-method_body k = Both (TokenMark (tok.Word word.Method))
+abbrev pub whole_method : Option ℕ → Lang MethodParts
+whole_method k = Both (TokenMark (tok.Word word.Method))
     (Both result (Both name (Both groups
     (Both opening (Both (given_to_method k) (Both closing (Both needs method_body)))))))
 
@@ -327,7 +327,7 @@ in_front f us d = record {
 }
 
 -- what is given stands at the sixth place
-given_at : (k : Option ℕ) (q : MethodParts) (us : Tokens) → method_body k q us → HasMe k q.1.1.1.1.1.0.me
+given_at : (k : Option ℕ) (q : MethodParts) (us : Tokens) → whole_method k q us → HasMe k q.1.1.1.1.1.0.me
 given_at k q us d = d.second.second.second.second.second.first.0
 
 is_of : (k : Option ℕ) (q : MethodParts) → HasMe k q.1.1.1.1.1.0.me → IsMethodOf k (method_tree k q)
@@ -338,7 +338,7 @@ of_me : (k : Option ℕ) (m : Definition) → IsMethodOf k m → HasMe k m.me
 of_me None m i = i.1
 of_me (Some c) m i = i.1
 
-method_intro : (k : Option ℕ) (q : MethodParts) (us : Tokens) → method_body k q us → method k (method_tree k q) us
+method_intro : (k : Option ℕ) (q : MethodParts) (us : Tokens) → whole_method k q us → method k (method_tree k q) us
 method_intro k q us d = (
   is_of k q (given_at k q us d),
   refl,
@@ -358,7 +358,7 @@ parts_of m = (
 )
 
 method_cases : (k : Option ℕ) (m : Definition) (us : Tokens) → method k m us
-    → (q : MethodParts) × (m ≡ method_tree k q) × method_body k q us
+    → (q : MethodParts) × (m ≡ method_tree k q) × whole_method k q us
 method_cases k m us d = (
   parts_of m,
   method_is k m d.0 d.1,
@@ -380,7 +380,7 @@ few_given Params m v = v
 method_to : (k : Option ℕ) (l : Limit) (q : MethodParts) → method_limit l q → KeepsMethod l (method_tree k q)
 method_to k l q v = (few_params l (method_tree k q) v.1.1.1.1.1.0, v.1.1.1.1.1.1.1.1)
 
-method_along : (k : Option ℕ) (ts : Tokens) → Along (method k) (method_body k) KeepsMethod method_limit ts
+method_along : (k : Option ℕ) (ts : Tokens) → Along (method k) (whole_method k) KeepsMethod method_limit ts
     (method_tree k)
 method_along k ts = record {
   intro = method_intro k;
@@ -391,13 +391,13 @@ method_along k ts = record {
 
 pub method_took : (k : Option ℕ) (ts rest : Tokens) (t : Option Ty) (x : NameAt) (gs : List NameAt) (g : Given)
     (ns : List GroupNeed) (b : Lines) →
-    Took (method_body k) method_limit Always ts (tt, (t, (x, (gs, (tt, (g, (tt, (ns, b)))))))) rest
+    Took (whole_method k) method_limit Always ts (tt, (t, (x, (gs, (tt, (g, (tt, (ns, b)))))))) rest
     → Took (method k) KeepsMethod Always ts (method_with k t x gs g ns 0 b) rest
-method_took k ts rest t x gs g ns b s = took_as (method k) (method_body k) (method_tree k) (method_along k ts) s
+method_took k ts rest t x gs g ns b s = took_as (method k) (whole_method k) (method_tree k) (method_along k ts) s
 
-pub method_failed : (k : Option ℕ) (ts : Tokens) (e : Fail) → Failed (method_body k) method_limit Always ts e
+pub method_failed : (k : Option ℕ) (ts : Tokens) (e : Fail) → Failed (whole_method k) method_limit Always ts e
     → Failed (method k) KeepsMethod Always ts e
-method_failed k ts e f = failed_as (method k) (method_body k) (method_tree k) (method_along k ts) f
+method_failed k ts e f = failed_as (method k) (whole_method k) (method_tree k) (method_along k ts) f
 
 -- completions behind each part
 
@@ -434,7 +434,7 @@ has_returned k = has_both has_result (has_named k)
 
 pub has_method : (k : Option ℕ) → Has (method k) KeepsMethod
 has_method k =
-    let b : Has (method_body k) method_limit = has_both (has_mark (tok.Word word.Method) tt) (has_returned k) in
+    let b : Has (whole_method k) method_limit = has_both (has_mark (tok.Word word.Method) tt) (has_returned k) in
     record {
       tree = method_tree k b.tree;
       tokens = b.tokens;

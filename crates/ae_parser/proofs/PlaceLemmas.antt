@@ -212,11 +212,7 @@ unexpected ts left k r w e =
     let s = r.stopped in
     let here : k ≡ length s.before = omega (arith, e, r.placed) in
     let P : ℕ → Type 0 = IsUnexpected ts in
-    subst P (sym here) (
-      goes_before ts Unexpected r.stop s,
-      none_goes Any ts Unexpected r.stop s w
-          (λ p list m kept. tt),
-    )
+    subst P (sym here) (goes_before ts Unexpected r.stop s, none_goes Any ts Unexpected r.stop s w (λ p list m kept. tt))
 
 over : (l : Limit) (ts : List Token) (left k : ℕ) (r : Refused ts (Over l) left) → IsWhole ts
     → k + r.back ≡ length r.stopped.before → IsOverAt l ts k
@@ -225,13 +221,7 @@ over l ts left k r w e =
     let keeps : (p : Code) (list : List Declaration) → p.methods ≡ methods_of list → KeepsTo l p → KeepsAll l list =
     λ p list m kept. let A : List Definition → Type 0 = All (KeepsMethod l) in subst A m kept in
     let none = none_goes (KeepsTo l) ts (Over l) r.stop s w keeps in
-    let passes : Passes l ts (length s.before) = (
-      goes_before ts (Over l) r.stop s,
-      can_pass ts (Over l) r.stop s l s.beyond,
-      goes_beyond ts
-          (Over l) r.stop s l s.beyond,
-      none,
-    ) in
+    let passes : Passes l ts (length s.before) = (goes_before ts (Over l) r.stop s, can_pass ts (Over l) r.stop s l s.beyond, goes_beyond ts (Over l) r.stop s l s.beyond, none) in
     let Q : Tokens → Type 0 = λ b. IsPlaced l b r.back in
     let P : ℕ → Type 0 = λ n. Passes l ts n × IsPlaced l (take n (lexemes_of ts)) r.back in
     let there : P (k + r.back) = subst P (sym e) (passes, subst Q (sym (before_is ts (Over l) r.stop s)) r.placed) in

@@ -100,11 +100,7 @@ head_at [] i t h e = absurd cc
 head_at (x ∷ us) zero t (inl h) e =
     let s : x ≡ t = cc in
     let P : Lexeme → Type 0 = λ y. IsPlain y.kind in
-    subst P s (
-      (λ q. let n : tok.Sign sign.Comma ≡ tok.Sign sign.OpenBrace = sym h.0 ∙ q in
-          cc),
-      comma_no_type x.kind h.0,
-    )
+    subst P s ((λ q. let n : tok.Sign sign.Comma ≡ tok.Sign sign.OpenBrace = sym h.0 ∙ q in cc), comma_no_type x.kind h.0)
 head_at (x ∷ us) zero t (inr h) e =
     let s : x ≡ t = cc in
     let P : Lexeme → Type 0 = λ y. IsPlain y.kind in

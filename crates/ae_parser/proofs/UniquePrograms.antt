@@ -116,25 +116,25 @@ unique_class c = unique_then (TokenMark (tok.Word word.Class)) (Both name (Both 
 
 -- ---- declarations
 
-pub data Form : Type 0 where
-  AsClass : Form
-  AsMethod : Form
+pub data DeclarationForm : Type 0 where
+  AsClass : DeclarationForm
+  AsMethod : DeclarationForm
 
-abbrev pub Parts : Form → Type 0
+abbrev pub Parts : DeclarationForm → Type 0
 Parts AsClass = ClassParts
 Parts AsMethod = Definition
 
-abbrev pub form : ℕ → (t : Form) → Lang (Parts t)
+abbrev pub form : ℕ → (t : DeclarationForm) → Lang (Parts t)
 form c AsClass q us = class_form c q us
 form c AsMethod q us = method None q us
 
-abbrev pub tree : ℕ → (t : Form) → Parts t → Declaration
+abbrev pub tree : ℕ → (t : DeclarationForm) → Parts t → Declaration
 tree m AsClass q = OfClass (record
     { name = q.1.0; groups = q.1.1.0; fields = q.1.1.1.1.0; methods = numbers_from m (length q.1.1.1.1.1.0) })
     q.1.1.1.1.1.0
 tree m AsMethod q = OfMethod q
 
-declaration_cases : (c m : ℕ) (y : Declaration) (us : Tokens) → declaration c m y us → (t : Form) × (q : Parts t)
+declaration_cases : (c m : ℕ) (y : Declaration) (us : Tokens) → declaration c m y us → (t : DeclarationForm) × (q : Parts t)
     × (y ≡ tree m t q) × form c t q us
 declaration_cases c m (OfClass k ms) us d = (
   AsClass,
@@ -144,27 +144,27 @@ declaration_cases c m (OfClass k ms) us d = (
 )
 declaration_cases c m (OfMethod e) us d = (AsMethod, e, refl, d)
 
-abbrev pub word_form : Keyword → Option Form
+abbrev pub word_form : Keyword → Option DeclarationForm
 word_form word.Class = Some AsClass
 word_form word.Method = Some AsMethod
 word_form _ = None
 
-abbrev pub kind_form : Lexical → Option Form
+abbrev pub kind_form : Lexical → Option DeclarationForm
 kind_form (tok.Word w) = word_form w
 kind_form _ = None
 
-abbrev pub form_of : Option Lexeme → Option Form
+abbrev pub form_of : Option Lexeme → Option DeclarationForm
 form_of None = None
 form_of (Some t) = kind_form t.kind
 
-form_first : (c : ℕ) (t : Form) (q : Parts t) (us r : Tokens) → form c t q us → form_of (head (us ++ r)) ≡ Some t
+form_first : (c : ℕ) (t : DeclarationForm) (q : Parts t) (us r : Tokens) → form c t q us → form_of (head (us ++ r)) ≡ Some t
 form_first c AsClass q us r d = of_kind (tok.Word word.Class) (λ o. form_of o ≡ Some AsClass) (λ at. refl)
     (head (us ++ r)) (begins_both (TokenMark (tok.Word word.Class)) (λ k. Both name (Both groups (inside_form c)))
     (Is (tok.Word word.Class)) (begins_mark (tok.Word word.Class)) q us r d)
 form_first c AsMethod q us r d = of_kind (tok.Word word.Method) (λ o. form_of o ≡ Some AsMethod) (λ at. refl)
     (head (us ++ r)) (begins_method None q us r d)
 
-unique_form : (c : ℕ) (t : Form) → Unique (form c t) Always
+unique_form : (c : ℕ) (t : DeclarationForm) → Unique (form c t) Always
 unique_form c AsClass = unique_class c
 unique_form c AsMethod = unique_method None
 
@@ -173,7 +173,7 @@ unique_declaration c m = unique_choice Parts (form c) (tree m) (declaration c m)
     (by_first Parts (form c) Always form_of (λ t q us r d f. form_first c t q us r d)) (unique_form c)
 
 abbrev pub IsDeclaration : Follow
-IsDeclaration o = (t : Form) × (form_of o ≡ Some t)
+IsDeclaration o = (t : DeclarationForm) × (form_of o ≡ Some t)
 
 begins_declaration : (c m : ℕ) → Begins (declaration c m) IsDeclaration
 begins_declaration c m y us r d = let k = declaration_cases c m y us d in (k.0, form_first c k.0 k.1 us r k.3)

@@ -105,8 +105,8 @@ pub record Larger {A : Type 0} (l : Limit) (D : A → Tokens → Type 0) (W : Li
   pub rest_is : rest ≡ next ∷ later
   pub tree : A
   pub after : Tokens
-  pub goes_on : D tree (before ++ (next ∷ state_after))
-  pub known : AreSpellable state_after
+  pub goes_on : D tree (before ++ (next ∷ after))
+  pub known : AreSpellable after
   pub passes : CanPass l next.kind
   pub others : (m : Limit) → rank m < rank l → W m tree
 

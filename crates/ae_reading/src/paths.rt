@@ -7,12 +7,11 @@ ghost use Rattle.ae_reading.specs.Reads.{Reads, itself, Always, Free, Isnt};
 use crate::fail::Fail;
 use crate::terminals::{expect_sign, expect_word, is_sign_next, is_word_next, name};
 use ae_text::{Items, Keyword, Sign};
-use ae_tree::{Lexeme, Name, NameAt, Path};
+use ae_tree::{Lexeme, NameAt, Path, THIS};
 use std::alloc::Global;
 
-const THIS: Name = 2;
-
-fn root<'a>(ts: &'a [Lexeme]) -> Result<(NameAt, &'a [Lexeme]), Fail>
+/// A name, or `this`, at which a path begins.
+pub fn root<'a>(ts: &'a [Lexeme]) -> Result<(NameAt, &'a [Lexeme]), Fail>
     ensures { Reads itself grammar.root Free Always ts.now result }
 {
     if is_word_next(ts, Keyword::This) {
@@ -23,7 +22,8 @@ fn root<'a>(ts: &'a [Lexeme]) -> Result<(NameAt, &'a [Lexeme]), Fail>
     }
 }
 
-fn step<'a>(ts: &'a [Lexeme]) -> Result<(NameAt, &'a [Lexeme]), Fail>
+/// A dot and the name of a field.
+pub fn step<'a>(ts: &'a [Lexeme]) -> Result<(NameAt, &'a [Lexeme]), Fail>
     ensures { Reads itself grammar.path_step Free Always ts.now result }
 {
     let (_, rest) = expect_sign(ts, Sign::Dot)?;

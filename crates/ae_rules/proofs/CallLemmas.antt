@@ -2,7 +2,7 @@
 use Rattle.std.proofs.Common.{◌≡◌, refl, ap, ◌∙◌, subst, ℕ, nat_eq, Bool, true, false, ◌&&◌, not, if◌then◌else◌}
 use Rattle.std.proofs.Common.{List, [], ◌∷◌, ◌++◌, Option, None, Some}
 use Rattle.std.specs.Prelude.{option_map}
-use Rattle.std.proofs.lemmas.Bool.{eq-eqb, eqb-true, not-true, cond-true, cond-false}
+use Rattle.std.proofs.lemmas.Bool.{eqb-true, not-true, cond-true, cond-false}
 use Rattle.ae_tree.specs.declared.form.Perm.TheVariants as need
 use Rattle.ae_rules.specs.declared.held.Held.{Held}
 use Rattle.ae_rules.specs.declared.held.Held.TheVariants as held
@@ -12,7 +12,7 @@ use Rattle.ae_rules.specs.Context.{Local, Context, held_in, with_held}
 use Rattle.ae_rules.specs.Calls.{LentPart, given_back, after_call}
 use Rattle.ae_rules.specs.Laws.{none_away, CallsGiveBack, none_of, GivenAwayIsGone}
 use Rattle.ae_rules.proofs.LawLemmas.{taken_is_given_back}
-use Rattle.ae_rules.proofs.from_text.Basics.{number_is_itself, second_of_both, first_of_both}
+use Rattle.ae_rules.proofs.from_text.Basics.{first_of_both, second_of_both, number_is_itself}
 
 abbrev holding : Held → Local → Local
 holding h l = record l { held = h }

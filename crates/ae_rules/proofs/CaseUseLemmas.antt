@@ -1,10 +1,9 @@
 -- What the statements that run today use by the whole rules is what they use by today's.
-use Rattle.std.proofs.Common.{arith, ◌≡◌, refl, sym, subst, ap, ap₂, ◌∙◌, ℕ, zero, suc, nat_eq, Bool, true, false}
-use Rattle.std.proofs.Common.{◌||◌, if◌then◌else◌, List, [], ◌∷◌, Option, None, Some}
+use Rattle.std.proofs.Common.{◌≡◌, refl, sym, subst, ap, ap₂, ◌∙◌, ℕ, zero, suc, nat_eq, Bool, true, false, ◌||◌}
+use Rattle.std.proofs.Common.{if◌then◌else◌, List, [], ◌∷◌, Option, None, Some}
 use Rattle.std.specs.Prelude.{slice_get}
 use Rattle.ae_text.specs.declared.refusal.Spot.{Spot}
 use Rattle.ae_text.specs.declared.refusal.Rule.TheVariants as rule
-use Rattle.std.proofs.lemmas.Bool.Decides.{nat_tests}
 use Rattle.ae_rules.specs.Edges.{Uses}
 use Rattle.ae_tree.specs.declared.form.Form.TheVariants as f
 use Rattle.ae_tree.specs.declared.tree.NameAt.{NameAt}

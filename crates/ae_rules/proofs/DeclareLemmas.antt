@@ -28,7 +28,7 @@ use Rattle.ae_rules.specs.Effects.{all_moved, callee_for, form_at, call_effect, 
 use Rattle.ae_rules.specs.BlockLaws.{Shape, shape_of, with_let, with_lets, group_in_line, groups_in_lines, LinesDeclare}
 use Rattle.ae_rules.proofs.VerdictLemmas.{Yields, gives, next, asks}
 use Rattle.ae_rules.proofs.KeepLemmas.{right_keeps, statements_keep}
-use Rattle.ae_rules.proofs.PathLemmas.{first_holds, fit_statement}
+use Rattle.ae_rules.proofs.PathLemmas.{first_holds}
 use Rattle.ae_rules.proofs.EffectLemmas.{right_is, effects_are_exact}
 
 -- ---- contexts that have no more locals, and the same groups
@@ -90,6 +90,10 @@ right_more p c t (Returned i) = call_more p c i
 
 -- ---- statements
 
+-- what a statement that is no `let` and no `group` leaves
+abbrev AddsNothing : Code → Definition → Action → Context → Type 0
+AddsNothing p m a c = NoMore c (effect p m a c)
+
 shape_kept : (c d : Context) (y : ℕ) (o : Option Local) → c.local y ≡ o → NoMore c d
     → ((l : Local) → c.local y ≡ Some l → (h : Held) × (d.local y ≡ Some (record l { held = h })))
     → shape_of d y ≡ shape_of c y
@@ -99,9 +103,16 @@ shape_kept c d y (Some l) e n k =
     ap (option_map (λ (z : Local). (z.form, z.stays))) r.1 ∙ sym (ap (option_map (λ (z : Local). (z.form, z.stays))) e)
 
 -- what is declared by one statement
-record Declared (a : Action) (c d : Context) : Type 0 where
-  shape : (y : ℕ) → shape_of d y ≡ with_let a (shape_of c) y
-  group : in_turn declare (group_in_line a) c.group ≡ Holds d.group
+pub record Declared (a : Action) (c d : Context) : Type 0 where
+  pub shape : (y : ℕ) → shape_of d y ≡ with_let a (shape_of c) y
+  pub group : in_turn declare (group_in_line a) c.group ≡ Holds d.group
+
+-- a statement that declares nothing
+adds_nothing : (p : Code) (m : Definition) (at : Spot) (a : Action) (c d : Context)
+    → judge_statement p m at a c ≡ Holds d → AddsNothing p m a c → (NoMore c d) × ((y : ℕ) → shape_of d y ≡ shape_of c y)
+adds_nothing p m at a c d h n =
+    let more : NoMore c d = subst (NoMore c) (sym ((effects_are_exact p m).0 at a c d h)) n in
+    (more, λ y. shape_kept c d y (c.local y) refl more ((statements_keep p m at a c d h).local y))
 
 plain : (a : Action) (c d : Context) → ((y : ℕ) → shape_of c y ≡ with_let a (shape_of c) y) → group_in_line a ≡ []
     → (NoMore c d) × ((y : ℕ) → shape_of d y ≡ shape_of c y) → Declared a c d
@@ -137,44 +148,44 @@ group_declares c g =
     next (declare g c.group) λ gs h.
     gives (record { shape = λ y. refl; group = ap (λ (v : Verdict GroupsKnown). v >>= in_turn declare []) h })
 
-declares : (p : Code) (m : Definition) (at : Spot) (a : Action) (c d : Context) → judge_statement p m at a c ≡ Holds d
-    → Declared a c d
+pub declares : (p : Code) (m : Definition) (at : Spot) (a : Action) (c d : Context)
+    → judge_statement p m at a c ≡ Holds d → Declared a c d
 declares p m at (Declares t x e) c d h = (let_declares p m c t x e).value d h
 declares p m at (Groups g) c d h = (group_declares c g).value d h
-declares p m at (Assigns x e) c d h = plain (Assigns x e) c d (λ y. refl) refl (fit_statement p m at (Assigns x e) c d h
+declares p m at (Assigns x e) c d h = plain (Assigns x e) c d (λ y. refl) refl (adds_nothing p m at (Assigns x e) c d h
     (given_more (c.local x.name) c _
     (λ (l : Local). both c (right_effect p c l.form e)
     (with_held x.name (held_of l.form) (right_effect p c l.form e)) (right_more p c l.form e)
     (held_more x.name (held_of l.form) (right_effect p c l.form e)))))
 declares p m at (Stores path e) c d h = plain (Stores path e) c d (λ y. refl) refl
-    (fit_statement p m at (Stores path e) c d h
+    (adds_nothing p m at (Stores path e) c d h
     (given_more (form_at p c path) c _ (λ (t : Form). moved_more (name_into t e) c)))
 declares p m at (StoresAt path i e) c d h = plain (StoresAt path i e) c d (λ y. refl) refl
-    (fit_statement p m at (StoresAt path i e) c d h (itself c))
+    (adds_nothing p m at (StoresAt path i e) c d h (itself c))
 declares p m at (Calls i) c d h = plain (Calls i) c d (λ y. refl) refl
-    (fit_statement p m at (Calls i) c d h (call_more p c i))
+    (adds_nothing p m at (Calls i) c d h (call_more p c i))
 declares p m at (Chooses e n b) c d h = plain (Chooses e n b) c d (λ y. refl) refl
-    (fit_statement p m at (Chooses e n b) c d h (itself c))
+    (adds_nothing p m at (Chooses e n b) c d h (itself c))
 declares p m at (ChoosesElse e n b k b') c d h = plain (ChoosesElse e n b k b') c d (λ y. refl) refl
-    (fit_statement p m at (ChoosesElse e n b k b') c d h (closed_more c (lines_effect p m b' c)))
+    (adds_nothing p m at (ChoosesElse e n b k b') c d h (closed_more c (lines_effect p m b' c)))
 declares p m at (Repeats e n b) c d h = plain (Repeats e n b) c d (λ y. refl) refl
-    (fit_statement p m at (Repeats e n b) c d h (itself c))
+    (adds_nothing p m at (Repeats e n b) c d h (itself c))
 declares p m at (Splits gs n b) c d h = plain (Splits gs n b) c d (λ y. refl) refl
-    (fit_statement p m at (Splits gs n b) c d h (closed_more c (lines_effect p m b (while_split gs c))))
+    (adds_nothing p m at (Splits gs n b) c d h (closed_more c (lines_effect p m b (while_split gs c))))
 declares p m at (Locks g n b) c d h = plain (Locks g n b) c d (λ y. refl) refl
-    (fit_statement p m at (Locks g n b) c d h (closed_more c (lines_effect p m b (while_locked g.name c))))
+    (adds_nothing p m at (Locks g n b) c d h (closed_more c (lines_effect p m b (while_locked g.name c))))
 declares p m at (Freezes x) c d h = plain (Freezes x) c d (λ y. refl) refl
-    (fit_statement p m at (Freezes x) c d h (held_more x.name held.Immutable c))
+    (adds_nothing p m at (Freezes x) c d h (held_more x.name held.Immutable c))
 declares p m at (Shares x g) c d h = plain (Shares x g) c d (λ y. refl) refl
-    (fit_statement p m at (Shares x g) c d h (held_more x.name (held.Shared g.name) c))
+    (adds_nothing p m at (Shares x g) c d h (held_more x.name (held.Shared g.name) c))
 declares p m at (Prints e) c d h = plain (Prints e) c d (λ y. refl) refl
-    (fit_statement p m at (Prints e) c d h (itself c))
+    (adds_nothing p m at (Prints e) c d h (itself c))
 declares p m at (PrintsText s) c d h = plain (PrintsText s) c d (λ y. refl) refl
-    (fit_statement p m at (PrintsText s) c d h (itself c))
+    (adds_nothing p m at (PrintsText s) c d h (itself c))
 declares p m at (Asserts e) c d h = plain (Asserts e) c d (λ y. refl) refl
-    (fit_statement p m at (Asserts e) c d h (itself c))
+    (adds_nothing p m at (Asserts e) c d h (itself c))
 declares p m at (Returns e) c d h = plain (Returns e) c d (λ y. refl) refl
-    (fit_statement p m at (Returns e) c d h (given_more m.result c _ (λ t. moved_more (name_into (form t) e) c)))
+    (adds_nothing p m at (Returns e) c d h (given_more m.result c _ (λ t. moved_more (name_into (form t) e) c)))
 
 -- ---- lines
 

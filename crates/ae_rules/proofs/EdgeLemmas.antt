@@ -36,6 +36,7 @@ weak_or_strong (Some Write) = inr refl
 weak_or_strong (Some GroupShared) = inl refl
 weak_or_strong (Some GroupWhole) = inr refl
 
+-- what shuts out every other conflicts with what comes before it
 pub strong_after : (m n : Mode) → is_strong n ≡ true → are_compatible m n ≡ false
 strong_after Read Read s = absurd (cc)
 strong_after Read GroupShared s = absurd (cc)
@@ -48,6 +49,7 @@ strong_after GroupShared Write s = refl
 strong_after GroupShared GroupWhole s = refl
 strong_after GroupWhole n s = refl
 
+-- what shuts out every other conflicts with what comes after it
 pub strong_before : (m n : Mode) → is_strong m ≡ true → are_compatible m n ≡ false
 strong_before Read n s = absurd (cc)
 strong_before Write n s = refl

@@ -45,7 +45,7 @@ use Rattle.ae_rules.proofs.VerdictLemmas.{Yields, gives, next, asks}
 use Rattle.ae_rules.proofs.SeenLemmas.{found_is}
 use Rattle.ae_rules.proofs.MoveLemmas.{moves_by_its_text}
 use Rattle.ae_rules.proofs.GroupLemmas.{declared_is}
-use Rattle.ae_rules.proofs.GoneLemmas.{same_context, call_takes}
+use Rattle.ae_rules.proofs.GoneLemmas.{same_context, no_more, call_takes}
 
 -- ---- where paths lead
 
@@ -69,7 +69,7 @@ steps_form p c at (x ∷ xs) from =
     no_form : Option Form
     no_form = None
 
-walk_form : (p : Code) (c : Context) (path : Path) → Yields (λ (q : Place). form_at p c path ≡ Some q.form)
+pub walk_form : (p : Code) (c : Context) (path : Path) → Yields (λ (q : Place). form_at p c path ≡ Some q.form)
     (walk p c path)
 walk_form p c path =
     next (found (c.local path.root.name) rule.UnknownName path.root.at) λ (l : Local) e.
@@ -82,7 +82,7 @@ walk_form p c path =
     no_form : Option Form
     no_form = None
 
-callee_is : (p : Code) (c : Context) (on : Option Path) (x : NameAt)
+pub callee_is : (p : Code) (c : Context) (on : Option Path) (x : NameAt)
     → Yields (λ (m : Callee). callee_for p c on x ≡ Some m) (judge_callee p c on x)
 callee_is p c None x = record { value = λ m e. found_is (top_callee p x.name) rule.UnknownMethod x.at m e }
 callee_is p c (Some path) x =
@@ -112,9 +112,6 @@ call_is p c i =
     ∙ sym (ap (λ (o : Option Callee). given o c
     (λ (k : Callee). all_moved (filter_map gone_name (zip (slots p (group_in k i.groups) k.method) (givens i)))
     c)) ((callee_is p c i.on i.method).value m e)))
-
-abbrev no_more : Local → Local
-no_more l = record l { held = held.None }
 
 twice : (a b : Bool) (o : Option Local)
     → (if b then option_map no_more (if a then option_map no_more o else o) else

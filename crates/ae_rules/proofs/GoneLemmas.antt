@@ -3,7 +3,7 @@ use Rattle.std.proofs.Common.{◌≡◌, refl, sym, ap, ◌∙◌, subst, ℕ, n
 use Rattle.std.proofs.Common.{if◌then◌else◌, List, [], ◌∷◌, ◌++◌, Option, None, Some}
 use Rattle.std.specs.Prelude.{filter_map, option_map, ⊤}
 use Rattle.std.specs.List.{cons_option}
-use Rattle.std.proofs.lemmas.Bool.{eqb-true}
+use Rattle.std.proofs.lemmas.Bool.{eqb-true, and_from, not-true}
 use mathlib.Core.Path.{fun_ext}
 use Rattle.ae_text.specs.declared.refusal.Spot.{Spot}
 use Rattle.ae_text.specs.declared.refusal.Rule.TheVariants as rule
@@ -35,6 +35,7 @@ use Rattle.ae_rules.proofs.SeenLemmas.{found_is}
 use Rattle.ae_rules.proofs.CallLemmas.{calls_give_back, given_away_is_gone}
 use Rattle.ae_rules.proofs.KeepLemmas.{keeps_after_call}
 use Rattle.ae_rules.proofs.from_text.Basics.{first_of_neither, second_of_neither}
+use Rattle.std.proofs.lemmas.Option.{same_Some}
 
 -- contexts with the same locals and the same groups are one
 pub same_context : (c d : Context) → ((y : ℕ) → c.local y ≡ d.local y) → c.group ≡ d.group → c ≡ d
@@ -72,12 +73,8 @@ no_part_if : (b : Bool) (x : LentPart) (y : ℕ) → nat_eq x.root y ≡ false �
 no_part_if true x y e = ap not e
 no_part_if false x y e = refl
 
-not_true : (b : Bool) → not b ≡ true → b ≡ false
-not_true true e = cc
-not_true false e = refl
-
 -- what is held of a name without steps
-name_held : (p : Code) (c : Context) (path : Path) → is_name path ≡ true
+pub name_held : (p : Code) (c : Context) (path : Path) → is_name path ≡ true
     → Yields (λ (w : Place). held_in c path.root.name ≡ w.held) (walk p c path)
 name_held p c path e =
     next (found (c.local path.root.name) rule.UnknownName path.root.at) λ (l : Local) h.
@@ -111,9 +108,6 @@ part_is_gone : (h : Held) (root : ℕ) → h ≡ held.Unique
 part_is_gone h root e = ap (λ (x : Held). if is_part perm.Unique && same_held held.Unique x then Some
     (gone_part root) else None) e
 
-some_name : (x y : ℕ) → Some x ≡ Some y → x ≡ y
-some_name x y h = cc
-
 abbrev no_number : Option ℕ
 no_number = None
 
@@ -128,15 +122,10 @@ path_gone : (p : Code) (c : Context) (q : Perm) (k : Kind) (away : Bool) (path :
 path_gone p c perm.Unique k true path r w t at e m h n i =
     let g = (gone_held (is_name path) w.held at).value t h in
     let u : held_in c path.root.name ≡ held.Unique = (name_held p c path g.0).value w e ∙ g.1 in
-    let s : path.root.name ≡ n = some_name path.root.name n i in
+    let s : path.root.name ≡ n = same_Some path.root.name n i in
     subst (λ (x : ℕ). (r.used x ≡ false)
     × (lent_part_of c (f.Object perm.Unique k) true (Some (From path)) ≡ Some (gone_part x))
-    × (held_in c x ≡ held.Unique)) s (
-      second_of_neither (r.alone path.root.name) (r.used path.root.name) m,
-      part_is_gone
-          (held_in c path.root.name) path.root.name u,
-      u,
-    )
+    × (held_in c x ≡ held.Unique)) s (second_of_neither (r.alone path.root.name) (r.used path.root.name) m, part_is_gone (held_in c path.root.name) path.root.name u, u)
 path_gone p c perm.Immutable k away path r w t at e m h n i = absurd (no_name away no_number n refl i)
 path_gone p c perm.Lent k away path r w t at e m h n i = absurd (no_name away no_number n refl i)
 path_gone p c (perm.Shared g) k away path r w t at e m h n i = absurd (no_name away no_number n refl i)
@@ -146,7 +135,7 @@ root_given : (unique : Bool) (path : Path) (at : Spot) (r : Roots)
     → Yields (λ s. (meets unique path.root.name r ≡ false) × (with_root unique path.root.name r ≡ s))
     (root_apart unique path at r)
 root_given unique path at r = asks (not (meets unique path.root.name r)) _ _ λ h. gives
-    (not_true (meets unique path.root.name r) h, refl)
+    (not-true (meets unique path.root.name r) h, refl)
 
 path_given : (p : Code) (c : Context) (q : Perm) (k : Kind) (away : Bool) (path : Path) (at : Spot) (r : Roots)
     → Yields (Given c (f.Object q k) away (Some (From path)) (moves q path) r) (path_to_param p c q k away path at r)
@@ -157,12 +146,7 @@ path_given p c q k away path at r =
     next (to_param q away (is_name path) w.held at) λ t i.
     let g = (root_given (is_unique (f.Object q k)) path at r).value s h in
     gives (record {
-      used = λ y u. let v : (nat_eq path.root.name y || r.used y) ≡ false = ap (λ (z : Roots). z.used y) g.1 ∙ u in (
-        second_of_neither (nat_eq path.root.name y) (r.used y) v,
-        no_part_if
-            (is_part q && same_held held.Unique (held_in c path.root.name)) _ y
-            (first_of_neither (nat_eq path.root.name y) (r.used y) v),
-      );
+      used = λ y u. let v : (nat_eq path.root.name y || r.used y) ≡ false = ap (λ (z : Roots). z.used y) g.1 ∙ u in (second_of_neither (nat_eq path.root.name y) (r.used y) v, no_part_if (is_part q && same_held held.Unique (held_in c path.root.name)) _ y (first_of_neither (nat_eq path.root.name y) (r.used y) v));
       gone = path_gone p c q k away path r w t at e g.0 i;
     })
 
@@ -195,10 +179,6 @@ record GoneAt (c : Context) (ps : List LentPart) (y : ℕ) : Type 0 where
   apart : none_of before y ≡ true
   unique : held_in c y ≡ held.Unique
 
-both_true : (a b : Bool) → a ≡ true → b ≡ true → (a && b) ≡ true
-both_true true b e h = h
-both_true false b e h = absurd (cc)
-
 gone_later : (c : Context) (o : Option LentPart) (ps : List LentPart) (y : ℕ) → none_at o y ≡ true → GoneAt c ps y
     → GoneAt c (cons_option o ps) y
 gone_later c None ps y e g = g
@@ -206,7 +186,7 @@ gone_later c (Some x) ps y e g = record {
   before = x ∷ g.before;
   after = g.after;
   split = ap (λ (zs : List LentPart). x ∷ zs) g.split;
-  apart = both_true (not (nat_eq x.root y)) (none_of g.before y) e g.apart;
+  apart = and_from (not (nat_eq x.root y)) (none_of g.before y) e g.apart;
   unique = g.unique;
 }
 
@@ -318,7 +298,7 @@ form_stays c (f.Object q k) away e y h = object_stays c q k away (source e) y h
 none_away_both : (o : Option LentPart) (ps : List LentPart) (y : ℕ) → none_away_at o y ≡ true → none_away ps y ≡ true
     → none_away (cons_option o ps) y ≡ true
 none_away_both None ps y e h = h
-none_away_both (Some x) ps y e h = both_true (not (nat_eq x.root y && x.away)) (none_away ps y) e h
+none_away_both (Some x) ps y e h = and_from (not (nat_eq x.root y && x.away)) (none_away ps y) e h
 
 stays_all : (c : Context) (xs : List (ParamSlot × Expression)) (y : ℕ) → has_name (filter_map gone_name xs) y ≡ false
     → none_away (argument_parts c xs) y ≡ true
@@ -330,7 +310,8 @@ stays_all c (x ∷ xs) y e =
 
 -- ---- the context after a call
 
-abbrev no_more : Local → Local
+-- the local, and nothing held of it
+abbrev pub no_more : Local → Local
 no_more l = record l { held = held.None }
 
 moved_if : (b : Bool) (o q : Option Local) → (b ≡ true → q ≡ option_map no_more o) → (b ≡ false → q ≡ o)
@@ -380,6 +361,12 @@ taken_for_good c ps y g =
     ≡ held.None = subst (λ (zs : List LentPart). held_in (after_call zs c) y ≡ held.None) (sym g.split)
     (given_away_is_gone g.before g.after (gone_part y) c g.apart refl refl g.unique)
     in nothing_after c (after_call ps c) y (c.local y) refl g.unique n ((keeps_after_call ps c).local y)
+
+-- what a judged call is given for good is held Unique
+pub gone_is_unique : (p : Code) (c : Context) (xs : List (ParamSlot × Expression)) (roots : Roots) (y : ℕ)
+    → in_turn (to_slot p c) xs no_roots ≡ Holds roots → has_name (filter_map gone_name xs) y ≡ true
+    → held_in c y ≡ held.Unique
+gone_is_unique p c xs roots y e h = ((find_gone p c xs no_roots y h).value roots e).0.unique
 
 -- after a judged call the names that were given for good hold nothing, and all else is as before
 pub call_takes : (p : Code) (c : Context) (xs : List (ParamSlot × Expression)) (roots : Roots)

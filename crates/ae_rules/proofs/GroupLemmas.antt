@@ -1,6 +1,6 @@
 -- Groups that a split block or an atomic block changes, and changes back.
-use Rattle.std.proofs.Common.{◌≡◌, refl, sym, ap, ◌∙◌, subst, ℕ, nat_eq, Bool, true, false, ◌||◌, not, if◌then◌else◌}
-use Rattle.std.proofs.Common.{List, [], ◌∷◌, Option, None, Some}
+use Rattle.std.proofs.Common.{◌≡◌, ◌≢◌, refl, sym, ap, ◌∙◌, subst, ℕ, nat_eq, Bool, true, false, ◌||◌, not}
+use Rattle.std.proofs.Common.{if◌then◌else◌, List, [], ◌∷◌, Option, None, Some}
 use Rattle.std.specs.Prelude.{is_some}
 use Rattle.std.proofs.lemmas.Bool.{eqb-true}
 use mathlib.Core.Path.{fun_ext}
@@ -12,9 +12,10 @@ use Rattle.ae_rules.specs.Verdict.{in_turn, given}
 use Rattle.ae_rules.specs.Lookups.{Names, has_name}
 use Rattle.ae_rules.specs.Table.{no_names}
 use Rattle.ae_rules.specs.Groups.{Groups, same_group_perm, group_is, known, with_group, declare, forget, may_split}
-use Rattle.ae_rules.specs.Groups.{may_split_all, shared_in, enter_split}
-use Rattle.ae_rules.specs.Laws.{SplitIsUndone}
+use Rattle.ae_rules.specs.Groups.{may_split_all, shared_in, enter_split, held_back, may_lock, enter_atomic}
+use Rattle.ae_rules.specs.Laws.{SplitIsUndone, HeldBackInside, AtomicHoldsBack}
 use Rattle.ae_rules.proofs.VerdictLemmas.{Yields, gives, next, asks, always}
+use Rattle.ae_rules.proofs.from_text.Basics.{number_is_itself}
 
 -- each of these groups is exclusive
 abbrev pub AreExclusive : Groups → Names → Type 0
@@ -110,3 +111,48 @@ split_is_undone gs xs before inside after e d =
     fun_ext (λ y. back_if (has_name (bare_names gs) y) (before y) (inside y) (forget (bare_names xs) after y)
     (λ n. is_exclusive (before y) (k.0 y n)) ((declared_forgotten xs inside).value after d y)
     (ap (λ (z : Groups). z y) k.1))
+
+-- ---- an atomic block
+
+back_is_not_shared : (o : Option GroupPerm) → held_back o ≢ Some group.Shared
+back_is_not_shared None e = cc
+back_is_not_shared (Some group.Exclusive) e = cc
+back_is_not_shared (Some group.Shared) e = cc
+back_is_not_shared (Some group.Protected) e = cc
+back_is_not_shared (Some group.HeldBack) e = cc
+back_is_not_shared (Some group.None) e = cc
+
+inside_not_shared : (b : Bool) (o : Option GroupPerm) → (if b then Some group.Protected else held_back o)
+    ≢ Some group.Shared
+inside_not_shared true o e = cc
+inside_not_shared false o e = back_is_not_shared o e
+
+back_as_before : (o : Option GroupPerm) → o ≢ Some group.Shared → held_back o ≡ o
+back_as_before None n = refl
+back_as_before (Some group.Exclusive) n = refl
+back_as_before (Some group.Shared) n = absurd (n refl)
+back_as_before (Some group.Protected) n = refl
+back_as_before (Some group.HeldBack) n = refl
+back_as_before (Some group.None) n = refl
+
+inside_as_before : (b : Bool) (o : Option GroupPerm) → b ≡ false → o ≢ Some group.Shared
+    → (if b then Some group.Protected else held_back o) ≡ o
+inside_as_before true o e n = absurd (cc)
+inside_as_before false o e n = back_as_before o n
+
+chosen_first : (b : Bool) (o : Option GroupPerm) → b ≡ true → (if b then Some group.Protected else held_back o)
+    ≡ Some group.Protected
+chosen_first true o e = refl
+chosen_first false o e = absurd (cc)
+
+locked_holds_back : (g : NameAt) (before : Groups) → Yields (HeldBackInside g.name before) (enter_atomic g before)
+locked_holds_back g before =
+    next (may_lock before g) λ _ _.
+    gives (record {
+      own = chosen_first (nat_eq g.name g.name) (before g.name) (number_is_itself g.name);
+      none_shared = λ h. inside_not_shared (nat_eq g.name h) (before h);
+      others = λ h e n. inside_as_before (nat_eq g.name h) (before h) e n;
+    })
+
+pub atomic_holds_back : AtomicHoldsBack
+atomic_holds_back g before inside e = (locked_holds_back g before).value inside e

@@ -29,13 +29,14 @@ use Rattle.ae_rules.specs.Judges.{start, need_for, permission_needed, knows}
 use Rattle.ae_rules.specs.Uses.{nothing, same_resource, use_alone, read_use, write_use, ◌∪◌, of_each, of_judged}
 use Rattle.ae_rules.specs.Uses.{of_found, is_seen, outside, all_but, walk_uses, given_uses, argument_uses, need_uses}
 use Rattle.ae_rules.specs.Uses.{callee_uses, statement_uses, lines_use, contexts, block_uses}
-use Rattle.ae_rules.specs.EdgeLaws.{group_allows, is_allowed}
+use Rattle.ae_rules.specs.EdgeLaws.{IsAtMost, group_allows, is_allowed}
 use Rattle.ae_rules.specs.Instances.{renamed, source_outside, param_outside, param_names, params_given, group_names}
 use Rattle.ae_rules.specs.Instances.{callee_outside, body_outside, lock_outside}
-use Rattle.ae_rules.proofs.SeenLemmas.{Inside, one_if, same_is, of_two, but_if, outside_use}
-use Rattle.ae_rules.proofs.LessLemmas.{IsLess, Less, less_itself, less_then, less_nothing, less_left, less_right}
-use Rattle.ae_rules.proofs.LessLemmas.{less_both, less_one, less_renamed, less_found, less_each, less_zip, fits, Fit}
+use Rattle.ae_rules.proofs.SeenLemmas.{Inside, one_if, same_is, of_two}
+use Rattle.ae_rules.proofs.LessLemmas.{Less, less_itself, less_then, less_nothing, less_left, less_right, less_both}
+use Rattle.ae_rules.proofs.LessLemmas.{less_one, less_renamed, less_found, less_each, less_zip, suits, Fit}
 use Rattle.ae_rules.proofs.LessLemmas.{fit_nothing}
+use Rattle.ae_rules.proofs.TruthLemmas.{left_by_test, shown_behind_test}
 use Rattle.std.proofs.lemmas.Option.{same_Some}
 
 -- ---- blocks
@@ -130,7 +131,7 @@ start_need true None m e = absurd (cc)
 start_need true (Some n) m e = (n, refl, e)
 
 -- a use of a group that a method knows at its start, at the call
-group_less : (p : Code) (m : Definition) (new : ℕ → ℕ) (g : ℕ) (o l : Option Mode) → IsLess o l
+group_less : (p : Code) (m : Definition) (new : ℕ → ℕ) (g : ℕ) (o l : Option Mode) → IsAtMost o l
     → ((n : Mode) → l ≡ Some n → is_allowed (start p m) (resource.Group g) n ≡ true)
     → Less (renamed o (resource.Group (new g))) (of_each need_uses (map (wanted_need new) m.needs))
 group_less p m new g None l h k = less_nothing _
@@ -140,7 +141,7 @@ group_less p m new g (Some u) (Some n) h k =
     less_then _ (use_alone n (resource.Group (new g))) _ (less_one u n (resource.Group (new g)) h)
     (need_found new m.needs g r.0 n r.1 r.2)
 
-shown_group : (p : Code) (m : Definition) (new : ℕ → ℕ) (g : ℕ) (b : Bool) (o l : Option Mode) → IsLess o l
+shown_group : (p : Code) (m : Definition) (new : ℕ → ℕ) (g : ℕ) (b : Bool) (o l : Option Mode) → IsAtMost o l
     → (b ≡ true → (n : Mode) → l ≡ Some n → is_allowed (start p m) (resource.Group g) n ≡ true)
     → Less (renamed (if b then o else None) (resource.Group (new g)))
     (of_each need_uses (map (wanted_need new) m.needs))
@@ -173,9 +174,9 @@ callee_less p c i u k h w =
 
 -- ---- modes of their kind
 
-fit_one : (m : Mode) (r : Resource) → fits r m ≡ true → Fit (use_alone m r)
-fit_one m r h s n e = let q = one_if m n (same_resource r s) e in subst (λ (k : Mode). fits s k ≡ true) q.1
-    (subst (λ (x : Resource). fits x m ≡ true) (same_is r s q.0) h)
+fit_one : (m : Mode) (r : Resource) → suits r m ≡ true → Fit (use_alone m r)
+fit_one m r h s n e = let q = one_if m n (same_resource r s) e in subst (λ (k : Mode). suits s k ≡ true) q.1
+    (subst (λ (x : Resource). suits x m ≡ true) (same_is r s q.0) h)
 
 fit_both : (u v : Uses) → Fit u → Fit v → Fit (u ∪ v)
 fit_both u v f g r n e = elim (of_two (u r) (v r) n e) [ inl x ↦ f r n x | inr x ↦ g r n x ]
@@ -189,10 +190,10 @@ fit_found None u h = fit_nothing
 fit_found (Some x) u h = h x refl
 
 pub fit_outside : (c : Context) (u : Uses) → Fit u → Fit (outside c u)
-fit_outside c u f r n e = f r n (outside_use (is_seen c r) (u r) n e)
+fit_outside c u f r n e = f r n (shown_behind_test (is_seen c r) (u r) n e)
 
 fit_all_but : (s : Resource) (u : Uses) → Fit u → Fit (all_but s u)
-fit_all_but s u f r n e = f r n (but_if (same_resource s r) (u r) n e)
+fit_all_but s u f r n e = f r n (left_by_test (same_resource s r) (u r) n e)
 
 pub fit_lock : (g : ℕ) (u : Uses) → Fit u → Fit (lock_outside g u)
 fit_lock g u f = fit_both _ (all_but (resource.Group g) u)

@@ -44,7 +44,7 @@ use Rattle.ae_rules.specs.Statements.{judge_lines}
 use Rattle.ae_rules.proofs.GroupLemmas.{declared_is}
 use Rattle.ae_rules.proofs.VerdictLemmas.{Yields, gives, next, asks, turns}
 use Rattle.ae_rules.specs.Laws.{Keeps, StatementsKeep}
-use Rattle.ae_rules.proofs.from_text.Basics.{something_is_there}
+use Rattle.ae_rules.proofs.TruthLemmas.{thing_is_there}
 
 -- ---- contexts
 
@@ -92,7 +92,7 @@ new_if : (c d : Context) (x y : ℕ) (new l : Local) (b : Bool) → nat_eq x y �
     → (k : Held) × ((if b then Some new else d.local y) ≡ Some (record l { held = k }))
 new_if c d x y new l false n v k e = k.local y l e
 new_if c d x y new l true n v k e =
-    absurd (no_local _ _ v (something_is_there (c.local x) l (ap c.local (eqb-true x y n) ∙ e)))
+    absurd (no_local _ _ v (thing_is_there (c.local x) l (ap c.local (eqb-true x y n) ∙ e)))
 
 keeps_local : (x : ℕ) (t : Form) (c d : Context) → not (is_visible c x) ≡ true → Keeps c d → Keeps c (with_local x t d)
 keeps_local x t c d v k = record { local = λ y l e. new_if c d x y _ l (nat_eq x y) refl v k e; group = k.group }
@@ -100,8 +100,7 @@ keeps_local x t c d v k = record { local = λ y l e. new_if c d x y _ l (nat_eq 
 group_if : (c : Context) (x y : ℕ) (new q : GroupPerm) (b : Bool) → nat_eq x y ≡ b → not (known c.group x) ≡ true
     → c.group y ≡ Some q → (if b then Some new else c.group y) ≡ Some q
 group_if c x y new q false n v e = e
-group_if c x y new q true n v e =
-    absurd (no_group _ v (something_is_there (c.group x) q (ap c.group (eqb-true x y n) ∙ e)))
+group_if c x y new q true n v e = absurd (no_group _ v (thing_is_there (c.group x) q (ap c.group (eqb-true x y n) ∙ e)))
 
 keeps_group : (g : ℕ) (q : GroupPerm) (c : Context) → not (known c.group g) ≡ true
     → Keeps c (record c { group = with_group g q c.group })
@@ -118,7 +117,7 @@ LocalsKeep c d = (x : ℕ) (l : Local) → c.local x ≡ Some l → (h : Held) �
 keeps_closed : (c d : Context) → LocalsKeep c d → Keeps c (closed c d)
 keeps_closed c d k = record {
   local = λ x l e. inside_if (is_some (c.local x)) (d.local x) l
-      (something_is_there (c.local x) l e) (k x l e);
+      (thing_is_there (c.local x) l e) (k x l e);
   group = λ g q e. e;
 }
 

@@ -1,6 +1,7 @@
 -- Proofs of the laws.
 use Rattle.std.proofs.Common.{◌≡◌, ◌⊎◌, inl, inr, refl, ap, subst, ℕ, arith, nat_eq, nat_lt, ◌+◌, ◌-◌, ◌&&◌, Bool}
 use Rattle.std.proofs.Common.{true, false, if◌then◌else◌, Option, None, Some}
+use Rattle.std.specs.Prelude.{is_some}
 use Rattle.std.proofs.lemmas.Bool.{eq-eqb}
 use Rattle.std.proofs.lemmas.Bool.Decides.{nat_tests}
 use Rattle.ae_text.specs.declared.refusal.Spot.{Spot}
@@ -14,7 +15,7 @@ use Rattle.ae_rules.specs.Shares.{Share, most_lent, splits, joins, lend, lend_mo
 use Rattle.ae_rules.specs.Statements.{judge_statement}
 use Rattle.ae_rules.specs.Judges.{verdict}
 use Rattle.ae_rules.specs.Laws.{JudgedOrBroken, NeverBoth, AcceptedOrBroken, NeverAcceptedAndBroken, FirstIsOne}
-use Rattle.ae_rules.specs.Laws.{TakenIsGivenBack, NothingToTake}
+use Rattle.ae_rules.specs.Laws.{TakenIsGivenBack, NothingToTake, TakingTellsPermission}
 
 -- ---- verdicts
 
@@ -124,3 +125,19 @@ nothing_of_inner n g = refl
 
 pub nothing_to_take : NothingToTake
 nothing_to_take n = (nothing_of_none n, nothing_of_inner n)
+
+-- ---- what is held, and what can be taken of it
+
+shared_is_taken : (g h : ℕ) (b : Bool)
+    → b ≡ is_some {T = Share} (if b then Some (held.Shared g, held.Shared g) else None)
+shared_is_taken g h true = refl
+shared_is_taken g h false = refl
+
+pub taking_tells_permission : TakingTellsPermission
+taking_tells_permission held.Unique = (refl, refl, λ g. refl, λ n. refl)
+taking_tells_permission (held.Split k) = (refl, refl, λ g. refl, λ n. absurd (n k refl))
+taking_tells_permission held.Immutable = (refl, refl, λ g. refl, λ n. refl)
+taking_tells_permission held.Lent = (refl, refl, λ g. refl, λ n. refl)
+taking_tells_permission (held.Shared k) = (refl, refl, λ g. shared_is_taken k g (nat_eq k g), λ n. refl)
+taking_tells_permission (held.Inner k) = (refl, refl, λ g. refl, λ n. refl)
+taking_tells_permission held.None = (refl, refl, λ g. refl, λ n. refl)

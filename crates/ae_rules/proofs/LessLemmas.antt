@@ -1,5 +1,5 @@
 -- What an instance uses is at most what the statement uses in which it lies.
-use Rattle.std.proofs.Common.{◌≡◌, refl, Bool, true, false, ◌&&◌, not, if◌then◌else◌, List, [], ◌∷◌, Option, None, Some}
+use Rattle.std.proofs.Common.{◌≡◌, refl, Bool, true, false, not, if◌then◌else◌, List, [], ◌∷◌, Option, None, Some}
 use Rattle.std.specs.Prelude.{zip}
 use Rattle.ae_rules.specs.declared.uses.Resource.{Resource}
 use Rattle.ae_rules.specs.declared.uses.Resource.TheVariants as resource
@@ -8,31 +8,26 @@ use Rattle.ae_rules.specs.declared.uses.Mode.TheVariants as mode
 use Rattle.ae_rules.specs.Edges.{is_strong, are_compatible, IsConflict, Uses}
 use Rattle.ae_rules.specs.declared.held.GroupPerm.{GroupPerm}
 use Rattle.ae_rules.specs.declared.held.GroupPerm.TheVariants as group
-use Rattle.ae_rules.specs.Verdict.{Verdict, Holds, Broken, given}
+use Rattle.ae_rules.specs.Verdict.{given}
 use Rattle.ae_rules.specs.Context.{Context}
-use Rattle.ae_rules.specs.Uses.{nothing, same_resource, use_alone, stronger, ◌∪◌, of_each, of_judged, of_found}
-use Rattle.ae_rules.specs.Uses.{is_seen, outside, all_but}
-use Rattle.ae_rules.specs.EdgeLaws.{is_of_local, group_allows, is_allowed}
+use Rattle.ae_rules.specs.Uses.{nothing, same_resource, use_alone, stronger, ◌∪◌, of_each, of_found, is_seen}
+use Rattle.ae_rules.specs.Uses.{outside, all_but}
+use Rattle.ae_rules.specs.EdgeLaws.{IsAtMost, is_of_local, group_allows, is_allowed}
 use Rattle.ae_rules.specs.Instances.{renamed}
+use Rattle.ae_rules.proofs.EdgeLemmas.{strong_before, strong_after}
 use Rattle.ae_rules.proofs.SeenLemmas.{Within}
 use Rattle.ae_rules.proofs.from_text.Basics.{second_of_both}
-use Rattle.ae_rules.proofs.EdgeLemmas.{strong_before, strong_after}
 
 -- ---- at most as strong
 
-abbrev pub IsLess : Option Mode → Option Mode → Type 0
-IsLess None q = Unit {0}
-IsLess (Some m) None = ⊥
-IsLess (Some m) (Some n) = is_strong m ≡ true → is_strong n ≡ true
-
 pub record Less (u v : Uses) : Type 0 where
-  pub at : (r : Resource) → IsLess (u r) (v r)
+  pub at : (r : Resource) → IsAtMost (u r) (v r)
 
-itself : (o : Option Mode) → IsLess o o
+itself : (o : Option Mode) → IsAtMost o o
 itself None = tt
 itself (Some m) = λ s. s
 
-then_less : (o q s : Option Mode) → IsLess o q → IsLess q s → IsLess o s
+then_less : (o q s : Option Mode) → IsAtMost o q → IsAtMost q s → IsAtMost o s
 then_less None q s h k = tt
 then_less (Some m) None s h k = absurd h
 then_less (Some m) (Some n) None h k = absurd k
@@ -55,12 +50,12 @@ strong_else : (b : Bool) (m n : Mode) → is_strong m ≡ b → is_strong n ≡ 
 strong_else true m n e s = e
 strong_else false m n e s = s
 
-in_left : (o q : Option Mode) → IsLess o (stronger o q)
+in_left : (o q : Option Mode) → IsAtMost o (stronger o q)
 in_left None q = tt
 in_left (Some m) None = λ s. s
 in_left (Some m) (Some n) = λ s. strong_if (is_strong m) m n refl s
 
-in_right : (o q : Option Mode) → IsLess q (stronger o q)
+in_right : (o q : Option Mode) → IsAtMost q (stronger o q)
 in_right None q = itself q
 in_right (Some m) None = tt
 in_right (Some m) (Some n) = λ s. strong_else (is_strong m) m n refl s
@@ -76,7 +71,7 @@ strong_one : (b : Bool) (m n l : Mode) → (is_strong m ≡ true → is_strong l
 strong_one true m n l h k e = h e
 strong_one false m n l h k e = k e
 
-in_two : (o q s : Option Mode) → IsLess o s → IsLess q s → IsLess (stronger o q) s
+in_two : (o q s : Option Mode) → IsAtMost o s → IsAtMost q s → IsAtMost (stronger o q) s
 in_two None q s h k = k
 in_two (Some m) None s h k = h
 in_two (Some m) (Some n) None h k = absurd h
@@ -85,21 +80,21 @@ in_two (Some m) (Some n) (Some l) h k = strong_one (is_strong m) m n l h k
 pub less_both : (u v w : Uses) → Less u w → Less v w → Less (u ∪ v) w
 less_both u v w h k = record { at = λ r. in_two (u r) (v r) (w r) (h.at r) (k.at r) }
 
-shown_less : (b : Bool) (o q : Option Mode) → IsLess o q → IsLess (if b then o else None) (if b then q else None)
+shown_less : (b : Bool) (o q : Option Mode) → IsAtMost o q → IsAtMost (if b then o else None) (if b then q else None)
 shown_less true o q h = h
 shown_less false o q h = tt
 
 pub less_outside : (c : Context) (u v : Uses) → Less u v → Less (outside c u) (outside c v)
 less_outside c u v h = record { at = λ r. shown_less (is_seen c r) (u r) (v r) (h.at r) }
 
-shown_once : (b : Bool) (o : Option Mode) → IsLess (if b then o else None) o
+shown_once : (b : Bool) (o : Option Mode) → IsAtMost (if b then o else None) o
 shown_once true o = itself o
 shown_once false o = tt
 
 pub outside_less : (c : Context) (u : Uses) → Less (outside c u) u
 outside_less c u = record { at = λ r. shown_once (is_seen c r) (u r) }
 
-hidden_less : (b : Bool) (o q : Option Mode) → IsLess o q → IsLess (if b then None else o) (if b then None else q)
+hidden_less : (b : Bool) (o q : Option Mode) → IsAtMost o q → IsAtMost (if b then None else o) (if b then None else q)
 hidden_less true o q h = tt
 hidden_less false o q h = h
 
@@ -107,7 +102,7 @@ pub less_all_but : (s : Resource) (u v : Uses) → Less u v → Less (all_but s 
 less_all_but s u v h = record { at = λ r. hidden_less (same_resource s r) (u r) (v r) (h.at r) }
 
 one_less : (b : Bool) (m n : Mode) → (is_strong m ≡ true → is_strong n ≡ true)
-    → IsLess (if b then Some m else None) (if b then Some n else None)
+    → IsAtMost (if b then Some m else None) (if b then Some n else None)
 one_less true m n h = h
 one_less false m n h = tt
 
@@ -140,12 +135,12 @@ less_zip u v h (x ∷ xs) (y ∷ ys) = less_both (u (x, y)) (of_each u (zip xs y
 
 -- ---- a mode of its kind
 
-abbrev pub fits : Resource → Mode → Bool
-fits (resource.Local x) m = is_of_local m
-fits (resource.Group g) m = not (is_of_local m)
+abbrev pub suits : Resource → Mode → Bool
+suits (resource.Local x) m = is_of_local m
+suits (resource.Group g) m = not (is_of_local m)
 
 abbrev pub Fit : Uses → Type 0
-Fit u = (r : Resource) (n : Mode) → u r ≡ Some n → fits r n ≡ true
+Fit u = (r : Resource) (n : Mode) → u r ≡ Some n → suits r n ≡ true
 
 group_fits : (q : GroupPerm) (n : Mode) → group_allows q n ≡ true → not (is_of_local n) ≡ true
 group_fits group.Exclusive mode.Read e = absurd (cc)
@@ -164,7 +159,7 @@ given_fits : (o : Option GroupPerm) (n : Mode) → given o false (λ q. group_al
 given_fits None n e = absurd (cc)
 given_fits (Some q) n e = group_fits q n e
 
-allowed_fits : (c : Context) (r : Resource) (n : Mode) → is_allowed c r n ≡ true → fits r n ≡ true
+allowed_fits : (c : Context) (r : Resource) (n : Mode) → is_allowed c r n ≡ true → suits r n ≡ true
 allowed_fits c (resource.Local x) n e = second_of_both _ (is_of_local n) e
 allowed_fits c (resource.Group g) n e = given_fits (c.group g) n e
 
@@ -174,7 +169,7 @@ fit_within c u h r n e = allowed_fits c r n (h r n e)
 pub fit_nothing : Fit nothing
 fit_nothing r n e = absurd (cc)
 
-weak_apart : (r : Resource) (m n : Mode) → fits r m ≡ true → fits r n ≡ true → is_strong m ≡ false
+weak_apart : (r : Resource) (m n : Mode) → suits r m ≡ true → suits r n ≡ true → is_strong m ≡ false
     → is_strong n ≡ false → are_compatible m n ≡ false → ⊥
 weak_apart r mode.Write n f g s t e = cc
 weak_apart r mode.GroupWhole n f g s t e = cc
@@ -190,16 +185,16 @@ weak_apart (resource.Local x) mode.GroupShared mode.Read f g s t e = cc
 weak_apart (resource.Group x) mode.GroupShared mode.Read f g s t e = cc
 
 -- what conflicts still does, where both are used at least as strongly
-modes_conflict : (r : Resource) (m n k l : Mode) (a b : Bool) → is_strong m ≡ a → is_strong n ≡ b → fits r m ≡ true
-    → fits r n ≡ true → are_compatible m n ≡ false
+modes_conflict : (r : Resource) (m n k l : Mode) (a b : Bool) → is_strong m ≡ a → is_strong n ≡ b → suits r m ≡ true
+    → suits r n ≡ true → are_compatible m n ≡ false
     → (is_strong m ≡ true → is_strong k ≡ true) → (is_strong n ≡ true → is_strong l ≡ true) → are_compatible k l ≡ false
 modes_conflict r m n k l true b s t f g e h i = strong_before k l (h s)
 modes_conflict r m n k l false true s t f g e h i = strong_after k l (i t)
 modes_conflict r m n k l false false s t f g e h i = absurd (weak_apart r m n f g s t e)
 
-more_conflict : (r : Resource) (o q v w : Option Mode) → ((m : Mode) → o ≡ Some m → fits r m ≡ true)
-    → ((m : Mode) → q ≡ Some m → fits r m ≡ true)
-    → IsConflict o q → IsLess o v → IsLess q w → IsConflict v w
+more_conflict : (r : Resource) (o q v w : Option Mode) → ((m : Mode) → o ≡ Some m → suits r m ≡ true)
+    → ((m : Mode) → q ≡ Some m → suits r m ≡ true)
+    → IsConflict o q → IsAtMost o v → IsAtMost q w → IsConflict v w
 more_conflict r None q v w f g e h i = absurd e
 more_conflict r (Some m) None v w f g e h i = absurd e
 more_conflict r (Some m) (Some n) None w f g e h i = absurd h

@@ -13,9 +13,19 @@ mod PredLemmas
 mod LessLemmas
 mod InstanceLemmas
 pub mod PathLemmas
+mod WalkLemmas
+mod RootLemmas
+mod TruthLemmas
+pub mod AnswerLemmas
+mod OrderLemmas
 mod BlockLemmas
 mod GoneLemmas
 mod EffectLemmas
 mod DeclareLemmas
+mod ChangeLemmas
+mod EverywhereLemmas
+mod BelowLemmas
+mod ShapeLemmas
+mod HeldLemmas
 mod CaseLemmas
 mod CaseUseLemmas

@@ -46,7 +46,8 @@ use Rattle.ae_rules.proofs.LessLemmas.{less_outside, outside_less, less_all_but,
 use Rattle.ae_rules.proofs.LessLemmas.{fit_nothing, conflict_more}
 use Rattle.ae_rules.proofs.InstanceLemmas.{block_less, body_uses, callee_less, fit_outside, fit_lock, fit_body}
 use Rattle.ae_rules.proofs.EdgeLemmas.{conflicts_are_ordered}
-use Rattle.ae_rules.specs.EdgeLaws.{ConflictsAreFirst}
+use Rattle.ae_rules.specs.EdgeLaws.{ConflictsAreFirst, point_from, UsesInsideAreAtMost}
+use Rattle.std.proofs.lemmas.Option.{same_Some}
 
 -- ---- verdicts
 
@@ -77,22 +78,25 @@ numbered : (p : Code) (o : Option ℕ) (m : Definition) → given o None (method
 numbered p None m e = absurd (cc)
 numbered p (Some n) m e = (n, e)
 
-mapped : {A B : Type 0} (g : A → B) (o : Option A) (y : B) → option_map g o ≡ Some y
+-- what a mapped option has comes from what the option has
+pub mapped : {A B : Type 0} (g : A → B) (o : Option A) (y : B) → option_map g o ≡ Some y
     → (x : A) × (o ≡ Some x) × (g x ≡ y)
 mapped g None y e = absurd (cc)
 mapped g (Some x) y e = (x, refl, cc)
 
-called_by_number : (p : Code) (names groups : List ℕ) (o : Option ℕ) (k : Callee)
-    → given o None (callee_at p names groups) ≡ Some k → IsMethod p k.method
+-- the method that is called has a number
+pub called_by_number : (p : Code) (names groups : List ℕ) (o : Option ℕ) (k : Callee)
+    → given o None (callee_at p names groups) ≡ Some k → (n : ℕ) × (o ≡ Some n) × (method_at p n ≡ Some k.method)
 called_by_number p names groups None k e = absurd (cc)
 called_by_number p names groups (Some n) k e =
     let r = mapped _ (method_at p n) k e in
-    (n, r.1 ∙ ap Some (ap (λ (z : Callee). z.method) r.2))
+    (n, refl, r.1 ∙ ap Some (ap (λ (z : Callee). z.method) r.2))
 
 member_method : (p : Code) (o : Option Class) (l : Kind) (x : ℕ) (k : Callee) → given o None (callee_in p l x)
     ≡ Some k → IsMethod p k.method
 member_method p None l x k e = absurd (cc)
-member_method p (Some c) l x k e = called_by_number p (bare_names c.groups) (groups_of l) (method_number p c x) k e
+member_method p (Some c) l x k e = let r = called_by_number p (bare_names c.groups) (groups_of l)
+    (method_number p c x) k e in (r.0, r.2)
 
 form_method : (p : Code) (t : Form) (x : ℕ) (k : Callee) → callee_of p t x ≡ Some k → IsMethod p k.method
 form_method p f.Int x k e = absurd (cc)
@@ -101,8 +105,8 @@ form_method p (f.Object q l) x k e = member_method p (class_of p l) l x k e
 
 callee_method : (p : Code) (c : Context) (on : Option Path) (x : NameAt) (k : Callee)
     → judge_callee p c on x ≡ Holds k → IsMethod p k.method
-callee_method p c None x k e = called_by_number p [] [] (top_number p x.name) k
-    (found_is (top_callee p x.name) rule.UnknownMethod x.at k e)
+callee_method p c None x k e = let r = called_by_number p [] [] (top_number p x.name) k
+    (found_is (top_callee p x.name) rule.UnknownMethod x.at k e) in (r.0, r.2)
 callee_method p c (Some path) x k e =
     let w = first_holds (walk p c path) _ k e in
     let t = first_holds (require (is_object w.0.form) rule.TypeMismatch path.root.at) _ k w.2
@@ -363,15 +367,12 @@ step p acc locked m at (Returns e) c d h =
 -- ---- a statement of a block
 
 -- the context before a statement of a judged block, in which it is judged
-record Located (p : Code) (m : Definition) (a : Action) (v : Option Context) : Type 0 where
-  before : Context
-  after : Context
-  at : Spot
-  is : v ≡ Some before
-  judged : judge_statement p m at a before ≡ Holds after
-
-some_action : (a b : Action) → Some a ≡ Some b → a ≡ b
-some_action a b e = cc
+pub record Located (p : Code) (m : Definition) (a : Action) (v : Option Context) : Type 0 where
+  pub before : Context
+  pub after : Context
+  pub at : Spot
+  pub is : v ≡ Some before
+  pub judged : judge_statement p m at a before ≡ Holds after
 
 located : (p : Code) (m : Definition) (b : Lines) (c d : Context) (i : ℕ) (a : Action) → judge_lines p m b c ≡ Holds d
     → statement_at b i ≡ Some a → Located p m a (context_at p m b c i)
@@ -384,7 +385,7 @@ located p m (Next at s rest) c d zero a h e =
       at = at;
       is = refl;
       judged = ap (λ x. judge_statement p m at x c)
-          (sym (some_action s a e)) ∙ r.1;
+          (sym (same_Some s a e)) ∙ r.1;
     }
 located p m (Next at s rest) c d (suc i) a h e =
     let r = first_holds (judge_statement p m at s c) (judge_lines p m rest) d h in
@@ -418,8 +419,8 @@ inside_is p locked s i a c e k =
     ap (λ o. given o Nowhere (λ x. given (context_at p s.method s.lines s.start i) Nowhere
     (in_statement p locked s.method x))) e ∙ ap (λ v. given v Nowhere (in_statement p locked s.method a)) k
 
-pub fit_statement : (p : Code) (m : Definition) (at : Spot) (a : Action) (c d : Context) → judge_statement p m at a c
-    ≡ Holds d → Held (statement_uses p m a c) (statement_uses p m a c)
+fit_statement : (p : Code) (m : Definition) (at : Spot) (a : Action) (c d : Context)
+    → judge_statement p m at a c ≡ Holds d → Held (statement_uses p m a c) (statement_uses p m a c)
 fit_statement p m at a c d h =
     record {
       less = less_itself (statement_uses p m a c);
@@ -529,9 +530,6 @@ good_inside p acc locked s j i (Some a) e =
     let st : Step p locked s.method a l.before = step p acc locked s.method l.at a l.before l.after l.judged in
     subst (IsGoodAt p) (sym (inside_is p locked s i a l.before e l.is)) (st.bound, st.good)
 
-some_parting : (x y : Parting) → Some x ≡ Some y → x ≡ y
-some_parting x y h = cc
-
 good_next : (p : Code) → Accepts p → (at : Point) → IsGoodAt p at → (i : ℕ) → IsGoodAt p (inside p at i)
 good_next p acc (InBlock locked s) g i = good_inside p acc locked s g.1.0 i (statement_at s.lines i) refl
 good_next p acc (AtChoice locked s None) g zero = (all_uses p s, (g.1.0, less_itself (all_uses p s)))
@@ -556,7 +554,7 @@ good_parting p acc at (i ∷ q) (j ∷ r) k g e = by_number
     by_number : (parting_from p (inside p at i) q r ≡ Some k → IsGoodAt p k.at) → (b : Bool)
         → (if b then parting_from p (inside p at i) q r else Some here) ≡ Some k → IsGoodAt p k.at
     by_number later true h = later h
-    by_number later false h = subst (λ (x : Parting). IsGoodAt p x.at) (some_parting here k h) g
+    by_number later false h = subst (λ (x : Parting). IsGoodAt p x.at) (same_Some here k h) g
 
 good_first : (p : Code) → Accepts p → (o : Option Definition) → top_called p main ≡ o → IsGoodAt p (first_point p)
 good_first p acc None e = subst (IsGoodAt p)
@@ -593,3 +591,16 @@ conflicts_are_first p acc q r k locked s e l =
       order = subst (λ (z : Point). IsFirstAt p z k.fork.left k.fork.right)
           (sym e) (inr b);
     }
+
+-- ---- what is used inside a statement
+
+good_along : (p : Code) → Accepts p → (at : Point) → IsGoodAt p at → (q : List ℕ) → IsGoodAt p (point_from p at q)
+good_along p acc at g [] = g
+good_along p acc at g (i ∷ q) = good_along p acc (inside p at i) (good_next p acc at g i) q
+
+pub uses_inside_are_at_most : UsesInsideAreAtMost
+uses_inside_are_at_most p acc q locked s e i r on =
+    let g : IsGoodAt p (InBlock locked s) = subst (IsGoodAt p) e
+    (good_along p acc (first_point p) (good_first p acc (top_called p main) refl) q) in
+    let h = in_scene p acc locked s g.1.0 i r (along p acc r) (statement_at s.lines i) refl in
+    h.less.at on

@@ -1,11 +1,10 @@
 -- The list of the statements for which a statement waits.
 use Rattle.std.proofs.Common.{◌≡◌, ◌<◌, ◌⊎◌, inl, inr, refl, sym, ap, ◌∙◌, subst, arith, ℕ, zero, suc, nat_lt, Bool}
-use Rattle.std.proofs.Common.{true, false, ◌&&◌, ◌||◌, not, if◌then◌else◌, List, [], ◌∷◌, ◌++◌, length, Option, None}
-use Rattle.std.proofs.Common.{Some}
+use Rattle.std.proofs.Common.{true, false, ◌||◌, not, if◌then◌else◌, List, [], ◌∷◌, ◌++◌, length, Option, None, Some}
 use Rattle.std.specs.List.{Contains}
 use Rattle.std.specs.Prelude.{slice_index_or}
 use Rattle.std.proofs.lemmas.List.{append-nil}
-use Rattle.std.proofs.lemmas.Bool.{cases_order, not-true, or_right, or_cases, or_left, and_from, not_from_false}
+use Rattle.std.proofs.lemmas.Bool.{cases_order, and_from, not-true, not_from_false, or_cases, or_left, or_right}
 use Rattle.std.proofs.lemmas.Bool.Decides.{nat_tests}
 use Rattle.std.proofs.lemmas.List.Elements.{Contains-append_left, Contains-append_right, Contains-append_cases}
 use Rattle.ae_rules.specs.declared.uses.Resource.{Resource}
@@ -14,19 +13,22 @@ use Rattle.ae_rules.specs.declared.uses.Mode.{Mode}
 use Rattle.ae_rules.specs.Edges.{are_compatible, is_strong, IsConflict, IsWeak, IsRising, BlockUses, Edge}
 use Rattle.ae_rules.specs.Context.{all_below}
 use Rattle.ae_rules.specs.EdgeLists.{conflicts, is_weak, edge_on, any_below, is_edge, those_below}
-use Rattle.ae_rules.specs.EdgeLaws.{name_of_resource, NamesBelow, PredsAreEdges}
-use Rattle.ae_rules.proofs.from_text.Basics.{second_of_both, first_of_both, below_or_last}
+use Rattle.ae_rules.specs.EdgeLaws.{name_of_resource, NamesBelow, PredsAreEdges, ModeTestsAreExact}
+use Rattle.ae_rules.proofs.from_text.Basics.{below_or_last}
+use Rattle.ae_rules.proofs.from_text.Basics.{first_of_both, second_of_both}
 
 -- ---- tests
 
-all_at : (n : ℕ) (test : ℕ → Bool) (i : ℕ) → all_below n test ≡ true → i < n → test i ≡ true
+-- what is so of all numbers below a bound is so of each
+pub all_at : (n : ℕ) (test : ℕ → Bool) (i : ℕ) → all_below n test ≡ true → i < n → test i ≡ true
 all_at zero test i e l = absurd (omega (arith, l))
 all_at (suc n) test i e l = elim (below_or_last i n l) [
   | inl m ↦ all_at n test i (second_of_both (test n) (all_below n test) e) m
   | inr q ↦ ap test q ∙ first_of_both (test n) (all_below n test) e
 ]
 
-all_of : (n : ℕ) (test : ℕ → Bool) → ((i : ℕ) → i < n → test i ≡ true) → all_below n test ≡ true
+-- what is so of each number below a bound is so of all
+pub all_of : (n : ℕ) (test : ℕ → Bool) → ((i : ℕ) → i < n → test i ≡ true) → all_below n test ≡ true
 all_of zero test h = refl
 all_of (suc n) test h = and_from (test n) (all_below n test) (h n (omega arith))
     (all_of n test (λ i l. h i (omega (arith, l))))
@@ -113,6 +115,9 @@ weak_from (Some m) e = not-true (is_strong m) e
 weak_to : (o : Option Mode) → IsWeak o → is_weak o ≡ true
 weak_to None h = refl
 weak_to (Some m) h = not_from_false (is_strong m) h
+
+pub mode_tests_are_exact : ModeTestsAreExact
+mode_tests_are_exact o q = ((conflict_from o q, conflict_to o q), (weak_from o, weak_to o))
 
 used_first : (o q : Option Mode) → IsConflict o q → (m : Mode) × (o ≡ Some m)
 used_first None q h = absurd h

@@ -1,8 +1,8 @@
 -- What a judged statement uses is visible.
-use Rattle.std.proofs.Common.{◌≡◌, ◌⊎◌, inl, inr, refl, sym, ap, subst, ℕ, Bool, true, false, ◌||◌, ◌&&◌}
-use Rattle.std.proofs.Common.{if◌then◌else◌, List, [], ◌∷◌, Option, None, Some}
+use Rattle.std.proofs.Common.{◌≡◌, ◌⊎◌, inl, inr, refl, sym, ap, subst, ℕ, Bool, true, false, if◌then◌else◌, List}
+use Rattle.std.proofs.Common.{[], ◌∷◌, Option, None, Some}
 use Rattle.std.specs.Prelude.{is_some, ⊤}
-use Rattle.std.proofs.lemmas.Bool.{eqb-true, or_cases, and_from}
+use Rattle.std.proofs.lemmas.Bool.{eqb-true, and_from, or_cases}
 use Rattle.ae_text.specs.declared.refusal.Spot.{Spot}
 use Rattle.ae_text.specs.declared.refusal.Rule.{Rule}
 use Rattle.ae_text.specs.declared.refusal.Rule.TheVariants as rule
@@ -31,11 +31,12 @@ use Rattle.ae_rules.specs.Expressions.{expression_spot, Operands, Numbers, Truth
 use Rattle.ae_rules.specs.Expressions.{path_beside_null, beside_null, has_form, both_have, two_alike, equal_operands}
 use Rattle.ae_rules.specs.Expressions.{judge_operands, judge_value, is_value}
 use Rattle.ae_rules.specs.Uses.{nothing, same_resource, use_alone, read_use, write_use, whole_group, together}
-use Rattle.ae_rules.specs.Uses.{stronger, ◌∪◌, of_each, of_judged, of_found, is_seen, outside, all_but, reach_use}
-use Rattle.ae_rules.specs.Uses.{steps_use, walk_uses, path_uses, end_uses, root_written, write_uses, value_uses}
+use Rattle.ae_rules.specs.Uses.{stronger, ◌∪◌, of_each, of_judged, of_found, is_seen, outside, reach_use, steps_use}
+use Rattle.ae_rules.specs.Uses.{walk_uses, path_uses, end_uses, root_written, write_uses, value_uses}
 use Rattle.ae_rules.specs.EdgeLaws.{is_of_local, group_allows, is_allowed}
 use Rattle.ae_rules.proofs.VerdictLemmas.{Yields, gives, next, asks, always}
-use Rattle.ae_rules.proofs.from_text.Basics.{option_holds_one, something_is_there}
+use Rattle.ae_rules.proofs.TruthLemmas.{shown_behind_test, thing_is_there}
+use Rattle.ae_rules.proofs.from_text.Basics.{option_holds_one}
 
 -- ---- verdicts
 
@@ -114,16 +115,8 @@ outside_if false o n e = absurd (cc)
 abbrev pub Inside : Context → Uses → Type 0
 Inside c u = (r : Resource) (n : Mode) → u r ≡ Some n → is_seen c r ≡ true → is_allowed c r n ≡ true
 
-pub outside_use : (b : Bool) (o : Option Mode) (n : Mode) → (if b then o else None) ≡ Some n → o ≡ Some n
-outside_use true o n e = e
-outside_use false o n e = absurd (cc)
-
 pub in_outside : (c : Context) (u : Uses) → Inside c u → Within c (outside c u)
-in_outside c u h r n e = h r n (outside_use (is_seen c r) (u r) n e) (outside_if (is_seen c r) (u r) n e)
-
-pub but_if : (b : Bool) (o : Option Mode) (n : Mode) → (if b then None else o) ≡ Some n → o ≡ Some n
-but_if true o n e = absurd (cc)
-but_if false o n e = e
+in_outside c u h r n e = h r n (shown_behind_test (is_seen c r) (u r) n e) (outside_if (is_seen c r) (u r) n e)
 
 -- each of a list that is judged in turn
 pub in_turns : {A S : Type 0} (c : Context) (premise : A → S → Verdict S) (u : A → Uses)
@@ -213,7 +206,7 @@ pub root_seen : (p : Code) (c : Context) (path : Path)
     → Yields (λ _. is_seen c (resource.Local path.root.name) ≡ true) (walk p c path)
 root_seen p c path =
     next (found (c.local path.root.name) rule.UnknownName path.root.at) λ l e.
-    always (something_is_there (c.local path.root.name) l
+    always (thing_is_there (c.local path.root.name) l
     (found_is (c.local path.root.name) rule.UnknownName path.root.at l e))
 
 pub in_walk : (p : Code) (c : Context) (path : Path) → Yields (λ _. Within c (walk_uses p c path)) (walk p c path)

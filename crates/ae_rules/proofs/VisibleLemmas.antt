@@ -3,7 +3,6 @@ use Rattle.ae_rules.specs.Edges.{Uses}
 use Rattle.std.proofs.Common.{◌≡◌, inl, inr, refl, sym, ap, ◌∙◌, subst, ℕ, nat_eq, Bool, true, false, ◌&&◌, not}
 use Rattle.std.proofs.Common.{if◌then◌else◌, List, map, Option, None, Some}
 use Rattle.std.specs.Prelude.{is_some, length, zip, ⊤}
-use Rattle.std.proofs.lemmas.Bool.{eq-eqb, false≢true}
 use Rattle.ae_text.specs.declared.refusal.Spot.{Spot}
 use Rattle.ae_text.specs.declared.refusal.Rule.TheVariants as rule
 use Rattle.ae_tree.specs.declared.tree.NameAt.{NameAt}
@@ -39,7 +38,7 @@ use Rattle.ae_rules.specs.Groups.{need_met, needs_met, may_split, may_split_all,
 use Rattle.ae_rules.specs.Context.{Local, Context, is_visible}
 use Rattle.ae_rules.specs.Walks.{Place, walk, owner, write_access, owner_write_access}
 use Rattle.ae_rules.specs.Expressions.{expression_spot, judge_value, is_value}
-use Rattle.ae_rules.specs.Into.{Source, Null, From, source, path_into, source_into, moves, into}
+use Rattle.ae_rules.specs.Into.{Source, Null, From, source, source_fits, fits, moves, into}
 use Rattle.ae_rules.specs.Calls.{Roots, Filled, no_roots, apart, fills, judge_new, Callee, judge_callee}
 use Rattle.ae_rules.specs.Calls.{judge_callee_with, judge_call, ParamSlot, slots, givens, group_in, source_to_param}
 use Rattle.ae_rules.specs.Calls.{to_form, to_slot}
@@ -59,8 +58,11 @@ use Rattle.ae_rules.proofs.KeepLemmas.{statements_keep}
 use Rattle.ae_rules.proofs.SeenLemmas.{weaker, found_is, required, Within, in_nothing, in_read, in_changed}
 use Rattle.ae_rules.proofs.SeenLemmas.{in_exclusive, in_shared, in_open, Inside, of_two, in_both, in_judged}
 use Rattle.ae_rules.proofs.SeenLemmas.{in_found, in_outside, in_turns, in_each, root_seen, in_walk, in_path}
-use Rattle.ae_rules.proofs.SeenLemmas.{in_write, in_owner, in_value, in_is_value, but_if}
-use Rattle.ae_rules.proofs.from_text.Basics.{number_is_itself, option_holds_one, something_is_there}
+use Rattle.ae_rules.proofs.SeenLemmas.{in_write, in_owner, in_value, in_is_value}
+use Rattle.ae_rules.proofs.TruthLemmas.{left_by_test, thing_is_there}
+use Rattle.ae_rules.proofs.from_text.Basics.{option_holds_one}
+use Rattle.std.proofs.lemmas.Bool.{false≢true}
+use Rattle.ae_rules.proofs.from_text.Basics.{number_is_itself}
 
 -- what is found is the thing of which it holds
 here : {A : Type 0} (c : Context) (o : Option A) (u : A → Uses) (x : A) → o ≡ Some x → Within c (u x)
@@ -77,26 +79,25 @@ in_moved c perm.Lent path s = in_nothing c
 in_moved c (perm.Shared g) path s = in_nothing c
 
 in_source : (p : Code) (c : Context) (q : Perm) (k : Kind) (s : Source) (at : Spot)
-    → Yields (λ _. Within c (source_uses p c q s)) (source_into p c q k s at)
+    → Yields (λ _. Within c (source_uses p c q s)) (source_fits p c q k s at)
 in_source p c q k Null at = always (in_nothing c)
 in_source p c q k (From path) at =
-    next (path_into p c q k path at) λ u e.
-    always ((walked (path_uses p c path ∪ of_found (moves q path) write_use) (λ w h.
-    in_both c (path_uses p c path) (of_found (moves q path) write_use) ((in_path p c path).value w h)
-    (in_moved c q path ((root_seen p c path).value w h)))).value u e)
-  where
-    walked : (u : Uses) → ((w : Place) → walk p c path ≡ Holds w → Within c u)
-        → Yields (λ _. Within c u) (path_into p c q k path at)
-    walked u h = next (walk p c path) λ w e. always (h w e)
+    next (walk p c path) λ w h.
+    always (in_both c (path_uses p c path) (of_found (moves q path) write_use) ((in_path p c path).value w h)
+    (in_moved c q path ((root_seen p c path).value w h)))
 
-pub in_into : (p : Code) (c : Context) (target : Form) (e : Expression)
-    → Yields (λ _. Within c (into_uses p c target e)) (into p c target e)
-in_into p c f.Int e = next (is_value p c f.Int e) λ u h. always ((in_is_value p c f.Int e).value u h)
-in_into p c f.Bool e = next (is_value p c f.Bool e) λ u h. always ((in_is_value p c f.Bool e).value u h)
-in_into p c (f.Object q k) e =
+in_fits : (p : Code) (c : Context) (target : Form) (e : Expression) → Yields (λ _. Within c (into_uses p c target e))
+    (fits p c target e)
+in_fits p c f.Int e = in_is_value p c f.Int e
+in_fits p c f.Bool e = in_is_value p c f.Bool e
+in_fits p c (f.Object q k) e =
     next (found (source e) rule.TypeMismatch (expression_spot e)) λ s h.
     weaker (λ _ z. here c (source e) (source_uses p c q) s
     (found_is (source e) rule.TypeMismatch (expression_spot e) s h) z) (in_source p c q k s (expression_spot e))
+
+pub in_into : (p : Code) (c : Context) (target : Form) (e : Expression)
+    → Yields (λ _. Within c (into_uses p c target e)) (into p c target e)
+in_into p c target e = next (fits p c target e) λ u h. always ((in_fits p c target e).value u h)
 
 -- ---- calls
 
@@ -204,17 +205,18 @@ in_right p c target (Returned i) = next (judge_call p c i) λ called h. always (
 
 -- ---- statements
 
-seen_later : (c d : Context) → Keeps c d → (r : Resource) → is_seen c r ≡ true → is_seen d r ≡ true
+-- what is visible before a judged statement is visible after it
+pub seen_later : (c d : Context) → Keeps c d → (r : Resource) → is_seen c r ≡ true → is_seen d r ≡ true
 seen_later c d k (resource.Local x) s = local_later (c.local x) refl s
   where
     local_later : (o : Option Local) → c.local x ≡ o → is_some o ≡ true → is_some (d.local x) ≡ true
     local_later None e h = absurd (cc)
-    local_later (Some l) e h = something_is_there (d.local x) _ (k.local x l e).1
+    local_later (Some l) e h = thing_is_there (d.local x) _ (k.local x l e).1
 seen_later c d k (resource.Group g) s = group_later (c.group g) refl s
   where
     group_later : (o : Option _) → c.group g ≡ o → is_some o ≡ true → is_some (d.group g) ≡ true
     group_later None e h = absurd (cc)
-    group_later (Some q) e h = something_is_there (d.group g) q (k.group g q e)
+    group_later (Some q) e h = thing_is_there (d.group g) q (k.group g q e)
 
 allowed_later : (c d : Context) → Keeps c d → (r : Resource) (n : Mode) → is_allowed c r n ≡ true
     → is_allowed d r n ≡ true
@@ -274,7 +276,7 @@ in_assign p c x e =
     asks (not l.stays) _ _ λ _.
     next (judge_right p c l.form e) λ d z.
     let is : c.local x.name ≡ Some l = found_is (c.local x.name) rule.UnknownName x.at l h in
-    always (in_both c (write_use x.name) _ (in_changed c x.name (something_is_there (c.local x.name) l is))
+    always (in_both c (write_use x.name) _ (in_changed c x.name (thing_is_there (c.local x.name) l is))
     (here c (c.local x.name) _ l is ((in_right p c l.form e).value d z)))
 
 in_store : (p : Code) (c : Context) (path : Path) (e : Expression) (at : Spot)
@@ -302,7 +304,7 @@ in_store_at p c path i e =
 in_alone : (c : Context) (x : NameAt) → Yields (λ _. Within c (write_use x.name)) (holds_alone c x)
 in_alone c x =
     next (found (c.local x.name) rule.UnknownName x.at) λ (l : Local) h.
-    always (in_changed c x.name (something_is_there (c.local x.name) l
+    always (in_changed c x.name (thing_is_there (c.local x.name) l
     (found_is (c.local x.name) rule.UnknownName x.at l h)))
 
 in_share : (c : Context) (x g : NameAt) → Yields (λ _. Within c (write_use x.name ∪ whole_group g.name))
@@ -385,7 +387,7 @@ split_list c gs =
       (list_exclusive c.group gs no_names).value names e,
     )
 
-shared_known : (b : Bool) (o : Option GroupPerm) → is_some o ≡ true → is_some (if b then Some group.Shared else o)
+pub shared_known : (b : Bool) (o : Option GroupPerm) → is_some o ≡ true → is_some (if b then Some group.Shared else o)
     ≡ true
 shared_known true o e = refl
 shared_known false o e = e
@@ -416,7 +418,7 @@ back_allows (Some group.Protected) n e = e
 back_allows (Some group.HeldBack) n e = e
 back_allows (Some group.None) n e = e
 
-locked_known : (b : Bool) (o : Option GroupPerm) → is_some o ≡ true
+pub locked_known : (b : Bool) (o : Option GroupPerm) → is_some o ≡ true
     → is_some (if b then Some group.Protected else held_back o) ≡ true
 locked_known true o e = refl
 locked_known false o e = back_known o e
@@ -447,7 +449,7 @@ seen_if false o n e = absurd (cc)
 in_locked : (c : Context) (g : ℕ) (u : Uses) → Inside (while_locked g c) u
     → Within c (all_but (resource.Group g) (outside c u))
 in_locked c g u h r n e =
-    let inner : outside c u r ≡ Some n = but_if (same_resource (resource.Group g) r) (outside c u r) n e in
+    let inner : outside c u r ≡ Some n = left_by_test (same_resource (resource.Group g) r) (outside c u r) n e in
     let q = seen_if (is_seen c r) (u r) n inner in
     let k = lock_opens c g r (but_other (same_resource (resource.Group g) r) (outside c u r) n e) n q.0 in
     k.1 (h r n q.1 k.0)

@@ -26,11 +26,6 @@ block_at m b c = record { method = m; lines = b; start = c }
 abbrev pub body_scene : Code → Definition → Scene
 body_scene p m = block_at m m.body (start p m)
 
--- the first, or else the second
-abbrev pub or_else : {A : Type 0} → Option A → Option A → Option A
-or_else None o = o
-or_else (Some x) o = Some x
-
 -- ---- as text
 
 -- a block's number and its statements

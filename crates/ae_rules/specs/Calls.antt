@@ -21,13 +21,13 @@ use Rattle.ae_rules.specs.declared.held.Held.{Held}
 use Rattle.ae_rules.specs.declared.held.Held.TheVariants as held
 use Rattle.ae_rules.specs.Verdict.{Verdict, Holds, Broken, ◌>>=◌, ◌>>◌, require, found, in_turn, given}
 use Rattle.ae_rules.specs.Shares.{Share, splits, joins}
-use Rattle.ae_rules.specs.Forms.{same_perm, is_object, is_object_of, is_unique, in_place, form_with}
+use Rattle.ae_rules.specs.Forms.{is_object, is_object_of, is_unique, in_place, form_with, is_unique_perm}
 use Rattle.ae_rules.specs.Lookups.{Names, class_called, class_of, groups_of, method_at, method_number, top_number}
 use Rattle.ae_rules.specs.Lookups.{field_form, own_kind}
 use Rattle.ae_rules.specs.Types.{groups_fit}
 use Rattle.ae_rules.specs.Table.{no_names, and_also}
 use Rattle.ae_rules.specs.Groups.{known, wanted_need, needs_met}
-use Rattle.ae_rules.specs.Context.{Context, same_held, held_in, with_held, with_name_moved}
+use Rattle.ae_rules.specs.Context.{Context, held_in, with_held, with_name_moved, is_held_alone}
 use Rattle.ae_rules.specs.Walks.{walk, is_name}
 use Rattle.ae_rules.specs.Expressions.{expression_spot, is_value}
 use Rattle.ae_rules.specs.Into.{Source, Null, From, source, may_leave, into_immutable, into_shared, into, unique_of}
@@ -220,8 +220,8 @@ is_part (perm.Shared g) = false
 
 abbrev pub lent_part_of : Context → Form → Bool → Option Source → Option LentPart
 lent_part_of c (f.Object q k) away (Some (From path)) =
-    if is_part q && same_held held.Unique (held_in c path.root.name)
-    then Some (record { root = path.root.name; need = q; away = away && same_perm perm.Unique q })
+    if is_part q && is_held_alone (held_in c path.root.name)
+    then Some (record { root = path.root.name; need = q; away = away && is_unique_perm q })
     else None
 lent_part_of c _ away _ = None
 

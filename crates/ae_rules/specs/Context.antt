@@ -48,6 +48,14 @@ same_held (held.Inner g) (held.Inner h) = nat_eq g h
 same_held held.None held.None = true
 same_held _ _ = false
 
+-- nothing is held
+abbrev pub holds_nothing : Held → Bool
+holds_nothing h = same_held held.None h
+
+-- all of an object is held, and by no one else
+abbrev pub is_held_alone : Held → Bool
+is_held_alone h = same_held held.Unique h
+
 -- what is held of a local; nothing, where it is not visible
 abbrev pub held_in : Context → ℕ → Held
 held_in c x = given (c.local x) held.None (λ (l : Local). l.held)

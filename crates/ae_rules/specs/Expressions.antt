@@ -9,10 +9,9 @@ use Rattle.ae_tree.specs.declared.form.Form.{Form}
 use Rattle.ae_tree.specs.declared.form.Form.TheVariants as f
 use Rattle.ae_tree.specs.Plain.{Expression, Number, Truth, Nothing, Read, Item, Length, Grouped, Negated, Minus}
 use Rattle.ae_tree.specs.Plain.{Binary, Code}
-use Rattle.ae_rules.specs.declared.held.Held.TheVariants as held
 use Rattle.ae_rules.specs.Verdict.{Verdict, Holds, Broken, ◌>>=◌, ◌>>◌, require}
 use Rattle.ae_rules.specs.Forms.{same_value, is_object, is_ints}
-use Rattle.ae_rules.specs.Context.{Context, same_held, held_in, access}
+use Rattle.ae_rules.specs.Context.{Context, held_in, access, holds_nothing}
 use Rattle.ae_rules.specs.Walks.{walk}
 
 -- the place of an expression's first token
@@ -88,7 +87,7 @@ abbrev pub null_and_path : Code → Context → Compared → Verdict ⊤
 null_and_path p c pair =
     walk p c pair.path >>= λ w.
     require (is_object w.form) rule.TypeMismatch pair.null_at >>
-    require (not (same_held held.None (held_in c pair.path.root.name))) rule.NoPermission pair.path.root.at
+    require (not (holds_nothing (held_in c pair.path.root.name))) rule.NoPermission pair.path.root.at
 
 -- two integers or two booleans, where the operands are judged so
 abbrev pub two_alike : Verdict Form → Verdict Form → Spot → Verdict ⊤

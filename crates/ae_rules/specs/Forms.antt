@@ -24,6 +24,9 @@ same_kind kind.Ints kind.Ints = true
 same_kind (kind.Class x gs) (kind.Class y hs) = nat_eq x y && same_names gs hs
 same_kind _ _ = false
 
+abbrev pub is_unique_perm : Perm → Bool
+is_unique_perm q = same_perm perm.Unique q
+
 -- both are integers, or both are booleans
 abbrev pub same_value : Form → Form → Bool
 same_value f.Int f.Int = true
@@ -52,7 +55,7 @@ is_ints form = is_object_of kind.Ints form
 abbrev pub is_unique : Form → Bool
 is_unique f.Int = false
 is_unique f.Bool = false
-is_unique (f.Object q k) = same_perm perm.Unique q
+is_unique (f.Object q k) = is_unique_perm q
 
 -- the name at the place in the second list that this name has in the first, or else the name itself
 abbrev pub in_place : List ℕ → List ℕ → ℕ → ℕ

@@ -1,6 +1,5 @@
 -- Statements as they run, by paths of numbers: where two of them part, which is first, and which conflict.
-use Rattle.std.specs.Prelude.{◌≡◌, ◌<◌, ◌⊎◌, ℕ, zero, suc, nat_eq, Bool, true, false, if◌then◌else◌, List, [], ◌∷◌}
-use Rattle.std.specs.Prelude.{◌++◌, map, zip, Option, None, Some, option_map}
+use Rattle.std.specs.Prelude.{◌≡◌, ◌<◌, ◌⊎◌, ℕ, zero, suc, nat_eq, Bool, true, false, if◌then◌else◌, List, [], ◌∷◌, ◌++◌, map, zip, Option, None, Some, option_map}
 use Rattle.ae_tree.specs.declared.tree.Me.{Me}
 use Rattle.ae_tree.specs.declared.tree.Param.{Param}
 use Rattle.ae_rules.specs.declared.uses.Resource.{Resource}
@@ -109,8 +108,7 @@ parting p q r = parting_from p (first_point p) q r
 -- Inside one atomic block source order holds among what is there; else a chain of edges leads from the one statement to the other, or they are two
 -- turns of a loop.
 abbrev pub IsFirstAt : Code → Point → ℕ → ℕ → Type 0
-IsFirstAt p (InBlock locked s) i j = ((locked ≡ true) × (i < j) × (j < statement_count s.lines))
-    ⊎ Before (scene_uses p s) i j
+IsFirstAt p (InBlock locked s) i j = ((locked ≡ true) × (i < j) × (j < statement_count s.lines)) ⊎ Before (scene_uses p s) i j
 IsFirstAt p (AtChoice locked s other) i j = (locked ≡ true) × (i < j) × (j < 2)
 IsFirstAt p (AtLoop locked uses s) i j = i < j
 IsFirstAt p Nowhere i j = ⊥

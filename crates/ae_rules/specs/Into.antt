@@ -14,7 +14,7 @@ use Rattle.ae_rules.specs.declared.held.Held.{Held}
 use Rattle.ae_rules.specs.declared.held.Held.TheVariants as held
 use Rattle.ae_rules.specs.Verdict.{Verdict, Holds, Broken, ◌>>=◌, ◌>>◌, fine, require, found, given}
 use Rattle.ae_rules.specs.Forms.{same_perm, same_value, same_kind, is_object_of}
-use Rattle.ae_rules.specs.Context.{Context, same_held}
+use Rattle.ae_rules.specs.Context.{Context, same_held, is_held_alone}
 use Rattle.ae_rules.specs.Walks.{walk, is_name}
 use Rattle.ae_rules.specs.Expressions.{expression_spot, is_value}
 
@@ -32,7 +32,7 @@ source _ = None
 
 -- into a unique form goes what is held Unique and has a name of its own
 abbrev pub into_unique : Bool → Held → Spot → Verdict ⊤
-into_unique named h at = require (named && same_held held.Unique h) rule.NeedsUnique at
+into_unique named h at = require (named && is_held_alone h) rule.NeedsUnique at
 
 abbrev pub into_immutable : Held → Spot → Verdict ⊤
 into_immutable h at = require (same_held held.Immutable h) rule.NoPermission at
@@ -56,8 +56,8 @@ into_perm perm.Lent named h at = Broken rule.LentEscapes at
 into_perm (perm.Shared g) named h at = into_shared g h at
 
 -- a path into an object's form, where the expression stands here
-abbrev pub path_into : Code → Context → Perm → Kind → Path → Spot → Verdict ⊤
-path_into p c q k path at =
+abbrev pub path_fits : Code → Context → Perm → Kind → Path → Spot → Verdict ⊤
+path_fits p c q k path at =
     walk p c path >>= λ w.
     require (is_object_of k w.form) rule.TypeMismatch at >>
     may_leave w.held at >>
@@ -68,9 +68,18 @@ abbrev pub moves : Perm → Path → Option ℕ
 moves perm.Unique path = Some path.root.name
 moves _ path = None
 
-abbrev pub source_into : Code → Context → Perm → Kind → Source → Spot → Verdict (Option ℕ)
-source_into p c q k Null at = Holds None
-source_into p c q k (From path) at = path_into p c q k path at >> Holds (moves q path)
+-- a source into an object's form
+abbrev pub source_fits : Code → Context → Perm → Kind → Source → Spot → Verdict ⊤
+source_fits p c q k Null at = fine
+source_fits p c q k (From path) at = path_fits p c q k path at
+
+-- an expression fits into a form
+abbrev pub fits : Code → Context → Form → Expression → Verdict ⊤
+fits p c f.Int e = is_value p c f.Int e
+fits p c f.Bool e = is_value p c f.Bool e
+fits p c (f.Object q k) e =
+    found (source e) rule.TypeMismatch (expression_spot e) >>= λ s.
+    source_fits p c q k s (expression_spot e)
 
 -- the name that moves with a source
 abbrev pub source_moves : Perm → Source → Option ℕ
@@ -85,11 +94,7 @@ name_into (f.Object q k) e = given (source e) None (source_moves q)
 
 -- An expression into a form. It comes to the name that moves, which holds nothing after the statement.
 abbrev pub into : Code → Context → Form → Expression → Verdict (Option ℕ)
-into p c f.Int e = is_value p c f.Int e >> Holds None
-into p c f.Bool e = is_value p c f.Bool e >> Holds None
-into p c (f.Object q k) e =
-    found (source e) rule.TypeMismatch (expression_spot e) >>= λ s.
-    source_into p c q k s (expression_spot e)
+into p c form e = fits p c form e >> Holds (name_into form e)
 
 -- ---- a made value into a form
 

@@ -14,14 +14,13 @@ use Rattle.ae_tree.specs.declared.form.Form.{Form}
 use Rattle.ae_tree.specs.Form.{form, bare_names}
 use Rattle.ae_tree.specs.Names.{io, this}
 use Rattle.ae_tree.specs.Plain.{Action, Returns, Lines, End, Next, Definition, Code}
-use Rattle.ae_rules.specs.declared.held.Held.TheVariants as held
 use Rattle.ae_rules.specs.declared.held.GroupPerm.{GroupPerm}
 use Rattle.ae_rules.specs.declared.held.GroupPerm.TheVariants as group
 use Rattle.ae_rules.specs.Verdict.{Verdict, Holds, Broken, ◌>>=◌, ◌>>◌, fine, require, each, given, if_there}
 use Rattle.ae_rules.specs.Forms.{is_object, is_unique}
 use Rattle.ae_rules.specs.Lookups.{Names, groups_of, own_kind, has_name}
 use Rattle.ae_rules.specs.Table.{table_verdict}
-use Rattle.ae_rules.specs.Context.{Local, Context, held_of, same_held, held_in}
+use Rattle.ae_rules.specs.Context.{Local, Context, held_of, held_in, is_held_alone}
 use Rattle.ae_rules.specs.Calls.{me_form}
 use Rattle.ae_rules.specs.Statements.{judge_statement, judge_lines, end_block}
 
@@ -94,7 +93,7 @@ returns (Next at a (Next at' a' rest)) = returns (Next at' a' rest)
 -- a unique parameter that comes back is held Unique
 abbrev pub must_come_back : Context → NameAt → Form → Option Spot → Verdict ⊤
 must_come_back c x form away =
-    require (not (is_unique form && is_none away) || same_held held.Unique (held_in c x.name)) rule.NotReturned x.at
+    require (not (is_unique form && is_none away) || is_held_alone (held_in c x.name)) rule.NotReturned x.at
 
 abbrev pub me_comes_back : Code → Definition → Context → Me → Verdict ⊤
 me_comes_back p m c me = must_come_back c (record { name = this; at = me.at }) (me_form p m me) me.away

@@ -1,4 +1,5 @@
 pub mod Verdict
+pub mod Answers
 pub mod Shares
 pub mod Forms
 pub mod Lookups
@@ -24,4 +25,5 @@ pub mod Stands
 pub mod Effects
 pub mod Laws
 pub mod BlockLaws
+pub mod Roots
 pub mod Cases

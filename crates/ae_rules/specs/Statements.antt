@@ -21,7 +21,7 @@ use Rattle.ae_rules.specs.Types.{is_group, forms_type}
 use Rattle.ae_rules.specs.Groups.{known, group_access, declare, may_split_all, may_lock, shared_in}
 use Rattle.ae_rules.specs.Groups.{while_others_held_back}
 use Rattle.ae_rules.specs.Context.{Local, Context, held_of, same_held, held_in, is_visible, each_name, with_local}
-use Rattle.ae_rules.specs.Context.{with_held, with_name_moved, closed, hold_alike}
+use Rattle.ae_rules.specs.Context.{with_held, with_name_moved, closed, hold_alike, holds_nothing, is_held_alone}
 use Rattle.ae_rules.specs.Walks.{walk, write_access, owner_write_access}
 use Rattle.ae_rules.specs.Expressions.{expression_spot, judge_value, is_value}
 use Rattle.ae_rules.specs.Into.{into, made_into, unique_of}
@@ -115,8 +115,8 @@ abbrev pub holds_alone : Context → NameAt → Verdict ⊤
 holds_alone c x =
     found (c.local x.name) rule.UnknownName x.at >>= λ (l : Local).
     require (is_object l.form) rule.TypeMismatch x.at >>
-    require (not (same_held held.None l.held)) rule.NoPermission x.at >>
-    require (same_held held.Unique l.held) rule.NeedsUnique x.at
+    require (not (holds_nothing l.held)) rule.NoPermission x.at >>
+    require (is_held_alone l.held) rule.NeedsUnique x.at
 
 abbrev pub judge_freeze : Context → NameAt → Verdict Context
 judge_freeze c x = holds_alone c x >> Holds (with_held x.name held.Immutable c)
@@ -142,8 +142,7 @@ judge_return p m c e at =
 
 -- no local from outside holds what is shared in this group
 abbrev pub none_shared : Code → Context → Context → ℕ → Bool
-none_shared p outside inside g = each_name p
-    (λ x. not (is_some (outside.local x) && same_held (held.Shared g) (held_in inside x)))
+none_shared p outside inside g = each_name p (λ x. not (is_some (outside.local x) && same_held (held.Shared g) (held_in inside x)))
 
 -- no group that the block declares is left in a local from outside
 abbrev pub groups_stay : Code → Context → Context → Lines → Verdict ⊤

@@ -164,11 +164,7 @@ pub ended_turn : Laws → (b : Lines) (went : ℕ → Bool) (j : ℕ) (env : Env
     → (ending : Ending) (log : List ℕ) → alone b j env ≡ Ends ending log
     → (turn b j ≡ Ends ending []) × (log ≡ [])
 ended_turn laws b went j env h ending log e =
-    let n : log ≡ [] = subst (λ (r : Run). Kept (writes_local b j) env r) e (alone-kept laws.changes b j env) in (
-      ends_alike (seen b j) ending log (turn b j) refl
-          (subst (λ (r : Run). AgreeAfter (seen b j) r (turn b j)) e (turn-agrees laws b went j env h)) n,
-      n,
-    )
+    let n : log ≡ [] = subst (λ (r : Run). Kept (writes_local b j) env r) e (alone-kept laws.changes b j env) in (ends_alike (seen b j) ending log (turn b j) refl (subst (λ (r : Run). AgreeAfter (seen b j) r (turn b j)) e (turn-agrees laws b went j env h)) n, n)
 
 stops_alike : (v : View) (log : List ℕ) (r : Run) → v.log ≡ true → AgreeAfter v (Stops log) r → log ≡ [] → r ≡ Stops []
 stops_alike v log (Went t) l h n = absurd h
@@ -179,11 +175,7 @@ pub stopped_turn : Laws → (b : Lines) (went : ℕ → Bool) (j : ℕ) (env : E
     → alone b j env ≡ Stops log
     → (turn b j ≡ Stops []) × (log ≡ [])
 stopped_turn laws b went j env h log e =
-    let n : log ≡ [] = subst (λ (r : Run). Kept (writes_local b j) env r) e (alone-kept laws.changes b j env) in (
-      stops_alike (seen b j) log (turn b j) refl
-          (subst (λ (r : Run). AgreeAfter (seen b j) r (turn b j)) e (turn-agrees laws b went j env h)) n,
-      n,
-    )
+    let n : log ≡ [] = subst (λ (r : Run). Kept (writes_local b j) env r) e (alone-kept laws.changes b j env) in (stops_alike (seen b j) log (turn b j) refl (subst (λ (r : Run). AgreeAfter (seen b j) r (turn b j)) e (turn-agrees laws b went j env h)) n, n)
 
 -- before anything went through
 pub values_begin : ChangesItsWrites → (b : Lines) (went : ℕ → Bool) → ((k : ℕ) → went k ≡ false)

@@ -12,6 +12,7 @@ use Rattle.ae_tree.specs.Judgement.{Accepted}
 use Rattle.ae_rules.specs.BuiltUses.{block_in, block_of}
 use Rattle.ae_meaning.specs.Meaning.{today_many, begin, meaning_of_run, main_body, today_seq}
 use Rattle.ae_run.proofs.from_meaning.Fits.{main_is}
+use Rattle.ae_run.proofs.from_meaning.Rules.{seq-ended}
 
 block_here : (m : Definition) → m.no ≡ 0 → block_in (m ∷ []) 0 0 ≡ Some m.body
 block_here m e = ap (λ n. if nat_eq n 0 then Some m.body else None) e
@@ -19,15 +20,10 @@ block_here m e = ap (λ n. if nat_eq n 0 then Some m.body else None) e
 block_is : (p : Code) (a : Accepted p) → block_of p 0 0 ≡ Some a.0.method.body
 block_is p a = ap (λ ms. block_in ms 0 0) a.0.methods ∙ block_here a.0.method a.0.is_main.no
 
-seq_ended : (p : Code) (ints : List ℤ) (fuel : ℕ)
-    → today_seq p ints fuel ≡ meaning_of_run (today_many (main_body p.methods) begin)
-unfolding today_seq
-seq_ended p ints fuel = refl
-
 seq_is : (p : Code) (a : Accepted p) (ints : List ℤ) (fuel : ℕ)
     → today_seq p ints fuel ≡ meaning_of_run (today_many a.0.method.body begin)
 seq_is p a ints fuel
-    = seq_ended p ints fuel ∙ ap (λ (b : Lines). meaning_of_run (today_many b begin))
+    = seq-ended p ints fuel ∙ ap (λ (b : Lines). meaning_of_run (today_many b begin))
     (ap main_body a.0.methods ∙ main_is a.0.method a.0.is_main.class a.0.is_main.is_named)
 
 some_method : (ms : List Method) (m : Definition) → map definition ms ≡ m ∷ [] → 0 < length ms

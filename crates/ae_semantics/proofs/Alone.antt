@@ -7,7 +7,9 @@ use Rattle.ae_rules.specs.Blocks.{Scene}
 use Rattle.ae_rules.specs.Instances.{Instance}
 use Rattle.ae_rules.specs.Verdict as rules
 use Rattle.ae_semantics.specs.Places.{CellName, State}
-use Rattle.ae_semantics.specs.Observations.{Origin, Piece, Seen, Query, Ending, Mark, Ran, Notes, Observer}
+use Rattle.ae_semantics.specs.declared.report.Ending.{Ending}
+use Rattle.ae_semantics.specs.declared.report.Piece.{Piece}
+use Rattle.ae_semantics.specs.Observations.{Origin, Seen, Query, Mark, Ran, Notes, Observer}
 use Rattle.ae_semantics.specs.Runs.{Run, Went, Ends, Stops, Act, and_then, marked, Where, Order}
 use Rattle.ae_semantics.specs.Blocks.{used}
 use Rattle.ae_semantics.specs.Meaning.{one, many, block, below}

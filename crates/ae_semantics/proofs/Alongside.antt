@@ -14,20 +14,22 @@ use Rattle.ae_semantics.specs.Values.{all_low, Val}
 use Rattle.ae_semantics.specs.Places.{Outcome, Fine, Traps, Lacks, ◌>>=◌, CellName, Here, Away, State, bind, with_store}
 use Rattle.ae_semantics.specs.Expressions.{value}
 use Rattle.ae_semantics.specs.Contexts.{after}
-use Rattle.ae_semantics.specs.Observations.{Origin, Piece, Image, OfStore, OfLog, Seen, Query, Ending, Trap, Mark}
-use Rattle.ae_semantics.specs.Observations.{Ran, Notes, Observer}
+use Rattle.ae_semantics.specs.declared.report.Ending.{Ending}
+use Rattle.ae_semantics.specs.declared.report.Ending.TheVariants.{Trap}
+use Rattle.ae_semantics.specs.declared.report.Piece.{Piece}
+use Rattle.ae_semantics.specs.Observations.{Origin, Image, OfStore, OfLog, Seen, Query, Mark, Ran, Notes, Observer}
 use Rattle.ae_semantics.specs.Runs.{Run, Went, Ends, Stops, Act, and_then, outcome_given, marked, logged, deeper}
 use Rattle.ae_semantics.specs.Runs.{Where, whole_block, splitting, locking, Order}
 use Rattle.ae_semantics.specs.Calls.{Argument, CallFrame, frame, called_method, each_argument, group_given, enter}
 use Rattle.ae_semantics.specs.Calls.{leave, without_moved}
 use Rattle.ae_semantics.specs.Blocks.{cell_of, image_of, cell_at, log_back, store_back, values_in, out_fits}
 use Rattle.ae_semantics.specs.Blocks.{with_out, with_values, pieces_in, else_uses, used}
-use Rattle.ae_semantics.specs.Meaning.{assigned, does, forgotten, made, right_moved, block, below}
+use Rattle.ae_semantics.specs.Meaning.{assigned, does, forgotten, made, right_moved, one, block, below}
 use Rattle.ae_semantics.specs.Means.{Start, run_start, no_notes, run}
 use Rattle.ae_semantics.proofs.Related.{Stretch, Quiet, Of, From, Within, Joins, Tells, quiet_last, Both}
 use Rattle.ae_semantics.proofs.Related.{answered_by, IsFree, Relation, Does, Forms, IsBlock, IsCall, IsLock, GoAway}
-use Rattle.ae_semantics.proofs.Related.{ComeBack, away_to, back_to, Link, machine, begins, goes_on, related_block}
-use Rattle.ae_semantics.proofs.Related.{related_below}
+use Rattle.ae_semantics.proofs.Related.{ComeBack, away_to, back_to, Link, machine, begins, goes_on, related_one}
+use Rattle.ae_semantics.proofs.Related.{related_block, related_below}
 use Rattle.ae_rules.specs.Verdict as rules
 
 -- ---- where statements may run
@@ -44,6 +46,7 @@ may_run ok inner q h j (Next at a rest) = (inner q j h, may_run ok inner q h (su
 
 -- ---- calls
 
+-- what is fine once is fine once alone
 pub fine_same : {A : Type 0} (x y : A) → Fine x ≡ Fine y → x ≡ y
 fine_same x y e = cc
 
@@ -135,6 +138,7 @@ relation S = record {
   Rel = λ k l c x r q. S.Rel c x.n x.m r q;
   One = λ k l here at a. S.Ok here.path;
   Many = λ k l here all j y. MayRun S.Ok here.path j y;
+  Asks = λ k. Unit {0};
   Bars = λ k xs ys. (xs ≡ ys) × S.Bars xs;
 }
 
@@ -225,6 +229,7 @@ module _ {V W : Type 0} (S : Noted V W) (p : Code) (o : Observer V) (u : Observe
   note_all_back [] = note_passes
   note_all_back (g ∷ gs) = (
     tt,
+    tt,
     same_image g.name,
     (λ image. on_both Quiet (back_to g.name image) (back_to g.name image) (note_back g.name image)),
     note_all_back gs,
@@ -257,6 +262,7 @@ module _ {V W : Type 0} (S : Noted V W) (p : Code) (o : Observer V) (u : Observe
       record {
         cells = λ x i. ap (λ (s : State). cell_at g.name s x.n) i.0
             ∙ ap (λ (z : Option CellName). cell_at g.name x.t (record x.n { cell = z })) (K.cells x.n x.m i.1);
+        asks = λ x i c e. tt;
         block = note_block (locking g here) h y;
         ins = λ x i. ap (λ (s : State). values_in (else_uses p g.name (whole_block y (locking g here))) s) i.0;
         fits = λ x i z. ap (λ (s : State). out_fits p (else_uses p g.name (whole_block y (locking g here)))
@@ -322,11 +328,11 @@ module _ {V W : Type 0} (S : Noted V W) (p : Code) (o : Observer V) (u : Observe
     widen = λ k l a b f x r q h. K.widen a b f x.n x.m r q h;
     follows = λ k l m a b e j x r q h f g i. K.follows a b e j x.n x.m r q h f g
         (λ s n m y. i (record { s = s; n = n; t = s; m = m }) (refl, y));
-    marks = λ k m f x h. (h.0, K.marks m f x.n x.m h.1);
+    marks = λ k m f a x h. (h.0, K.marks m f x.n x.m h.1);
     runs = λ k l here at a h x i. (i.0, K.runs here.path at h x.n x.m i.1);
-    tells = λ k l m f a b t x r q h. K.tells m f a b t x.n x.m r q h;
+    tells = λ k l m f e a b t x r q h. K.tells m f a b t x.n x.m r q h;
     ran = λ k l here at a h x r q i. K.ran here.path at h x.n x.m r q i;
-    observes = λ k l a query from x h f g i. K.observes a query from x.n x.m h.1 f g
+    observes = λ k l e a query from x h f g i. K.observes a query from x.n x.m h.1 f g
         (λ seen v w j. i seen v w (h.0, j));
     no_bars = λ k. (refl, K.no_bars);
     step = λ k l here all j at a rest s bars cars e fuel h i x y.
@@ -345,7 +351,14 @@ module _ {V W : Type 0} (S : Noted V W) (p : Code) (o : Observer V) (u : Observe
         (on_both Quiet (c.close bars) (d.close bars) (K.close bars e.1) x y);
   }
 
-  -- a block, and a whole run
+  -- a statement, a block, and a whole run
+  pub along_one : (fuel : ℕ) (here : Where) (at : Spot) (a : Action) → S.Ok here.path
+      → Goes S (From here.path 0) (one (machine p o c) (below (machine p o c) fuel) here at a)
+      (one (machine p u d) (below (machine p u d) fuel) here at a)
+  along_one fuel here at a h = from_both (From here.path 0) _ _
+      (related_one (relation S) p o u c d forms link fuel (related_below (relation S) p o u c d forms link fuel) tt tt
+      here at a h)
+
   pub along_block : (fuel : ℕ) (here : Where) (y : Lines) → MayRun S.Ok here.path 0 y
       → Goes S (From here.path 0) (block (machine p o c) (below (machine p o c) fuel) here y)
       (block (machine p u d) (below (machine p u d) fuel) here y)

@@ -1,5 +1,5 @@
 -- What a run began is not after where it ended.
-use Rattle.std.proofs.Common.{◌≡◌, ◌⊎◌, inl, inr, refl, sym, subst, ℕ, List, [], ◌∷◌, ◌++◌, Option, None, Some}
+use Rattle.std.proofs.Common.{◌≡◌, ◌⊎◌, inl, inr, refl, sym, subst, List, [], ◌∷◌, ◌++◌, Option, None, Some}
 use Rattle.ae_rules.specs.Instances.{Instance}
 use Rattle.ae_rules.specs.Verdict as rules
 use Rattle.ae_semantics.specs.Observations.{Origin, Mark, Ran, Turned, Entered, Asked, Used, Stopped, Seen, Notes}

@@ -1,5 +1,5 @@
 -- The tree before anything ran stands for the meaning past what stopped.
-use Rattle.std.proofs.Common.{◌≡◌, ℕ, zero, suc, nat_eq, ℤ, Bool, true, false, ◌&&◌, List, [], ◌∷◌, ◌++◌, map}
+use Rattle.std.proofs.Common.{◌≡◌, ◌≢◌, ℕ, zero, suc, nat_eq, ℤ, Bool, true, false, ◌&&◌, List, [], ◌∷◌, ◌++◌, map}
 use Rattle.std.proofs.Common.{Option, None, Some, Contains, inl, inr, refl, ap, sym, subst, ◌∙◌, arith}
 use Rattle.std.proofs.lemmas.Bool.{eq-eqb}
 use Rattle.std.proofs.lemmas.List.Elements.{Contains-append_left}
@@ -10,41 +10,40 @@ use Rattle.ae_rules.specs.Verdict.{given}
 use Rattle.ae_rules.specs.Lookups.{method_at, top_number}
 use Rattle.ae_rules.specs.Instances.{Instance}
 use Rattle.ae_semantics.specs.Observations.{Seen, Query, Mark, Ran, Turned, Entered, Asked, Used, Stopped}
-use Rattle.ae_semantics.specs.Runs.{Run, Stops, whole_block}
+use Rattle.ae_semantics.specs.Runs.{Run, Stops}
 use Rattle.ae_semantics.specs.Meaning.{block, below}
 use Rattle.ae_semantics.specs.Means.{Start, run_start, start_at, main_here, main_state, no_notes, notes_of, At}
 use Rattle.ae_semantics.specs.Means.{ran_in, Meant}
 use Rattle.ae_semantics.specs.Atom.{part}
 use Rattle.ae_rules.specs.Paths.{is_prefix_of}
-use Rattle.ae_semantics.specs.Unfolding.{Only, LiesIn, under_way, BlockFrame, Begun, FrameStage, Waiting, all_wait}
-use Rattle.ae_semantics.specs.Unfolding.{nodes_from, nodes, gathered_from, Extent, Within, unfinished_at, unfinished}
-use Rattle.ae_semantics.specs.Unfolding.{halted, unfolded, halt_place, observed, Passage, Trail, passage}
-use Rattle.ae_semantics.specs.Unfolding.{watching_machine, no_trail, watched_run, trail, IsFrameEntered, StandsFor}
-use Rattle.ae_semantics.specs.Unfolding.{how_many, results, results_at, turns, turns_at, betweens, betweens_at}
-use Rattle.ae_semantics.specs.Unfolding.{unfolded_at, frames_at, halted_at, left_out, left_out_at, events, events_at}
-use Rattle.ae_semantics.specs.Unfolding.{cells, cells_at}
+use Rattle.ae_semantics.specs.Regions.{Only, Region, Within}
+use Rattle.ae_semantics.specs.Unfolding.{LiesIn, under_way, halt_place, StandsFor}
+use Rattle.ae_semantics.specs.BlockTrees.{stage_lines, lines_at, how_many, BlockTree, FrameStage, Begun, Waiting}
+use Rattle.ae_semantics.specs.BlockTrees.{all_wait}
+use Rattle.ae_semantics.specs.BlockTrees.{nodes_from, from_nodes, unfinished_at, unfinished, halted, unfolded}
+use Rattle.ae_semantics.specs.BlockTrees.{observed, results, results_at, turns, turns_at, betweens, betweens_at}
+use Rattle.ae_semantics.specs.BlockTrees.{unfolded_at, running_at, running, main_entry, Happened, halted_at}
+use Rattle.ae_semantics.specs.BlockTrees.{left_out, left_out_at, events, events_at, cells, cells_at}
+use Rattle.ae_semantics.specs.Trails.{Trail, watching_machine, no_trail, watched_run, trail}
+use Rattle.ae_semantics.specs.Report.{CellReport, AllPairs, AllDiffer, line_stamps}
+use Rattle.ae_semantics.specs.Stamps.{stamps_of, IsStamped, FreshIsStamped}
 use Rattle.ae_semantics.specs.Laws.{FreshStandsFor}
 use Rattle.ae_semantics.proofs.Watched.{watching_changes_nothing}
-use Rattle.ae_semantics.proofs.Kept.{MayMark, Kept, kept_block, kept_from_first}
+use Rattle.ae_semantics.proofs.Kept.{MayMark, Kept, kept_block}
 use Rattle.ae_semantics.proofs.Alongside.{MayRun}
 
 -- ---- a tree in which all statements wait
 
 -- nothing is in the tree that no waiting statement gives
 none_given : {A : Type 0} (give : Instance → FrameStage → List A) → ((q : Instance) → give q Waiting ≡ [])
-    → (q : Instance) (j : ℕ) (x : Lines) → gathered_from give (nodes_from q j (all_wait x)) ≡ []
+    → (q : Instance) (j : ℕ) (x : Lines) → from_nodes give (nodes_from q j (all_wait x)) ≡ []
 none_given give w q j End = refl
-none_given give w q j (Next at a rest) = ap (λ xs. xs ++ gathered_from give (nodes_from q (suc j) (all_wait rest)))
+none_given give w q j (Next at a rest) = ap (λ xs. xs ++ from_nodes give (nodes_from q (suc j) (all_wait rest)))
     (w (q ++ (j ∷ []))) ∙ none_given give w q (suc j) rest
 
 -- what holds of each thing of an empty list
 of_none : {A : Type 0} (P : A → Type 0) (xs : List A) → xs ≡ [] → (x : A) → Contains xs x → P x
 of_none P xs e x c = absurd (omega (arith, (subst (λ ys. Contains ys x) e c).1))
-
--- what holds of each thing of a list with one thing
-of_first : {A : Type 0} (P : A → Type 0) (y : A) (xs : List A) → P y → xs ≡ [] → (x : A) → Contains (y ∷ xs) x → P x
-of_first P y xs h e x (zero, l, d) = subst P d h
-of_first P y xs h e x (suc k, l, d) = of_none P xs e x (k, omega (arith, l), d)
 
 -- the tree has a stage for each statement
 counted : (x : Lines) → statement_count x ≡ how_many (all_wait x)
@@ -70,13 +69,13 @@ begins_inside (a ∷ x) (b ∷ q) i e = and_still (nat_eq a b) (is_prefix_of x q
     (begins_inside x q i) e
 
 -- the path lies in an instance that is one of these places
-record IsWithin (places : List Extent) (q : Instance) : Type 0 where
+record IsWithin (places : List Region) (q : Instance) : Type 0 where
   of : Instance
   there : Contains places (Within of)
   starts : is_prefix_of of q ≡ true
 
 -- what lies in an unfinished task is under way
-is_under_way : (tree : BlockFrame) (q : Instance) → IsWithin (unfinished tree) q → LiesIn (under_way tree) q
+is_under_way : (tree : BlockTree) (q : Instance) → IsWithin (unfinished tree) q → LiesIn (under_way tree) q
 is_under_way tree q w = (
   Within w.of,
   Contains-append_left (unfinished tree ++ map halt_place (halted tree)) (map Only (unfolded tree)) (Within w.of)
@@ -85,8 +84,8 @@ is_under_way tree q w = (
 )
 
 -- each statement of a block that waits lies in one of the unfinished tasks
-waiting : (places : List Extent) (q : Instance) (j : ℕ) (x : Lines)
-    → ((y : Extent) → Contains (gathered_from unfinished_at (nodes_from q j (all_wait x))) y → Contains places y)
+waiting : (places : List Region) (q : Instance) (j : ℕ) (x : Lines)
+    → ((y : Region) → Contains (from_nodes unfinished_at (nodes_from q j (all_wait x))) y → Contains places y)
     → MayRun (IsWithin places) q j x
 waiting places q j End sub = tt
 waiting places q j (Next at a rest) sub = (
@@ -122,7 +121,7 @@ all_may_ran ok (Used path ∷ ms) h x c = all_may_ran ok ms h.1 x c
 all_may_ran ok (Stopped path ending ∷ ms) h x c = all_may_ran ok ms h.1 x c
 
 -- that all that ran lies in these places is kept by a run in them
-ran_kept : (places : List Extent) → Kept (λ ms w. AllMay (IsWithin places) ms) (IsWithin places)
+ran_kept : (places : List Region) → Kept (λ ms w. AllMay (IsWithin places) ms) (IsWithin places)
 ran_kept places = record {
   inner = λ q i h. record { of = h.of; there = h.there; starts = begins_inside h.of q i h.starts };
   mark = λ m ms w d h. all_may_push (IsWithin places) ms m d h;
@@ -132,15 +131,6 @@ ran_kept places = record {
 
 -- ---- what was found
 
--- what was found stays found
-found_kept : (x : Passage) → Kept (λ ms w. Contains w.found x) (λ q. Unit {0})
-found_kept x = record {
-  inner = λ q i h. tt;
-  mark = λ m ms w d h. h;
-  found = λ y ms w h. Contains-append_left w.found (y ∷ []) x h;
-  left = λ y ms w h. h;
-}
-
 -- at every path a mark may be made
 pub all_free : (q : Instance) (j : ℕ) (x : Lines) → MayRun (λ q. Unit {0}) q j x
 all_free q j End = tt
@@ -149,8 +139,8 @@ all_free q j (Next at a rest) = (tt, all_free q (suc j) rest)
 -- ---- main
 
 -- the tree of a main
-abbrev tree_of : Code → Definition → List ℤ → BlockFrame
-tree_of p m ints = Begun (record { state = main_state p m ints; log = [] }) (all_wait m.body)
+abbrev tree_of : Code → Definition → List ℤ → BlockTree
+tree_of p m ints = Begun (record { state = main_state p m ints; log = []; cell = None }) (all_wait m.body)
 
 -- main with this number, where a run begins
 abbrev started_at : Code → List ℤ → ℕ → Definition → Option Start
@@ -181,29 +171,12 @@ run_is p m ints fuel table n e = ap (λ (o : Option Start). given o (Stops (no_n
     (λ (x : Start). block (watching_machine p table) (below (watching_machine p table) fuel) x.here x.method.body
     x.state (no_notes no_trail))) e
 
--- the first statement of main finds what the tree was entered with
-entered : (p : Code) (m : Definition) (ints : List ℤ) (fuel : ℕ) (table : Query → Option Seen) (n : ℕ) (x : Lines)
-    → IsFrameEntered p (notes_of (main_run p ints fuel table n m x)).watch []
-    (Begun (record { state = main_state p m ints; log = [] }) (all_wait x))
-entered p m ints fuel table n End = tt
-entered p m ints fuel table n (Next at a rest) =
-    let y : Passage = passage (main_here p n m) (whole_block (Next at a rest) (main_here p n m)) 0
-    (main_state p m ints) (no_notes no_trail) in (
-      y,
-      kept_from_first (λ ms w. Contains w.found y) (λ q. Unit {0}) (found_kept y) p table fuel
-          (main_here p n m) at a rest (all_free [] 0 (Next at a rest)) (main_state p m ints) (no_notes no_trail)
-          (0, omega arith, refl),
-      refl,
-      counted (Next at a rest),
-      record { locals = λ z h. refl; groups = λ g h. refl; result = refl; log = λ h. refl },
-    )
-
 -- all statements that main runs lie in those that wait
 all_inside : (p : Code) (m : Definition) (ints : List ℤ) (fuel : ℕ) (table : Query → Option Seen) (n : ℕ) (x : At)
     → Contains (ran_in (notes_of (main_run p ints fuel table n m m.body)).marks) x
     → IsWithin (unfinished (tree_of p m ints)) x.path
 all_inside p m ints fuel table n x c =
-    let places : List Extent = unfinished (tree_of p m ints) in
+    let places : List Region = unfinished (tree_of p m ints) in
     let ok : Instance → Type 0 = IsWithin places in
     all_may_ran ok (notes_of (main_run p ints fuel table n m m.body)).marks
     (kept_block (λ ms w. AllMay ok ms) ok (ran_kept places) p table fuel
@@ -223,20 +196,28 @@ stands : (p : Code) (m : Definition) (ints : List ℤ) (fuel : ℕ) (n : ℕ) �
     → StandsFor p ints fuel (tree_of p m ints)
 unfolding trail
 stands p m ints fuel n e =
-    let tree : BlockFrame = tree_of p m ints in
+    let tree : BlockTree = tree_of p m ints in
     let table : Query → Option Seen = observed tree in
-    let d : watched_run p ints fuel table ≡ main_run p ints fuel table n m m.body = run_is p m ints fuel table n e in
     record {
       each_left = of_none _ (results tree) (none_given results_at (λ q. refl) [] 0 m.body);
       each_turn = of_none _ (turns tree) (none_given turns_at (λ q. refl) [] 0 m.body);
       each_between = of_none _ (betweens tree) (none_given betweens_at (λ q. refl) [] 0 m.body);
       each_unfolded = of_none _ (unfolded tree) (none_given unfolded_at (λ q. refl) [] 0 m.body);
-      each_entered = of_first _ (record { path = []; frame = tree }) (gathered_from frames_at (nodes tree))
-          (subst (λ (r : Run Trail). IsFrameEntered p (notes_of r).watch [] tree) (sym d)
-          (entered p m ints fuel table n m.body))
-          (none_given frames_at (λ q. refl) [] 0 m.body);
+      first = (
+        record { here = main_here p n m; method = m; state = main_state p m ints },
+        e,
+        (
+          record { locals = λ x. refl; groups = λ g. refl; result = refl; log = refl; cell = refl },
+          sym (counted m.body),
+        ),
+      );
+      each_entered = of_none _ (running tree) (none_given running_at (λ q. refl) [] 0 m.body);
       each_halt = of_none _ (halted tree) (none_given halted_at (λ q. refl) [] 0 m.body);
       each_left_out = of_none _ (left_out tree) (none_given left_out_at (λ q. refl) [] 0 m.body);
+      events_differ = subst (λ (xs : List Happened). AllPairs (λ d e. d.asking.ask.path ≢ e.asking.ask.path) xs)
+          (sym (none_given events_at (λ q. refl) [] 0 m.body)) tt;
+      cells_differ = subst (λ (xs : List CellReport). AllPairs (λ c d. c.name ≢ d.name) xs)
+          (sym (none_given cells_at (λ q. refl) [] 0 m.body)) tt;
       each_event = of_none _ (events tree) (none_given events_at (λ q. refl) [] 0 m.body);
       each_cell = of_none _ (cells tree) (none_given cells_at (λ q. refl) [] 0 m.body);
       all_others = λ x c. inr (inl (is_under_way tree x.path
@@ -249,6 +230,31 @@ fresh_stands_for p m ints fuel e =
     let s : run_start p ints ≡ started_at p ints x.0 m = started p m ints x.0 x.1 x.2 in (
       tree_of p m ints,
       ap (λ (o : Option Start). given o None
-          (λ (y : Start). Some (Begun (record { state = y.state; log = [] }) (all_wait y.method.body)))) s,
+          (λ (y : Start). Some (Begun (main_entry y).values (all_wait y.method.body)))) s,
       stands p m ints fuel x.0 s,
     )
+
+-- ---- its stamps
+
+no_stamps : (p : Code) (m : Definition) (ints : List ℤ) → stamps_of (tree_of p m ints) ≡ []
+no_stamps p m ints = ap (λ (es : List Happened). map (λ (e : Happened). e.stamp) es
+    ++ line_stamps (stage_lines (tree_of p m ints))) (none_given events_at (λ q. refl) [] 0 m.body)
+    ∙ ap line_stamps (none_given lines_at (λ q. refl) [] 0 m.body)
+
+stamped : (p : Code) (m : Definition) (ints : List ℤ) (clock : ℕ) → IsStamped p clock (tree_of p m ints)
+stamped p m ints clock = record {
+  differ = subst AllDiffer (sym (no_stamps p m ints)) tt;
+  below = of_none _ (stamps_of (tree_of p m ints)) (no_stamps p m ints);
+  ordered = λ d e c. absurd (of_none (λ x. ⊥) (events (tree_of p m ints))
+      (none_given events_at (λ q. refl) [] 0 m.body) d c);
+  spans = of_none _ (stage_lines (tree_of p m ints)) (none_given lines_at (λ q. refl) [] 0 m.body);
+  keeps = λ l k c. absurd (of_none (λ x. ⊥) (stage_lines (tree_of p m ints))
+      (none_given lines_at (λ q. refl) [] 0 m.body) l
+      c);
+  histories = of_none _ (cells (tree_of p m ints)) (none_given cells_at (λ q. refl) [] 0 m.body);
+}
+
+pub fresh_is_stamped : FreshIsStamped
+fresh_is_stamped p m ints clock e =
+    let x : (n : ℕ) × (top_number p main ≡ Some n) × (method_at p n ≡ Some m) = numbered p m
+    (top_number p main) e in (tree_of p m ints, ap (λ (o : Option Start). given o None (λ (y : Start). Some (Begun (main_entry y).values (all_wait y.method.body)))) (started p m ints x.0 x.1 x.2), stamped p m ints clock)

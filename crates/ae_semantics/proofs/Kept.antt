@@ -11,13 +11,12 @@ use Rattle.ae_semantics.specs.Places.{State}
 use Rattle.ae_semantics.specs.Contexts.{after}
 use Rattle.ae_semantics.specs.Observations.{Origin, Seen, Query, Mark, Ran, Used, Stopped, Notes}
 use Rattle.ae_semantics.specs.Runs.{Run, Went, Ends, Stops, Act, and_then, chosen, marked, deeper, Where, knowing}
-use Rattle.ae_semantics.specs.Runs.{whole_block}
-use Rattle.ae_semantics.specs.Runs.{flow_close, is_left_out, absent, gone_on}
+use Rattle.ae_semantics.specs.Runs.{whole_block, flow_close, is_left_out, absent, gone_on}
 use Rattle.ae_semantics.specs.Blocks.{used}
 use Rattle.ae_semantics.specs.Meaning.{begun, forgotten, one, many, block, below}
 use Rattle.ae_semantics.specs.Means.{notes_of}
-use Rattle.ae_semantics.specs.Unfolding.{Passage, Trail, passage, with_found, left_behind, watched, watching}
-use Rattle.ae_semantics.specs.Unfolding.{by_table, watching_machine}
+use Rattle.ae_semantics.specs.Trails.{Passage, Trail, passage, with_found, behind, watched, watching, watching_machine}
+use Rattle.ae_semantics.specs.Atom.{by_query}
 use Rattle.ae_semantics.proofs.Related.{IsFree}
 use Rattle.ae_semantics.proofs.Alongside.{MayRun}
 use Rattle.ae_semantics.proofs.Alone.{Alone, Stays, alone_one, alone_many, alone_block}
@@ -89,7 +88,7 @@ module _ (I : List Mark → Trail → Type 0) (ok : Instance → Type 0) (k : Ke
   kept_close [] s n i = i
   kept_close (j ∷ barred) s n i = i
 
-  kept_behind : (here : Where) (all : Scene) (j : ℕ) (r : Run Trail) → After I r → After I (left_behind here all j r)
+  kept_behind : (here : Where) (all : Scene) (j : ℕ) (r : Run Trail) → After I r → After I (behind here all j r)
   kept_behind here all j (Went s n) d = k.left (passage here all j s n) n.marks n.watch d
   kept_behind here all j (Ends ending n) d = d
   kept_behind here all j (Stops n) d = d
@@ -116,7 +115,7 @@ module _ (I : List Mark → Trail → Type 0) (ok : Instance → Type 0) (k : Ke
       (g s (with_found (passage here all j s n) n) (k.found (passage here all j s n) n.marks n.watch i)))
       (here.path ++ (j ∷ [])) j barred (absent p all j s) a h)
 
-  stays : Stays (holding I ok) (by_table table) (watching p)
+  stays : Stays (holding I ok) (by_query table) (watching p)
   stays = record {
     inner = k.inner;
     went = λ s n i. i;
@@ -137,7 +136,7 @@ module _ (I : List Mark → Trail → Type 0) (ok : Instance → Type 0) (k : Ke
 
   pub kept_block : (fuel : ℕ) (here : Where) (x : Lines) → MayRun ok here.path 0 x
       → Keeps I (block (watching_machine p table) (below (watching_machine p table) fuel) here x)
-  kept_block = alone_block (holding I ok) (by_table table) (watching p) stays p
+  kept_block = alone_block (holding I ok) (by_query table) (watching p) stays p
 
   -- a fact that holds as soon as the first statement of a block was found holds after the block
   pub kept_from_first : (fuel : ℕ) (here : Where) (at : Spot) (x : Action) (rest : Lines)
@@ -154,11 +153,11 @@ module _ (I : List Mark → Trail → Type 0) (ok : Instance → Type 0) (k : Ke
       [] s n)
       (kept_gone (watched here all 0 act s n)
       (kept_behind here all 0 (act s m)
-      (alone_one (holding I ok) (by_table table) (watching p) stays p fuel (deeper 0 here) at x h.0 s
+      (alone_one (holding I ok) (by_query table) (watching p) stays p fuel (deeper 0 here) at x h.0 s
       (marked (Ran (deeper 0 here).path at) m) (k.mark (Ran (deeper 0 here).path at) m.marks m.watch h.0 i)))
       (here.path ++ (0 ∷ [])) 0 [] (absent p all 0 s)
       (many (watching_machine p table) (below (watching_machine p table) fuel)
       (knowing (after p here.method at x here.context) here) all 1 rest)
-      (λ bars. alone_many (holding I ok) (by_table table) (watching p) stays p fuel
+      (λ bars. alone_many (holding I ok) (by_query table) (watching p) stays p fuel
       (knowing (after p here.method at x here.context) here) all 1 rest bars h.1))
       (λ s n. Went (forgotten here.context s) n) (λ s n i. i)

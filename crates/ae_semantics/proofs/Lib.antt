@@ -11,6 +11,12 @@ mod Fresh
 mod Related
 mod Alongside
 mod Alone
+mod Located
+mod Inside
+mod Unasked
+mod Growing
+mod Exactly
 mod Flowing
 mod Reading
 mod Walked
+mod FixedLemmas

@@ -1,7 +1,7 @@
 -- What a statement reads: from two states that agree on what it uses it goes alike, and leaves states that agree again.
 -- How runs are put together keeps this; what is left is what each form of statement has to keep.
-use Rattle.std.proofs.Common.{◌≡◌, inl, inr, refl, ap, sym, subst, ℕ, suc, nat_eq, Bool, true, false, List, Option}
-use Rattle.std.proofs.Common.{None, Some}
+use Rattle.std.proofs.Common.{◌≡◌, inl, inr, refl, ap, sym, subst, ℕ, suc, nat_eq, Bool, true, false, Option, None}
+use Rattle.std.proofs.Common.{Some}
 use Rattle.std.specs.Prelude.{is_some}
 use Rattle.ae_text.specs.declared.refusal.Spot.{Spot}
 use Rattle.ae_rules.specs.declared.uses.Resource.{Resource}
@@ -22,7 +22,7 @@ use Rattle.ae_semantics.specs.Contexts.{after}
 use Rattle.ae_semantics.specs.Observations.{Origin, Seen, Notes, Observer}
 use Rattle.ae_semantics.specs.Runs.{Run, Went, Ends, Stops, Act, and_then, deeper, Where, knowing, stopping}
 use Rattle.ae_semantics.specs.Meaning.{one, below}
-use Rattle.ae_semantics.specs.Gathering.{stops_at}
+use Rattle.ae_semantics.specs.Means.{stops_at}
 use Rattle.ae_semantics.proofs.Related.{Stretch, Both, Relation, IsAnswered, HasTest, IsTested, Forms, Link}
 use Rattle.ae_semantics.proofs.Related.{related_one, related_below}
 

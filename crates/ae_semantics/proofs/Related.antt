@@ -23,16 +23,18 @@ use Rattle.ae_semantics.specs.Places.{Outcome, Fine, Traps, Lacks, ◌>>=◌, th
 use Rattle.ae_semantics.specs.Places.{with_store}
 use Rattle.ae_semantics.specs.Expressions.{value, truth, truth_of}
 use Rattle.ae_semantics.specs.Contexts.{after}
-use Rattle.ae_semantics.specs.Observations.{Origin, FromBlock, FromCell, Piece, Image, OfStore, OfLog, Carried, Ask}
-use Rattle.ae_semantics.specs.Observations.{Gave, Trapped, Spent, Seen, OfBlock, OfCell, Query, AtBlock, AtEnd}
-use Rattle.ae_semantics.specs.Observations.{Ending, Trap, Fuel, Mark, Ran, Turned, Entered, Stopped, Asked, Notes}
-use Rattle.ae_semantics.specs.Observations.{Observer}
+use Rattle.ae_semantics.specs.declared.report.Ending.{Ending}
+use Rattle.ae_semantics.specs.declared.report.Ending.TheVariants.{Trap, Fuel}
+use Rattle.ae_semantics.specs.declared.report.Piece.{Piece}
+use Rattle.ae_semantics.specs.Observations.{Origin, FromBlock, FromCell, Image, OfStore, OfLog, Carried, Ask, Gave}
+use Rattle.ae_semantics.specs.Observations.{Trapped, Spent, Seen, OfBlock, OfCell, Query, AtBlock, AtEnd, Mark, Ran}
+use Rattle.ae_semantics.specs.Observations.{Turned, Entered, Stopped, Asked, Notes, Observer}
 use Rattle.ae_semantics.specs.Runs.{Run, Went, Ends, Stops, Act, and_then, outcome_given, paid, chosen, marked}
 use Rattle.ae_semantics.specs.Runs.{logged, deeper, Where, knowing, splitting, locking, whole_block, Order, Machine}
 use Rattle.ae_semantics.specs.Runs.{Below, fuel_of}
 use Rattle.ae_semantics.specs.Calls.{CallFrame, enter, leave, without_moved}
 use Rattle.ae_semantics.specs.Blocks.{image_of, cell_of, to_cell, goes_away, all_go_away, store_back, log_back}
-use Rattle.ae_semantics.specs.Blocks.{unless_stopped, used, cell_back, image_comes_back, all_come_back, cell_at}
+use Rattle.ae_semantics.specs.Blocks.{unless_stopped, used, cell_back, cell_comes_back, all_come_back, cell_at}
 use Rattle.ae_semantics.specs.Blocks.{values_in, out_fits, with_out, block_back, ask_of, else_uses, put_to, asks}
 use Rattle.ae_semantics.specs.Meaning.{stored, stored_at, frozen, shares_into, returns_value, printed_value}
 use Rattle.ae_semantics.specs.Meaning.{prints_piece, begun, assigned, result_to, made, right_moved, sets, body_run}
@@ -156,14 +158,20 @@ IsFree (Ran q at) = ⊥
 IsFree (Stopped q e) = ⊥
 IsFree _ = Unit {0}
 
+-- what tells of a question is told where one may be asked
+abbrev pub MayTell : Mark → Type 0 → Type 0
+MayTell (Asked c ask) asks = asks
+MayTell _ asks = Unit {0}
+
 -- A relation between two runs, by worlds: where they may begin in a world, and how what a stretch comes to is related to where it began,
--- where it leads from one world to another; where statements may stand that lead so; and which barred statements go together.
+-- where it leads from one world to another; where statements may stand that lead so; where something may be asked; and which barred statements go together.
 pub record Relation (V W : Type 0) : Type 1 where
   pub World : Type 0
   pub Start : World → Both V W → Type 0
   pub Rel : World → World → Stretch → Both V W → Run V → Run W → Type 0
   pub One : World → World → Where → Spot → Action → Type 0
   pub Many : World → World → Where → Scene → ℕ → Lines → Type 0
+  pub Asks : World → Type 0
   pub Bars : World → List ℕ → List ℕ → Type 0
 
 -- two acts lead from where runs may begin to what is related
@@ -249,7 +257,7 @@ GoAway S k l here (g ∷ gs) = (w : S.World) × SameImage S k g.name × Does S k
 -- they come back, where they went away in the first world
 abbrev pub ComeBack : {V W : Type 0} (S : Relation V W) → S.World → S.World → S.World → List NameAt → Type 0
 ComeBack S b k l [] = Passes S k l
-ComeBack S b k l (g ∷ gs) = (w : S.World) × SameImage S b g.name
+ComeBack S b k l (g ∷ gs) = (w : S.World) × S.Asks k × SameImage S b g.name
     × ((image : Image) → Does S k w Quiet (back_to g.name image) (back_to g.name image)) × ComeBack S b w l gs
 
 pub record IsSplit {V W : Type 0} (S : Relation V W) (k l : S.World) (here : Where) (gs : List NameAt) (y : Lines)
@@ -263,6 +271,7 @@ pub record IsSplit {V W : Type 0} (S : Relation V W) (k l : S.World) (here : Whe
 pub record IsLock {V W : Type 0} (S : Relation V W) (p : Code) (k l : S.World) (here : Where) (at : Spot) (g : NameAt)
     (number : ℕ) (y : Lines) : Type 0 where
   pub cells : (x : Both V W) → S.Start k x → cell_at g.name x.s x.n ≡ cell_at g.name x.t x.m
+  pub asks : (x : Both V W) → S.Start k x → (c : CellName) → cell_at g.name x.s x.n ≡ Some c → S.Asks k
   pub block : IsBlock S k l (locking g here) y
   pub ins : (x : Both V W) → S.Start k x → values_in (else_uses p g.name (whole_block y (locking g here))) x.s
       ≡ values_in (else_uses p g.name (whole_block y (locking g here))) x.t
@@ -331,7 +340,7 @@ pub record Forms {V W : Type 0} (S : Relation V W) (p : Code) : Type 0 where
   pub groups : (k l : S.World) (here : Where) (at : Spot) (g : NameAt) → S.One k l here at (Groups g)
       → Does S k l Quiet (λ s n. Went (with_store g.name (Some (Here [])) s) n)
       (λ s n. Went (with_store g.name (Some (Here [])) s) n)
-  pub prints_piece : (k l : S.World) (here : Where) (at : Spot) (a : Action) → S.One k l here at a → IsPrint a
+  pub prints : (k l : S.World) (here : Where) (at : Spot) (a : Action) → S.One k l here at a → IsPrint a
       → (y : List Piece) → Does S k l Quiet (λ s n. Went s (logged y n)) (λ s n. Went s (logged y n))
   pub tests : (k l : S.World) (here : Where) (at : Spot) (a : Action) → S.One k l here at a → (e : Expression)
       → HasTest a e → IsTested S p k e
@@ -352,7 +361,7 @@ pub record Forms {V W : Type 0} (S : Relation V W) (p : Code) : Type 0 where
       → IsBlock S k l (deeper 0 here) b × IsBlock S k l (deeper 1 here) y
   pub repeats : (k l : S.World) (here : Where) (at : Spot) (e : Expression) (nb : ℕ) (b : Lines)
       → S.One k l here at (Repeats e nb b) → (w : S.World) × IsIn S k w l × IsLoop S p w l here e b
-  pub splits_groups : (k l : S.World) (here : Where) (at : Spot) (gs : List NameAt) (nb : ℕ) (b : Lines)
+  pub splits : (k l : S.World) (here : Where) (at : Spot) (gs : List NameAt) (nb : ℕ) (b : Lines)
       → S.One k l here at (Splits gs nb b) → here.inside ≡ false → IsSplit S k l here gs b
   pub joins : (k l : S.World) (here : Where) (at : Spot) (gs : List NameAt) (nb : ℕ) (b : Lines)
       → S.One k l here at (Splits gs nb b) → here.inside ≡ true → IsBlock S k l (splitting gs here) b
@@ -371,17 +380,18 @@ pub record Link {V W : Type 0} (S : Relation V W) (p : Code) (o : Observer V) (u
       → S.Rel k l a x r q → (f : Act V) (g : Act W) → Does S l m b f g
       → S.Rel k m e x (and_then r f) (and_then q g)
   -- marks
-  pub marks : (k : S.World) (m : Mark) → IsFree m → (x : Both V W) → S.Start k x → S.Start k (told m x)
+  pub marks : (k : S.World) (m : Mark) → IsFree m → MayTell m (S.Asks k) → (x : Both V W) → S.Start k x
+      → S.Start k (told m x)
   pub runs : (k l : S.World) (here : Where) (at : Spot) (a : Action) → S.One k l here at a → (x : Both V W)
       → S.Start k x → S.Start k (told (Ran here.path at) x)
-  pub tells : (k l : S.World) (m : Mark) → IsFree m → (a b : Stretch) → Tells m a b
+  pub tells : (k l : S.World) (m : Mark) → IsFree m → MayTell m (S.Asks k) → (a b : Stretch) → Tells m a b
       → (x : Both V W) (r : Run V) (q : Run W) → S.Rel k l a (told m x) r q → S.Rel k l b x r q
   pub ran : (k l : S.World) (here : Where) (at : Spot) (a : Action) → S.One k l here at a
       → (x : Both V W) (r : Run V) (q : Run W)
       → S.Rel k l (From here.path 0) (told (Ran here.path at) x) r q → S.Rel k l (Of here.path) x r q
   -- the observers
-  pub observes : (k l : S.World) (a : Stretch) (query : Query) (from : Origin) (x : Both V W) → S.Start k x
-      → (f : Seen × V → Run V) (g : Seen × W → Run W)
+  pub observes : (k l : S.World) → S.Asks k → (a : Stretch) (query : Query) (from : Origin) (x : Both V W)
+      → S.Start k x → (f : Seen × V → Run V) (g : Seen × W → Run W)
       → ((seen : Seen) (v : V) (w : W) → S.Start k (answered_by from v w x)
       → IsAnswered S k l a from v w x (f (seen, v)) (g (seen, w)))
       → S.Rel k l a x (rules.given (o x.n.watch query) (Stops x.n) f) (rules.given (u x.m.watch query) (Stops x.m) g)
@@ -486,9 +496,9 @@ module _ {V W : Type 0} (S : Relation V W) (p : Code) (o : Observer V) (u : Obse
 
   to_cell_related : (k l : S.World) (here : Where) (g : ℕ) → Does S k l Quiet (away_to here g) (away_to here g)
       → (image : Image) → Does S k l Quiet (to_cell here g image) (to_cell here g image)
-  to_cell_related k l here g e image x h = L.tells k l (Entered (cell_of here g) image) tt Quiet Quiet
+  to_cell_related k l here g e image x h = L.tells k l (Entered (cell_of here g) image) tt tt Quiet Quiet
       (silent_tells (Entered (cell_of here g) image) Quiet refl) x _ _
-      (e (told (Entered (cell_of here g) image) x) (L.marks k (Entered (cell_of here g) image) tt x h))
+      (e (told (Entered (cell_of here g) image) x) (L.marks k (Entered (cell_of here g) image) tt tt x h))
 
   away_related : (k l : S.World) (here : Where) (gs : List NameAt) → GoAway S k l here gs
       → Does S k l Quiet (all_go_away here gs) (all_go_away here gs)
@@ -536,10 +546,10 @@ module _ {V W : Type 0} (S : Relation V W) (p : Code) (o : Observer V) (u : Obse
           by_height false j = inl (refl, refl)
       by_name false (OfLog pieces) i = inl (refl, refl)
 
-  comes_related : (k l : S.World) (here : Where) (g : ℕ)
+  comes_related : (k l : S.World) → S.Asks k → (here : Where) (g : ℕ)
       → ((image : Image) → Does S k l Quiet (back_to g image) (back_to g image)) → (first : Image)
-      → Does S k l Quiet (image_comes_back one_of here g first) (image_comes_back two_of here g first)
-  comes_related k l here g e first x h = L.observes k l Quiet (AtEnd (cell_of here g) first)
+      → Does S k l Quiet (cell_comes_back one_of here g first) (cell_comes_back two_of here g first)
+  comes_related k l may here g e first x h = L.observes k l may Quiet (AtEnd (cell_of here g) first)
       (FromCell (cell_of here g)) x h (λ seen. cell_back here g seen x.s x.n) (λ seen. cell_back here g seen x.t x.m)
       (cell_answered k l here g e x)
 
@@ -548,11 +558,11 @@ module _ {V W : Type 0} (S : Relation V W) (p : Code) (o : Observer V) (u : Obse
       → Does S k l Quiet (all_come_back one_of here gs before.s before.n.log)
       (all_come_back two_of here gs before.t before.m.log)
   back_related b k l here [] e before i x h = e x h
-  back_related b k l here (g ∷ gs) (w, image, e, j) before i x h = L.follows k w l Quiet Quiet Quiet
+  back_related b k l here (g ∷ gs) (w, may, image, e, j) before i x h = L.follows k w l Quiet Quiet Quiet
       (quiet_first Quiet) x _ _
       (related_option k w Quiet x (image_of g.name before.s (record x.n { log = before.n.log }))
       (image_of g.name before.t (record x.m { log = before.m.log })) (image before i)
-      (Stops x.n) (Stops x.m) _ _ (L.stops k w x h) (λ first. comes_related k w here g.name e first x h))
+      (Stops x.n) (Stops x.m) _ _ (L.stops k w x h) (λ first. comes_related k w may here g.name e first x h))
       (all_come_back one_of here gs before.s before.n.log) (all_come_back two_of here gs before.t before.m.log)
       (back_related b w l here gs j before i)
 
@@ -593,9 +603,9 @@ module _ {V W : Type 0} (S : Relation V W) (p : Code) (o : Observer V) (u : Obse
       inr (L.ends k l (Fuel place) (answered_by from v w x) h)
 
   asks_related : (k l : S.World) (here : Where) (at : Spot) (cell : CellName) (g : NameAt) (number : ℕ) (b : Lines)
-      → IsLock S p k l here at g number b → (fuel fuel' : ℕ) → fuel ≡ fuel'
+      → IsLock S p k l here at g number b → S.Asks k → (fuel fuel' : ℕ) → fuel ≡ fuel'
       → Does S k l Quiet (asks one_of here at cell g number b fuel) (asks two_of here at cell g number b fuel')
-  asks_related k l here at cell g number b h fuel fuel' e x i =
+  asks_related k l here at cell g number b h may fuel fuel' e x i =
       let us : Uses = else_uses p g.name (whole_block b (locking g here)) in
       let later : Context = after p here.method at (Locks g number b) here.context in
       let ask : Ask = ask_of here number fuel us x.s in
@@ -611,12 +621,12 @@ module _ {V W : Type 0} (S : Relation V W) (p : Code) (o : Observer V) (u : Obse
         ins = y;
       }) (h.ins x i) in
       let z : Both V W = told (Asked cell ask) x in
-      let j : S.Start k (told (Asked cell ask) x) = L.marks k (Asked cell ask) tt x i in
-      L.tells k l (Asked cell ask) tt Quiet Quiet (silent_tells (Asked cell ask) Quiet refl) x _ _
+      let j : S.Start k (told (Asked cell ask) x) = L.marks k (Asked cell ask) tt may x i in
+      L.tells k l (Asked cell ask) tt may Quiet Quiet (silent_tells (Asked cell ask) Quiet refl) x _ _
       (subst (λ (a : Ask). S.Rel k l Quiet (told (Asked cell ask) x)
       (put_to one_of ask us later x.s (marked (Asked cell ask) x.n))
       (put_to two_of a us later x.t (marked (Asked cell a) x.m))) same
-      (L.observes k l Quiet (AtBlock ask) (FromBlock ask.path) z j
+      (L.observes k l may Quiet (AtBlock ask) (FromBlock ask.path) z j
       (λ seen. block_back p us later (FromBlock ask.path) seen z.s z.n)
       (λ seen. block_back p us later (FromBlock ask.path) seen z.t z.m)
       (block_answered k l here at g number b h (FromBlock ask.path) z j)))
@@ -684,8 +694,8 @@ module _ {V W : Type 0} (S : Relation V W) (p : Code) (o : Observer V) (u : Obse
       → Does S k l (From here.path t) (again one_of b here t at e lines) (again two_of b' here t at e lines)
   again_related b b' m k l here t at e lines h x d =
       let y : Both V W = told (Turned here.path t) x in
-      let i : S.Start k (told (Turned here.path t) x) = L.marks k (Turned here.path t) tt x d in
-      L.tells k l (Turned here.path t) tt (From here.path t) (From here.path t) (turned_tells here.path t) x _ _
+      let i : S.Start k (told (Turned here.path t) x) = L.marks k (Turned here.path t) tt tt x d in
+      L.tells k l (Turned here.path t) tt tt (From here.path t) (From here.path t) (turned_tells here.path t) x _ _
       (related_given k l (From here.path t) y i (truth_of p x.s e) (truth_of p x.t e)
       (ap (λ (v : Outcome Val). v >>= truth) (h.tested x d)) at _ _
       (λ test f. related_chosen k l (From here.path t) y test _ _ _ _
@@ -717,10 +727,19 @@ module _ {V W : Type 0} (S : Relation V W) (p : Code) (o : Observer V) (u : Obse
       → (f : Act V) (f' : Act W) → Does S k l (From here.path 0) f f'
       → Does S k l (From here.path 0) (locks one_of b here at g number lines f)
       (locks two_of b' here at g number lines f')
-  locks_related b b' m k l here at g number lines h f f' i x d = related_option k l (From here.path 0) x _ _
-      (h.cells x d) (f x.s x.n) (f' x.t x.m) _ _ (i x d)
-      (λ cell. quiet k l (From here.path 0) x _ _
-      (asks_related k l here at cell g number lines h (fuel_of b) (fuel_of b') (same_fuel b b' m) x d))
+  locks_related b b' m k l here at g number lines h f f' i x d =
+      subst (λ (w : Option CellName). S.Rel k l (From here.path 0) x (locks one_of b here at g number lines f x.s x.n)
+      (rules.given w (f' x.t x.m) (λ cell. asks two_of here at cell g number lines (fuel_of b') x.t x.m)))
+      (h.cells x d) (same (cell_at g.name x.s x.n) refl)
+    where
+      same : (y : Option CellName) → cell_at g.name x.s x.n ≡ y
+          → S.Rel k l (From here.path 0) x
+          (rules.given y (f x.s x.n) (λ cell. asks one_of here at cell g number lines (fuel_of b) x.s x.n))
+          (rules.given y (f' x.t x.m) (λ cell. asks two_of here at cell g number lines (fuel_of b') x.t x.m))
+      same None e = i x d
+      same (Some cell) e = quiet k l (From here.path 0) x _ _
+          (asks_related k l here at cell g number lines h (h.asks x d cell e) (fuel_of b) (fuel_of b')
+          (same_fuel b b' m) x d)
 
   -- ---- statements
 

@@ -30,13 +30,13 @@ use Rattle.ae_rules.specs.declared.held.Held.{Held}
 use Rattle.ae_rules.specs.Walks.{held_in_field}
 use Rattle.ae_rules.specs.Uses.{nothing, read_use, whole_group, reach_use, stronger, ◌∪◌, of_judged, steps_use}
 use Rattle.ae_rules.specs.Uses.{walk_uses, path_uses, end_uses, value_uses}
-use Rattle.ae_semantics.specs.Values.{Val, OfInt, OfBool, Null, Owned, Member, Tree, Store, fits, is_of_kind}
+use Rattle.ae_semantics.specs.Values.{Val, OfInt, OfBool, Null, Owned, Member, Tree, Store, value_fits, is_of_kind}
 use Rattle.ae_semantics.specs.Places.{Outcome, Fine, Traps, Lacks, ◌>>=◌, there, reached, Bound, State, group_of}
-use Rattle.ae_semantics.specs.Places.{members, Address, InGroup, PlaceFound, ObjectOpened, opened_if, opened_member}
-use Rattle.ae_semantics.specs.Places.{open_form, open_place, FieldPart, part_at, field_of_object, field_value}
+use Rattle.ae_semantics.specs.Places.{members, Address, InGroup, PlaceFound, OpenedObject, opened_if, opened_member}
+use Rattle.ae_semantics.specs.Places.{open_form, open_place, NumberedField, numbered_as, numbered_field, field_value}
 use Rattle.ae_semantics.specs.Places.{field_place, met, into_field, local_place, step_to, steps, walk_to}
-use Rattle.std.proofs.lemmas.Option.{same_Some}
 use Rattle.ae_semantics.proofs.Alongside.{fine_same}
+use Rattle.std.proofs.lemmas.Option.{same_Some}
 
 -- both states are the same where these uses are
 pub record SameOn (u : Uses) (s t : State) : Type 0 where
@@ -90,23 +90,23 @@ open_same p s t at (f.Object perm.Unique k) v h = refl
 open_same p s t at (f.Object perm.Immutable k) v h = refl
 open_same p s t at (f.Object perm.Lent k) v h = refl
 
-opened_kind : (b : Bool) (x o : ObjectOpened) → opened_if b x ≡ Fine o → x.kind ≡ o.kind
-opened_kind true x o e = ap (λ (y : ObjectOpened). y.kind) (fine_same x o e)
+opened_kind : (b : Bool) (x o : OpenedObject) → opened_if b x ≡ Fine o → x.kind ≡ o.kind
+opened_kind true x o e = ap (λ (y : OpenedObject). y.kind) (fine_same x o e)
 opened_kind false x o e = absurd (cc e)
 
-member_kind : (k : Kind) (r : Option Tree) (o : ObjectOpened) (b : Tree → Bool) (at : Address)
+member_kind : (k : Kind) (r : Option Tree) (o : OpenedObject) (b : Tree → Bool) (at : Address)
     → (reached r >>= λ t. opened_if (b t) (record { at = at; kind = k; tree = t })) ≡ Fine o → k ≡ o.kind
 member_kind k None o b at e = absurd (cc e)
 member_kind k (Some t) o b at e = opened_kind (b t) (record { at = at; kind = k; tree = t }) o e
 
-store_kind : (p : Code) (k : Kind) (g n : ℕ) (m : Option Store) (o : ObjectOpened)
+store_kind : (p : Code) (k : Kind) (g n : ℕ) (m : Option Store) (o : OpenedObject)
     → (there m >>= opened_member p k g n) ≡ Fine o → k ≡ o.kind
 store_kind p k g n None o e = absurd (cc e)
 store_kind p k g n (Some st) o e = member_kind k (slice_get st n) o (is_of_kind p k)
     (record { base = InGroup g n; fields = [] }) e
 
 -- an opened object has the fields of the form of its place
-open_kind : (p : Code) (s : State) (at : Address) (k : Form) (v : Val) (o : ObjectOpened)
+open_kind : (p : Code) (s : State) (at : Address) (k : Form) (v : Val) (o : OpenedObject)
     → open_form p s at k v ≡ Fine o → (n : ℕ) → field_of p k n ≡ field_of_kind p o.kind n
 open_kind p s at f.Int v o e n = absurd (cc e)
 open_kind p s at f.Bool v o e n = absurd (cc e)
@@ -119,20 +119,21 @@ open_kind p s at (f.Object q k) v o e n = absurd (cc e)
 
 -- ---- steps
 
-part_form : (o : Option Form) (n : ℕ) (d : FieldPart) → part_at o n ≡ Some d → o ≡ Some d.form
+part_form : (o : Option Form) (n : ℕ) (d : NumberedField) → numbered_as o n ≡ Some d → o ≡ Some d.form
 part_form None n d e = absurd (cc e)
-part_form (Some k) n d e = ap (λ (y : FieldPart). Some y.form) (some_same e)
+part_form (Some k) n d e = ap (λ (y : NumberedField). Some y.form) (same_Some e)
   where
-    some_same : Some (record { number = n; form = k }) ≡ Some d → record { number = n; form = k } ≡ d
-    some_same e = cc
+    same_Some : Some (record { number = n; form = k }) ≡ Some d → record { number = n; form = k } ≡ d
+    same_Some e = cc
 
-numbered_form : (o : Option Form) (n : Option ℕ) (d : FieldPart) → rules.given n None (part_at o) ≡ Some d
+numbered_form : (o : Option Form) (n : Option ℕ) (d : NumberedField) → rules.given n None (numbered_as o) ≡ Some d
     → o ≡ Some d.form
 numbered_form o None d e = absurd (cc e)
 numbered_form o (Some n) d e = part_form o n d e
 
-class_form : (o : Option Form) (c : Option Class) (x : ℕ) (d : FieldPart)
-    → rules.given c None (λ (y : Class). rules.given (field_number y x) None (part_at o)) ≡ Some d → o ≡ Some d.form
+class_form : (o : Option Form) (c : Option Class) (x : ℕ) (d : NumberedField)
+    → rules.given c None (λ (y : Class). rules.given (field_number y x) None (numbered_as o)) ≡ Some d
+    → o ≡ Some d.form
 class_form o None x d e = absurd (cc e)
 class_form o (Some c) x d e = numbered_form o (field_number c x) d e
 
@@ -140,14 +141,14 @@ met_form : (b : Bool) (x z : PlaceFound) → (if b then Fine x else Traps 3) ≡
 met_form true x z e = ap (λ (y : PlaceFound). y.form) (fine_same x z e)
 met_form false x z e = absurd (cc e)
 
-value_form : (p : Code) (o : ObjectOpened) (d : FieldPart) (v : Option Val) (z : PlaceFound)
+value_form : (p : Code) (o : OpenedObject) (d : NumberedField) (v : Option Val) (z : PlaceFound)
     → (there v >>= λ w. met p (field_place o d w)) ≡ Fine z → d.form ≡ z.form
 value_form p o d None z e = absurd (cc e)
-value_form p o d (Some v) z e = met_form (fits p d.form v) (field_place o d v) z e
+value_form p o d (Some v) z e = met_form (value_fits p d.form v) (field_place o d v) z e
 
 -- the place of a field has the field's form
-field_form_is : (p : Code) (o : ObjectOpened) (x : ℕ) (y : Option FieldPart) (z : PlaceFound)
-    → field_of_object p o.kind x ≡ y
+field_form_is : (p : Code) (o : OpenedObject) (x : ℕ) (y : Option NumberedField) (z : PlaceFound)
+    → numbered_field p o.kind x ≡ y
     → (there y >>= λ d. there (field_value o.tree d.number) >>= λ v. met p (field_place o d v)) ≡ Fine z
     → field_of_kind p o.kind x ≡ Some z.form
 field_form_is p o x None z d e = absurd (cc e)
@@ -204,7 +205,7 @@ module _ (p : Code) (c : Context) (at : Spot) where
       let k : (k : Form) × (field_of p y.form n.name ≡ Some k)
       × (record { form = k; held = held_in_field y.held k } ≡ y') = stepped (field_of p y.form n.name)
       (access c at y.held) y.held _ n.at y' e in
-      let same : Some z.form ≡ Some k.0 = sym (field_form_is p o n.name (field_of_object p o.kind n.name) z refl j)
+      let same : Some z.form ≡ Some k.0 = sym (field_form_is p o n.name (numbered_field p o.kind n.name) z refl j)
       ∙ sym (open_kind p s x.at x.form x.value o i n.name) ∙ h.field n.name ∙ k.1 in
       subst (Fit p z.form) k.2 (step_fit p k.0 z.form y.held (same_Some z.form k.0 same)))
 
@@ -223,7 +224,7 @@ module _ (p : Code) (c : Context) (at : Spot) where
   step_same s t n ns ih x y w h (rules.Broken r expression_spot) e u j = absurd (cc j)
   step_same s t n ns ih x y w h (rules.Holds y') e u j =
       let later : SameOn (steps_use p c at ns y') s t = on_right (reach_use y.held) (steps_use p c at ns y') s t u in (
-        ap (λ (o : Outcome ObjectOpened). (o >>= λ o. into_field p o n.name) >>= steps p s ns)
+        ap (λ (o : Outcome OpenedObject). (o >>= λ o. into_field p o n.name) >>= steps p s ns)
             (opens_same p s t x y h (on_left (reach_use y.held) (steps_use p c at ns y') s t u))
             ∙ bind_same (step_to p t n x) (steps p s ns) (steps p t ns)
             (λ z d. (ih z y' w (fit_step t n x y y' h e z d) later j).0),
@@ -338,7 +339,7 @@ value_same p c s t fit (Item path e) h u =
     let r = end_same p c s t fit path h.0.0 h.0.1 root (on_left (end_uses p c path) (value_uses p c e) s t rest) in
     bind_same (walk_to p s path) (λ x. value p s e >>= λ v. number v >>= λ n. open_place p s x >>= λ o. item o n)
     (λ x. value p t e >>= λ v. number v >>= λ n. open_place p t x >>= λ o. item o n)
-    (λ x d. ap (λ (o : Outcome ObjectOpened). value p s e >>= λ v. number v >>= λ n. o >>= λ o. item o n) (r.1 x d)
+    (λ x d. ap (λ (o : Outcome OpenedObject). value p s e >>= λ v. number v >>= λ n. o >>= λ o. item o n) (r.1 x d)
     ∙ ap (λ (y : Outcome Val). y >>= λ v. number v >>= λ n. open_place p t x >>= λ o. item o n)
     (value_same p c s t fit e h.1 (on_right (end_uses p c path) (value_uses p c e) s t rest)))
     ∙ ap (λ (q : Outcome PlaceFound). q >>= λ x. value p t e >>= λ v. number v >>= λ n. open_place p t x
@@ -346,7 +347,7 @@ value_same p c s t fit (Item path e) h u =
 value_same p c s t fit (Length path at) h u =
     let r = end_same p c s t fit path h.0 h.1 (on_left (read_use path.root.name) (end_uses p c path) s t u)
     (on_right (read_use path.root.name) (end_uses p c path) s t u) in
-    ap (λ (o : Outcome ObjectOpened). o >>= λ o. numbers o.tree >>= λ ns. Fine (OfInt (pos (length ns))))
+    ap (λ (o : Outcome OpenedObject). o >>= λ o. numbers o.tree >>= λ ns. Fine (OfInt (pos (length ns))))
     (bind_same (walk_to p s path) (open_place p s) (open_place p t) r.1
     ∙ ap (λ (q : Outcome PlaceFound). q >>= open_place p t) r.0)
 value_same p c s t fit (Grouped e at) h u = value_same p c s t fit e h u

@@ -13,8 +13,8 @@ use Rattle.ae_semantics.specs.Runs.{flow_close, is_left_out, absent, gone_on}
 use Rattle.ae_semantics.specs.Blocks.{used}
 use Rattle.ae_semantics.specs.Means.{run, meant}
 use Rattle.ae_semantics.specs.Atom.{by_query, flow_machine, part}
-use Rattle.ae_semantics.specs.Unfolding.{Trail, watching, watched, left_behind, passage, with_found, by_table}
-use Rattle.ae_semantics.specs.Unfolding.{no_trail, watched_run, WatchingChangesNothing}
+use Rattle.ae_semantics.specs.Trails.{Trail, watching, watched, behind, passage, with_found, no_trail, watched_run}
+use Rattle.ae_semantics.specs.Trails.{WatchingChangesNothing}
 use Rattle.ae_semantics.proofs.Related.{Quiet}
 use Rattle.ae_semantics.proofs.Alongside.{Noted, IsNoted, Keeps, along_run}
 
@@ -71,8 +71,7 @@ same_close : (barred : List ℕ) → Steady (flow_close barred) (flow_close barr
 same_close [] s n = refl
 same_close (j ∷ barred) s n = refl
 
-same_behind : (here : Where) (all : Scene) (j : ℕ) (r : Run Trail) (q : Run ⊤) → Same r q
-    → Same (left_behind here all j r) q
+same_behind : (here : Where) (all : Scene) (j : ℕ) (r : Run Trail) (q : Run ⊤) → Same r q → Same (behind here all j r) q
 same_behind here all j (Went s n) q e = e
 same_behind here all j (Ends ending n) q e = e
 same_behind here all j (Stops n) q e = e
@@ -105,7 +104,7 @@ same_step p here all j barred f g k a b l s n = same_chosen (is_left_out p all j
     (k s (with_found (passage here all j s n) n)))
     (here.path ++ (j ∷ [])) j barred (absent p all j s) a b l)
 
-same_kept : (p : Code) (table : Query → Option Seen) → Keeps same (by_table table) (by_query table) (watching p)
+same_kept : (p : Code) (table : Query → Option Seen) → Keeps same (by_query table) (by_query table) (watching p)
     (flowing p)
 same_kept p table = record {
   inner = λ q i e. tt;
@@ -138,5 +137,5 @@ pub watching_changes_nothing : WatchingChangesNothing
 unfolding part
 watching_changes_nothing p ints fuel table = same_meant (watched_run p ints fuel table)
     (run (flow_machine p table) ints fuel tt)
-    (along_run same p (by_table table) (by_query table) (watching p) (flowing p) (same_kept p table)
+    (along_run same p (by_query table) (by_query table) (watching p) (flowing p) (same_kept p table)
     (λ q. tt) ints fuel no_trail tt refl Same (λ b r q e. e))

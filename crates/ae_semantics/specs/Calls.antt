@@ -1,6 +1,6 @@
 -- A call in two halves: what goes into the method's body, and what comes back from it.
-use Rattle.std.specs.Prelude.{ℕ, ◌+◌, nat_eq, Bool, true, false, ◌&&◌, not, if◌then◌else◌, List, [], ◌∷◌, zip}
-use Rattle.std.specs.Prelude.{filter_map, Option, None, Some, option_map}
+use Rattle.std.specs.Prelude.{ℕ, ◌+◌, nat_eq, Bool, ◌&&◌, not, if◌then◌else◌, List, [], ◌∷◌, zip, filter_map, Option}
+use Rattle.std.specs.Prelude.{None, Some, option_map}
 use Rattle.ae_tree.specs.declared.tree.GroupNeed.{GroupNeed}
 use Rattle.ae_tree.specs.Plain.{Definition, Code, Expression, Read, Invocation}
 use Rattle.ae_rules.specs.Verdict as rules
@@ -20,6 +20,7 @@ pub record Argument : Type 0 where
   pub value : Val
   pub from : Option Address
 
+-- the value of an argument, with the place of a path
 abbrev pub argument : Code → State → Expression → Outcome Argument
 argument p s (Read path) = walk_to p s path >>= λ x. Fine (record { value = x.value; from = Some x.at })
 argument p s e = value p s e >>= λ v. Fine (record { value = v; from = None })
@@ -63,6 +64,7 @@ pub record CallFrame : Type 0 where
   pub here : Where
   pub state : State
 
+-- the entered call with these arguments
 abbrev pub frame : Code → Where → State → Callee → (ℕ → ℕ) → List Argument → CallFrame
 frame p here s c groups xs =
     let ts : List Taker = takers p c.method in
@@ -110,14 +112,17 @@ groups_back groups [] after s = s
 groups_back groups (n ∷ ns) after s = groups_back groups ns after
     (group_back (groups n.group.name) (after.groups n.group.name) s)
 
-abbrev pub is_given_back : ParamSlot → Bool
-is_given_back t = is_unique t.form && not t.away
+-- a unique object comes back, unless it was given away
+abbrev pub value_comes_back : ParamSlot → Bool
+value_comes_back t = is_unique t.form && not t.away
 
+-- what a parameter holds comes back to the place of its argument
 abbrev pub put_back : Taker × Argument → State → State → Outcome State
-put_back x after s = if is_given_back x.0.1
+put_back x after s = if value_comes_back x.0.1
     then rules.given x.1.from (Fine s) (λ at. there (after.locals x.0.0) >>= λ b. write s at b.value)
     else Fine s
 
+-- what the parameters hold comes back, in their order
 abbrev pub values_back : List (Taker × Argument) → State → State → Outcome State
 values_back [] after s = Fine s
 values_back (x ∷ xs) after s = put_back x after s >>= values_back xs after

@@ -1,12 +1,11 @@
 -- The contexts of the judgement, where the meaning asks for them.
-use Rattle.std.specs.Prelude.{Bool, not, List, Option}
+use Rattle.std.specs.Prelude.{Bool, not, Option}
 use Rattle.ae_text.specs.declared.refusal.Spot.{Spot}
-use Rattle.ae_tree.specs.declared.tree.NameAt.{NameAt}
 use Rattle.ae_rules.specs.declared.uses.Mode.{Mode}
 use Rattle.ae_tree.specs.Plain.{Action, Definition, Code}
 use Rattle.ae_rules.specs.Verdict.{Verdict, Holds, Broken}
 use Rattle.ae_rules.specs.Context.{Context}
-use Rattle.ae_rules.specs.Statements.{while_split, judge_statement}
+use Rattle.ae_rules.specs.Statements.{judge_statement}
 use Rattle.ae_rules.specs.EdgeLists.{is_weak}
 
 -- the context that a verdict gives; where a rule is broken, the one before
@@ -17,10 +16,6 @@ or_before (Broken rule at) before = before
 -- the context after a statement of a method
 abbrev pub after : Code → Definition → Spot → Action → Context → Context
 after p m at a c = or_before (judge_statement p m at a c) c
-
--- the context in which a split block begins
-abbrev pub in_split : List NameAt → Context → Context
-in_split gs c = while_split gs c
 
 -- used so that nothing else uses it meanwhile
 abbrev pub shuts_out : Option Mode → Bool

@@ -152,26 +152,4 @@ unfolding below
 below-suc m f = refl
 
 -- the meaning, form by form
-pub ruleset means = (
-  one-Declares,
-  one-Assigns,
-  one-Stores,
-  one-StoresAt,
-  one-Calls,
-  one-Chooses,
-  one-ChoosesElse,
-  one-Repeats,
-  one-Groups,
-  one-Splits,
-  one-Locks,
-  one-Freezes,
-  one-Shares,
-  one-Prints,
-  one-PrintsText,
-  one-Asserts,
-  one-Returns,
-  many-End,
-  many-Next,
-  below-zero,
-  below-suc,
-)
+pub ruleset means = (one-Declares, one-Assigns, one-Stores, one-StoresAt, one-Calls, one-Chooses, one-ChoosesElse, one-Repeats, one-Groups, one-Splits, one-Locks, one-Freezes, one-Shares, one-Prints, one-PrintsText, one-Asserts, one-Returns, many-End, many-Next, below-zero, below-suc)

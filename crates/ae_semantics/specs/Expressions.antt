@@ -6,15 +6,17 @@ use Rattle.ae_tree.specs.declared.tree.Op.TheVariants as op
 use Rattle.ae_tree.specs.Plain.{Code, Expression, Number, Truth, Nothing, Read, Item, Length, Grouped, Negated}
 use Rattle.ae_tree.specs.Plain.{Minus, Binary}
 use Rattle.ae_semantics.specs.Values.{Val, OfInt, OfBool, Null, Owned, Member, Tree, Object, Array}
-use Rattle.ae_semantics.specs.Places.{Outcome, Fine, Traps, Lacks, ◌>>=◌, there, State, ObjectOpened, walk_to}
+use Rattle.ae_semantics.specs.Places.{Outcome, Fine, Traps, Lacks, ◌>>=◌, there, State, OpenedObject, walk_to}
 use Rattle.ae_semantics.specs.Places.{open_place, reach}
 
 -- ---- numbers and truths
 
+-- the value as an integer
 abbrev pub number : Val → Outcome ℤ
 number (OfInt n) = Fine n
 number _ = Lacks
 
+-- the value as a truth
 abbrev pub truth : Val → Outcome Bool
 truth (OfBool b) = Fine b
 truth _ = Lacks
@@ -29,11 +31,13 @@ abbrev pub unless_zero : ℤ → Outcome Val → Outcome Val
 unless_zero (pos n) o = if nat_eq n 0 then Traps 2 else o
 unless_zero (negsuc n) o = o
 
+-- two integers are the same
 abbrev pub same_number : ℤ → ℤ → Bool
 same_number (pos m) (pos n) = nat_eq m n
 same_number (negsuc m) (negsuc n) = nat_eq m n
 same_number _ _ = false
 
+-- two truths are the same
 abbrev pub same_truth : Bool → Bool → Bool
 same_truth true b = b
 same_truth false b = not b
@@ -49,6 +53,7 @@ same (Owned t) Null = Fine false
 same (Member n) Null = Fine false
 same _ _ = Lacks
 
+-- a comparison of two integers
 abbrev pub ordered : (ℤ → ℤ → Bool) → ℤ → ℤ → Outcome Val
 ordered test a b = Fine (OfBool (test a b))
 
@@ -75,6 +80,7 @@ applied o v w = number v >>= λ a. number w >>= λ b. calculated o a b
 
 -- ---- arrays
 
+-- the integers of an array
 abbrev pub numbers : Tree → Outcome (List ℤ)
 numbers (Array ns) = Fine ns
 numbers (Object c xs) = Lacks
@@ -84,11 +90,12 @@ abbrev pub index : List ℤ → ℤ → Outcome ℕ
 index ns (pos i) = if nat_lt i (length ns) then Fine i else Traps 4
 index ns (negsuc i) = Traps 4
 
+-- the item of an array with this number
 abbrev pub item_at : List ℤ → ℕ → Outcome Val
 item_at ns i = there (slice_get ns i) >>= λ n. Fine (OfInt n)
 
 -- the integer at an index of an array
-abbrev pub item : ObjectOpened → ℤ → Outcome Val
+abbrev pub item : OpenedObject → ℤ → Outcome Val
 item o n = numbers o.tree >>= λ ns. index ns n >>= item_at ns
 
 -- ---- expressions
@@ -98,10 +105,12 @@ abbrev pub unless_false : Bool → (⊤ → Outcome Val) → Outcome Val
 unless_false true rest = rest tt
 unless_false false rest = Fine (OfBool false)
 
+-- true at once, or else the next
 abbrev pub unless_true : Bool → (⊤ → Outcome Val) → Outcome Val
 unless_true true rest = Fine (OfBool true)
 unless_true false rest = rest tt
 
+-- an operator on the first operand and the next one, which `&&` and `||` may not need
 abbrev pub both : Op → Val → (⊤ → Outcome Val) → Outcome Val
 both op.And v rest = truth v >>= λ b. unless_false b rest
 both op.Or v rest = truth v >>= λ b. unless_true b rest
@@ -121,8 +130,10 @@ value p s (Negated e at) = value p s e >>= λ v. truth v >>= λ b. Fine (OfBool 
 value p s (Minus e at) = value p s e >>= λ v. number v >>= λ n. fitted (neg_ℤ n)
 value p s (Binary o a b) = value p s a >>= λ v. both o v (λ _. value p s b)
 
+-- the integer that an expression comes to
 abbrev pub number_of : Code → State → Expression → Outcome ℤ
 number_of p s e = value p s e >>= number
 
+-- the truth that an expression comes to
 abbrev pub truth_of : Code → State → Expression → Outcome Bool
 truth_of p s e = value p s e >>= truth

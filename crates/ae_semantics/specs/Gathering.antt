@@ -1,14 +1,13 @@
--- Runs that keep the answers that they get.
-use Rattle.std.specs.Prelude.{◌≡◌, ℕ, ℤ, List, [], ◌∷◌, ◌++◌, Option, Some, option_map, ⊤}
-use Rattle.ae_tree.specs.Plain.{Code}
-use Rattle.ae_semantics.specs.Observations.{Seen, Query, Ending, Observer}
-use Rattle.ae_semantics.specs.Runs.{Run, Machine, stopping}
-use Rattle.ae_semantics.specs.Means.{run, notes_of, ending_of, meant, mean}
+-- Runs that keep the answers that they get, and runs with more observations.
+use Rattle.std.specs.Prelude.{◌≡◌, ℕ, ℤ, List, [], ◌∷◌, ◌++◌, Option, option_map, ⊤}
+use Rattle.ae_text.specs.declared.refusal.Spot.{Spot}
+use Rattle.ae_tree.specs.Plain.{Action, Code}
+use Rattle.ae_semantics.specs.Places.{State}
+use Rattle.ae_semantics.specs.Observations.{Seen, Mark, Query, Notes, Observer}
+use Rattle.ae_semantics.specs.Runs.{Run, Went, Ends, Stops, Act, Where, Machine}
+use Rattle.ae_semantics.specs.Meaning.{one, below}
+use Rattle.ae_semantics.specs.Means.{run, notes_of, stops_at, source_machine}
 use Rattle.ae_semantics.specs.Atom.{by_query}
-
--- the machine that goes up to the first ending
-abbrev pub stops_at : {W : Type 0} → Code → Observer W → Machine W
-stops_at p o = record { code = p; observer = o; order = stopping }
 
 -- the observer that also keeps its answers, in order
 abbrev pub gathering : {V : Type 0} → Observer V → Observer (V × List Seen)
@@ -22,9 +21,60 @@ gathered p ints fuel table = run (stops_at p (gathering (by_query table))) ints 
 abbrev pub answers : Run (⊤ × List Seen) → List Seen
 answers r = (notes_of r).watch.1
 
--- a run by observations of what is asked, where it has an ending, is the meaning with the list of the answers that it got
+-- ---- a statement
+
+-- what a statement that stands here does, with this fuel
+abbrev pub doing : {W : Type 0} → Machine W → ℕ → Where → Spot → Action → Act W
+doing m fuel here at a = one m (below m fuel) here at a
+
+-- the same notes, and the same run, of another observer
+abbrev pub carry : {V W : Type 0} → (V → W) → Notes V → Notes W
+carry h n = record { log = n.log; cell = n.cell; marks = n.marks; watch = h n.watch }
+
+-- the same run for another observer
+abbrev pub carried : {V W : Type 0} → (V → W) → Run V → Run W
+carried h (Went s n) = Went s (carry h n)
+carried h (Ends e n) = Ends e (carry h n)
+carried h (Stops n) = Stops (carry h n)
+
+-- ---- by its answers
+
+-- A run that keeps its answers goes as it would without keeping them, and as the run by the list of exactly these answers; nothing of the list is left.
+-- A run that stops for want of an answer stops there too.
+abbrev pub IsByAnswers : Run (⊤ × List Seen) → Run ⊤ → (List Seen → Run (List Seen)) → Type 0
+IsByAnswers r plain by_list = (plain ≡ carried (λ w. w.0) r) × (by_list (answers r) ≡ carried (λ w. []) r)
+
+-- so does a whole run, whatever it comes to
 abbrev pub GoesByItsAnswers : Type 0
-GoesByItsAnswers = (p : Code) (ints : List ℤ) (fuel : ℕ) (table : Query → Option Seen) (e : Ending)
-    → ending_of (gathered p ints fuel table) ≡ Some e
-    → (meant (run (stops_at p (by_query table)) ints fuel tt) ≡ meant (gathered p ints fuel table))
-    × (mean p ints fuel (answers (gathered p ints fuel table)) ≡ meant (gathered p ints fuel table))
+GoesByItsAnswers = (p : Code) (ints : List ℤ) (fuel : ℕ) (table : Query → Option Seen)
+    → IsByAnswers (gathered p ints fuel table) (run (stops_at p (by_query table)) ints fuel tt)
+    (λ list. run (source_machine p) ints fuel list)
+
+-- and a single statement, from any state and with any notes
+abbrev pub StatementGoesByItsAnswers : Type 0
+StatementGoesByItsAnswers = (p : Code) (fuel : ℕ) (table : Query → Option Seen) (here : Where) (at : Spot)
+    (a : Action) (s : State) (n : Notes ⊤)
+    → IsByAnswers (doing (stops_at p (gathering (by_query table))) fuel here at a s (carry (λ w. (w, [])) n))
+    (doing (stops_at p (by_query table)) fuel here at a s n)
+    (λ list. doing (source_machine p) fuel here at a s (carry (λ w. list) n))
+
+-- ---- with more observations
+
+-- With more observations behind those that it has a run is the same where it goes through or ends, but for those that are left.
+-- Where it stops, the run with more begins with all that it tells.
+abbrev pub GoesFurther : List Seen → Run (List Seen) → Run (List Seen) → Type 0
+GoesFurther more (Went s n) q = q ≡ Went s (carry (λ w. w ++ more) n)
+GoesFurther more (Ends e n) q = q ≡ Ends e (carry (λ w. w ++ more) n)
+GoesFurther more (Stops n) q = (later : List Mark) × ((notes_of q).marks ≡ n.marks ++ later)
+
+-- so does a whole run
+abbrev pub MoreGoesFurther : Type 0
+MoreGoesFurther = (p : Code) (ints : List ℤ) (fuel : ℕ) (seen more : List Seen)
+    → GoesFurther more (run (source_machine p) ints fuel seen) (run (source_machine p) ints fuel (seen ++ more))
+
+-- and a single statement, from any state and with any notes
+abbrev pub StatementGoesFurther : Type 0
+StatementGoesFurther = (p : Code) (fuel : ℕ) (more : List Seen) (here : Where) (at : Spot) (a : Action) (s : State)
+    (n : Notes (List Seen))
+    → GoesFurther more (doing (source_machine p) fuel here at a s n)
+    (doing (source_machine p) fuel here at a s (carry (λ w. w ++ more) n))

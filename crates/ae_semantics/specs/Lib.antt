@@ -11,6 +11,14 @@ pub mod Equations
 pub mod Means
 pub mod Atom
 pub mod Report
+pub mod Standing
 pub mod Gathering
+pub mod PastStops
+pub mod Moments
+pub mod Entries
+pub mod Regions
+pub mod BlockTrees
+pub mod Stamps
+pub mod Trails
 pub mod Unfolding
 pub mod Laws

@@ -26,10 +26,11 @@ use Rattle.ae_rules.specs.Blocks.{Scene}
 use Rattle.ae_semantics.specs.Values.{Val, OfInt, OfBool, Null, Owned, Member, Object, Array, Store, values}
 use Rattle.ae_semantics.specs.Places.{Outcome, Fine, Traps, Lacks, ◌>>=◌, there, Here, Bound, State, with_bound}
 use Rattle.ae_semantics.specs.Places.{with_store, store_of, field_value, met, field_place, bind, write_field}
-use Rattle.ae_semantics.specs.Places.{write_tree, FieldSlot, slot, reach}
+use Rattle.ae_semantics.specs.Places.{write_tree, ObjectField, slot, reach}
 use Rattle.ae_semantics.specs.Expressions.{value, number_of, truth_of, numbers, index}
 use Rattle.ae_semantics.specs.Contexts.{after}
-use Rattle.ae_semantics.specs.Observations.{Trap, Ran, Turned, Notes}
+use Rattle.ae_semantics.specs.declared.report.Ending.TheVariants.{Trap}
+use Rattle.ae_semantics.specs.Observations.{Ran, Turned, Notes}
 use Rattle.ae_semantics.specs.Runs.{Run, Went, Ends, Act, and_then, outcome_given, paid, chosen, marked, logged}
 use Rattle.ae_semantics.specs.Runs.{Where, deeper, knowing, splitting, locking, whole_block, Machine, Below, fuel_of}
 use Rattle.ae_semantics.specs.Calls.{CallFrame, enter, leave, without_moved}
@@ -48,13 +49,14 @@ zeros (pos n) = Fine (Owned (Array (replicate n (pos 0))))
 zeros (negsuc n) = Traps 7
 
 -- a field's value, which is met, and null in its place
-abbrev pub take_from : Code → State → FieldSlot → Outcome (Val × State)
+abbrev pub take_from : Code → State → ObjectField → Outcome (Val × State)
 take_from p s x =
     there (field_value x.object.tree x.part.number) >>= λ v.
     met p (field_place x.object x.part v) >>= λ place.
     write_field s x.object x.part.number Null >>= λ t.
     Fine (place.value, t)
 
+-- the value of the field to which a path leads is taken out of it
 abbrev pub take_field : Code → State → Path → Outcome (Val × State)
 take_field p s path = slot p s path >>= take_from p s
 
@@ -98,6 +100,7 @@ call_run below here at i s n go f = chosen (nat_lt here.depth 1000)
     (λ _. paid below at n (body_run at i f s n go))
     (λ _. Ends (Trap 6 at) n)
 
+-- a call, whose result is handed on
 abbrev pub calls_method : {W : Type 0} → Machine W → Option (Below W) → Where → Spot → Invocation → State → Notes W
     → (Option Val → Act W) → Run W
 calls_method m below here at i s n go = outcome_given (enter m.code here i s) at n (call_run below here at i s n go)
@@ -108,6 +111,7 @@ calls_method m below here at i s n go = outcome_given (enter m.code here i s) at
 abbrev pub assigned : {W : Type 0} → Spot → ℕ → Form → Val → Act W
 assigned at x form v s n = outcome_given (bind x form v s) at n (λ t. Went t n)
 
+-- the result of a call goes to a local
 abbrev pub result_to : {W : Type 0} → Spot → ℕ → Form → Option Val → Act W
 result_to at x form r s n = outcome_given (there r) at n (λ v. assigned at x form v s n)
 
@@ -117,6 +121,7 @@ sets m below here at x form (Returned i) s n = calls_method m below here at i s 
 sets m below here at x form e s n = outcome_given (made m.code e s) at n
     (λ r. assigned at x form r.0 (without_moved (right_moved m.code form e) r.1) n)
 
+-- a right side goes to a local that is there, in its form
 abbrev pub assigns : {W : Type 0} → Machine W → Option (Below W) → Where → Spot → ℕ → RightSide → Act W
 assigns m below here at x e s n = outcome_given (there (here.context.local x)) at n
     (λ (l : Local). sets m below here at x l.form e s n)
@@ -145,10 +150,12 @@ with_perm q f.Int = f.Int
 with_perm q f.Bool = f.Bool
 with_perm q (f.Object r k) = f.Object q k
 
+-- the object of a local becomes immutable
 abbrev pub frozen : ℕ → State → Outcome State
 frozen x s = there (s.locals x)
     >>= λ b. Fine (with_bound x (Some (record b { form = with_perm perm.Immutable b.form })) s)
 
+-- the local holds what is shared of the group
 abbrev pub shared_as : ℕ → ℕ → Bound → Val → State → State
 shared_as x g b v s = with_bound x (Some (record { form = with_perm (perm.Shared g) b.form; value = v })) s
 
@@ -159,6 +166,7 @@ shared_value x g b (Owned t) s st =
 shared_value x g b Null s st = Fine (shared_as x g b Null s)
 shared_value x g b _ s st = Lacks
 
+-- the object of a local becomes a member of a group
 abbrev pub shares_into : ℕ → ℕ → State → Outcome State
 shares_into x g s = there (s.locals x) >>= λ b. store_of s g >>= shared_value x g b b.value s
 
@@ -173,6 +181,7 @@ printed_value _ = Lacks
 abbrev pub prints_piece : {W : Type 0} → Where → List ℕ → Act W
 prints_piece here bytes s n = Went s (logged (record { path = here.path; bytes = bytes } ∷ []) n)
 
+-- `assert`: what is false is trap 5
 abbrev pub asserts : {W : Type 0} → Spot → Bool → Act W
 asserts at true s n = Went s n
 asserts at false s n = Ends (Trap 5 at) n
@@ -181,6 +190,7 @@ asserts at false s n = Ends (Trap 5 at) n
 abbrev pub result_moved : Definition → Expression → List ℕ
 result_moved m e = rules.given m.result [] (λ t. name_moved (form t) e)
 
+-- `return`: the value is the result, and a name that moves has no value then
 abbrev pub returns_value : Code → Definition → Expression → State → Outcome State
 returns_value p m e s = value p s e >>= λ v. Fine (record (without_moved (result_moved m e) s) { result = Some v })
 
@@ -197,6 +207,7 @@ forgotten c s = record s {
   groups = λ g. if is_seen c (resource.Group g) then s.groups g else None;
 }
 
+-- a block is left where it went through
 abbrev pub left : {W : Type 0} → Context → Run W → Run W
 left c run = and_then run (λ s n. Went (forgotten c s) n)
 

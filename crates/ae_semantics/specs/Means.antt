@@ -9,8 +9,11 @@ use Rattle.ae_rules.specs.Judges as judges
 use Rattle.ae_rules.specs.Instances.{Instance}
 use Rattle.ae_semantics.specs.Values.{Owned, Array}
 use Rattle.ae_semantics.specs.Places.{CellName, State}
-use Rattle.ae_semantics.specs.Observations.{Piece, Image, Ask, Seen, Origin, Ending, Done, Mark, Ran, Turned}
-use Rattle.ae_semantics.specs.Observations.{Entered, Asked, Used, Stopped, Notes, Observer}
+use Rattle.ae_semantics.specs.declared.report.Ending.{Ending}
+use Rattle.ae_semantics.specs.declared.report.Ending.TheVariants.{Done}
+use Rattle.ae_semantics.specs.declared.report.Piece.{Piece}
+use Rattle.ae_semantics.specs.Observations.{Image, Ask, Seen, Origin, Mark, Ran, Turned, Entered, Asked, Used}
+use Rattle.ae_semantics.specs.Observations.{Stopped, Notes, Observer}
 use Rattle.ae_semantics.specs.Runs.{Run, Went, Ends, Stops, Where, stopping, Machine}
 use Rattle.ae_semantics.specs.Calls.{takers, taken}
 use Rattle.ae_semantics.specs.Meaning.{block, below}
@@ -23,6 +26,7 @@ pub record Start : Type 0 where
   pub method : Definition
   pub state : State
 
+-- where the body of `main` stands
 abbrev pub main_here : Code → ℕ → Definition → Where
 main_here p n m = record { number = n; method = m; depth = 1; path = []; context = judges.start p m; inside = false }
 
@@ -34,13 +38,16 @@ main_state p m ints = record {
   result = None;
 }
 
+-- where the method with this number begins
 abbrev pub start_at : Code → List ℤ → ℕ → Option Start
 start_at p ints n = given (method_at p n) None (λ (m : Definition).
     Some (record { here = main_here p n m; method = m; state = main_state p m ints }))
 
+-- where the program begins, where it has a `main`
 abbrev pub run_start : Code → List ℤ → Option Start
 run_start p ints = given (top_number p main) None (start_at p ints)
 
+-- nothing is noted yet
 abbrev pub no_notes : {W : Type 0} → W → Notes W
 no_notes w = record { log = []; cell = None; marks = []; watch = w }
 
@@ -51,11 +58,13 @@ run m ints fuel w = given (run_start m.code ints) (Stops (no_notes w))
 
 -- ---- what is read off a run
 
+-- what a run leaves beside its state
 abbrev pub notes_of : {W : Type 0} → Run W → Notes W
 notes_of (Went s n) = n
 notes_of (Ends ending n) = n
 notes_of (Stops n) = n
 
+-- the ending of a run, where it has one
 abbrev pub ending_of : {W : Type 0} → Run W → Option Ending
 ending_of (Went s n) = Some Done
 ending_of (Ends ending n) = Some ending
@@ -105,6 +114,7 @@ pub record Asking : Type 0 where
   pub cell : CellName
   pub ask : Ask
 
+-- what was asked, in order
 abbrev pub asks_in : List Mark → List Asking
 asks_in [] = []
 asks_in (Asked c ask ∷ ms) = record { cell = c; ask = ask } ∷ asks_in ms
@@ -115,6 +125,7 @@ pub record Stop : Type 0 where
   pub path : Instance
   pub ending : Option Ending
 
+-- the instances that did not go through, in order
 abbrev pub stops_in : List Mark → List Stop
 stops_in [] = []
 stops_in (Stopped path ending ∷ ms) = record { path = path; ending = ending } ∷ stops_in ms
@@ -134,6 +145,7 @@ pub record Meant : Type 0 where
   pub log : List Piece
   pub cell : Option CellName
 
+-- what is read off a run
 abbrev pub meant : {W : Type 0} → Run W → Meant
 meant r =
     let n : Notes _ = notes_of r in
@@ -154,8 +166,13 @@ abbrev pub in_order : Observer (List Seen)
 in_order [] q = None
 in_order (x ∷ xs) q = Some (x, xs)
 
+-- the machine that goes up to the first ending
+abbrev pub stops_at : {W : Type 0} → Code → Observer W → Machine W
+stops_at p o = record { code = p; observer = o; order = stopping }
+
+-- the machine of the source order, by a list of observations
 abbrev pub source_machine : Code → Machine (List Seen)
-source_machine p = record { code = p; observer = in_order; order = stopping }
+source_machine p = stops_at p in_order
 
 -- statements in source order, up to the first ending
 unfoldable pub mean : Code → List ℤ → ℕ → List Seen → Meant
@@ -167,6 +184,7 @@ seq p ints fuel = mean p ints fuel []
 
 -- ---- bytes
 
+-- the bytes of pieces
 abbrev pub pieces_bytes : List Piece → List ℕ
 pieces_bytes [] = []
 pieces_bytes (x ∷ xs) = x.bytes ++ pieces_bytes xs

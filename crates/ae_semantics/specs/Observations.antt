@@ -1,14 +1,11 @@
 -- What is observed of blocks and cells, what a block asks, and what a run leaves beside its state.
 use Rattle.std.specs.Prelude.{ℕ, List, Option}
 use Rattle.ae_text.specs.declared.refusal.Spot.{Spot}
+use Rattle.ae_semantics.specs.declared.report.Ending.{Ending}
+use Rattle.ae_semantics.specs.declared.report.Piece.{Piece}
 use Rattle.ae_rules.specs.Instances.{Instance}
 use Rattle.ae_semantics.specs.Values.{Store}
 use Rattle.ae_semantics.specs.Places.{CellName, Bound}
-
--- what was printed at once, with the path of its `print`
-pub record Piece : Type 0 where
-  pub path : Instance
-  pub bytes : List ℕ
 
 -- what a group's cell holds: its members, or the log where the group is `io`
 pub data Image : Type 0 where
@@ -50,12 +47,6 @@ pub data Origin : Type 0 where
 pub data Query : Type 0 where
   AtBlock : Ask → Query
   AtEnd : CellName → Image → Query
-
--- how a run ends
-pub data Ending : Type 0 where
-  Done : Ending
-  Trap : ℕ → Spot → Ending
-  Fuel : Spot → Ending
 
 -- what a run tells as it goes
 pub data Mark : Type 0 where

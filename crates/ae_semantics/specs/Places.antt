@@ -15,7 +15,7 @@ use Rattle.ae_rules.specs.Verdict.{given}
 use Rattle.ae_rules.specs.Lookups.{class_of, field_number, field_of_kind}
 use Rattle.ae_rules.specs.Walks.{owner}
 use Rattle.ae_semantics.specs.Values.{Val, Owned, Member, Tree, Object, Array, Values, Store, is_low, is_of_kind}
-use Rattle.ae_semantics.specs.Values.{fits, value_at, put_at}
+use Rattle.ae_semantics.specs.Values.{value_fits, value_at, put_at}
 
 -- ---- outcomes
 
@@ -66,9 +66,11 @@ pub record State : Type 0 where
   pub groups : ℕ → Option Group
   pub result : Option Val
 
+-- another thing under this name
 abbrev pub with : {A : Type 0} → ℕ → A → (ℕ → A) → ℕ → A
 with x new old y = if nat_eq x y then new else old y
 
+-- another thing in a local
 abbrev pub with_bound : ℕ → Option Bound → State → State
 with_bound x b s = record s { locals = with x b s.locals }
 
@@ -94,6 +96,7 @@ abbrev pub members : Option Group → Option Store
 members (Some (Here st)) = Some st
 members _ = None
 
+-- the members of a group, which has to be here
 abbrev pub store_of : State → ℕ → Outcome Store
 store_of s g = there (members (group_of s g))
 
@@ -116,57 +119,63 @@ pub record PlaceFound : Type 0 where
   pub value : Val
 
 -- an object with the place where its tree stands
-pub record ObjectOpened : Type 0 where
+pub record OpenedObject : Type 0 where
   pub at : Address
   pub kind : Kind
   pub tree : Tree
 
-abbrev pub opened_if : Bool → ObjectOpened → Outcome ObjectOpened
+-- the object, where the test holds, or else trap 3
+abbrev pub opened_if : Bool → OpenedObject → Outcome OpenedObject
 opened_if true o = Fine o
 opened_if false o = Traps 3
 
-abbrev pub opened_member : Code → Kind → ℕ → ℕ → Store → Outcome ObjectOpened
+-- the member of a group with this number, as an object of this kind
+abbrev pub opened_member : Code → Kind → ℕ → ℕ → Store → Outcome OpenedObject
 opened_member p k g n st = reached (slice_get st n) >>= λ t.
     opened_if (is_of_kind p k t) (record { at = record { base = InGroup g n; fields = [] }; kind = k; tree = t })
 
 -- The object at a place: null is trap 3, and so are a reference without a member and a tree of another kind.
-abbrev pub open_value : Code → State → Perm → Kind → Address → Val → Outcome ObjectOpened
+abbrev pub open_value : Code → State → Perm → Kind → Address → Val → Outcome OpenedObject
 open_value p s (perm.Shared g) k at (Member n) = store_of s g >>= opened_member p k g n
 open_value p s (perm.Shared g) k at _ = Traps 3
 open_value p s q k at (Owned t) = opened_if (is_of_kind p k t) (record { at = at; kind = k; tree = t })
 open_value p s q k at _ = Traps 3
 
-abbrev pub open_form : Code → State → Address → Form → Val → Outcome ObjectOpened
+-- the object of a value of this form
+abbrev pub open_form : Code → State → Address → Form → Val → Outcome OpenedObject
 open_form p s at f.Int v = Lacks
 open_form p s at f.Bool v = Lacks
 open_form p s at (f.Object q k) v = open_value p s q k at v
 
-abbrev pub open_place : Code → State → PlaceFound → Outcome ObjectOpened
+-- the object at a place
+abbrev pub open_place : Code → State → PlaceFound → Outcome OpenedObject
 open_place p s x = open_form p s x.at x.form x.value
 
 -- a field by its number and its form in an object
-pub record FieldPart : Type 0 where
+pub record NumberedField : Type 0 where
   pub number : ℕ
   pub form : Form
 
-abbrev pub part_at : Option Form → ℕ → Option FieldPart
-part_at form n = option_map (λ (x : Form). record { number = n; form = x }) form
+-- a form with the number of its field
+abbrev pub numbered_as : Option Form → ℕ → Option NumberedField
+numbered_as form n = option_map (λ (x : Form). record { number = n; form = x }) form
 
 -- the field with this name of an object of this kind
-abbrev pub field_of_object : Code → Kind → ℕ → Option FieldPart
-field_of_object p k x = given (class_of p k) None
-    (λ (c : Class). given (field_number c x) None (part_at (field_of_kind p k x)))
+abbrev pub numbered_field : Code → Kind → ℕ → Option NumberedField
+numbered_field p k x = given (class_of p k) None
+    (λ (c : Class). given (field_number c x) None (numbered_as (field_of_kind p k x)))
 
 -- the fields of an object
 abbrev pub object_values : Tree → Option Values
 object_values (Object c xs) = Some xs
 object_values (Array ns) = None
 
+-- the value of the field with this number
 abbrev pub field_value : Tree → ℕ → Option Val
 field_value t i = given (object_values t) None (λ xs. value_at xs i)
 
 -- the place of a field of an object
-abbrev pub field_place : ObjectOpened → FieldPart → Val → PlaceFound
+abbrev pub field_place : OpenedObject → NumberedField → Val → PlaceFound
 field_place o x v = record {
   at = record { base = o.at.base; fields = o.at.fields ++ (x.number ∷ []) };
   form =
@@ -176,21 +185,24 @@ field_place o x v = record {
 
 -- a value that a step meets: one that is not of the field's form counts as null
 abbrev pub met : Code → PlaceFound → Outcome PlaceFound
-met p x = if fits p x.form x.value then Fine x else Traps 3
+met p x = if value_fits p x.form x.value then Fine x else Traps 3
 
 -- the field with this name of an object, which is met
-abbrev pub into_field : Code → ObjectOpened → ℕ → Outcome PlaceFound
-into_field p o x = there (field_of_object p o.kind x) >>= λ d.
+abbrev pub into_field : Code → OpenedObject → ℕ → Outcome PlaceFound
+into_field p o x = there (numbered_field p o.kind x) >>= λ d.
     there (field_value o.tree d.number) >>= λ v.
     met p (field_place o d v)
 
+-- one step of a path, into the field with this name
 abbrev pub step_to : Code → State → NameAt → PlaceFound → Outcome PlaceFound
 step_to p s x from = open_place p s from >>= λ o. into_field p o x.name
 
+-- the steps of a path, one after another
 abbrev pub steps : Code → State → List NameAt → PlaceFound → Outcome PlaceFound
 steps p s [] from = Fine from
 steps p s (x ∷ xs) from = step_to p s x from >>= steps p s xs
 
+-- the place of a local
 abbrev pub local_place : ℕ → Bound → PlaceFound
 local_place x b = record { at = record { base = InLocal x; fields = [] }; form = b.form; value = b.value }
 
@@ -199,7 +211,7 @@ abbrev pub walk_to : Code → State → Path → Outcome PlaceFound
 walk_to p s path = there (s.locals path.root.name) >>= λ b. steps p s path.steps (local_place path.root.name b)
 
 -- the object to which a path leads
-abbrev pub reach : Code → State → Path → Outcome ObjectOpened
+abbrev pub reach : Code → State → Path → Outcome OpenedObject
 reach p s path = walk_to p s path >>= open_place p s
 
 -- ---- writes
@@ -212,10 +224,12 @@ low v = if is_low v then Fine v else Traps 8
 abbrev pub bind : ℕ → Form → Val → State → Outcome State
 bind x form v s = low v >>= λ w. Fine (with_bound x (Some (record { form = form; value = w })) s)
 
+-- a group with this object in place of a member
 abbrev pub with_member : State → ℕ → ℕ → Store → Val → Outcome State
 with_member s g n st (Owned t) = Fine (with_store g (Some (Here (prelude.set st n t))) s)
 with_member s g n st _ = Lacks
 
+-- a member of a group with another value in it
 abbrev pub rewrite_member : State → ℕ → ℕ → List ℕ → Val → Store → Outcome State
 rewrite_member s g n fields new st = there (slice_get st n) >>= λ t.
     low (put_at fields new (Owned t)) >>= with_member s g n st
@@ -225,32 +239,35 @@ abbrev pub write_in : State → Base → List ℕ → Val → Outcome State
 write_in s (InLocal x) fields new = there (s.locals x) >>= λ b. bind x b.form (put_at fields new b.value) s
 write_in s (InGroup g n) fields new = store_of s g >>= rewrite_member s g n fields new
 
+-- another value at an address
 abbrev pub write : State → Address → Val → Outcome State
 write s at new = write_in s at.base at.fields new
 
 -- a field of an object gets a value; the old one is not met
-abbrev pub write_field : State → ObjectOpened → ℕ → Val → Outcome State
+abbrev pub write_field : State → OpenedObject → ℕ → Val → Outcome State
 write_field s o i new = write s (record { base = o.at.base; fields = o.at.fields ++ (i ∷ []) }) new
 
 -- an object's tree is another
-abbrev pub write_tree : State → ObjectOpened → Tree → Outcome State
+abbrev pub write_tree : State → OpenedObject → Tree → Outcome State
 write_tree s o t = write s o.at (Owned t)
 
 -- ---- paths whose last step is written
 
+-- the last of a list, where there is one
 abbrev pub last_item : {A : Type 0} → List A → Option A
 last_item [] = None
 last_item (x ∷ []) = Some x
 last_item (x ∷ y ∷ xs) = last_item (y ∷ xs)
 
 -- an object and one of its fields
-pub record FieldSlot : Type 0 where
-  pub object : ObjectOpened
-  pub part : FieldPart
+pub record ObjectField : Type 0 where
+  pub object : OpenedObject
+  pub part : NumberedField
 
-abbrev pub slot_in : Code → ObjectOpened → NameAt → Outcome FieldSlot
-slot_in p o x = there (field_of_object p o.kind x.name) >>= λ d. Fine (record { object = o; part = d })
+-- the field with this name of an object, to be written
+abbrev pub slot_in : Code → OpenedObject → NameAt → Outcome ObjectField
+slot_in p o x = there (numbered_field p o.kind x.name) >>= λ d. Fine (record { object = o; part = d })
 
 -- the object that has a path's last field, and that field
-abbrev pub slot : Code → State → Path → Outcome FieldSlot
+abbrev pub slot : Code → State → Path → Outcome ObjectField
 slot p s path = there (last_item path.steps) >>= λ x. reach p s (owner path) >>= λ o. slot_in p o x

@@ -2,14 +2,17 @@
 use Rattle.std.specs.Prelude.{◌≡◌, ◌≢◌, ◌<◌, ◌⊎◌, ◌↔◌, ℕ, suc, ◌-◌, nat_eq, ℤ, Bool, true, false, ◌&&◌, not}
 use Rattle.std.specs.Prelude.{if◌then◌else◌, List, [], ◌∷◌, ◌++◌, map, take, drop, length, slice_get, Option, None}
 use Rattle.std.specs.Prelude.{Some, Contains}
-use Rattle.ae_text.specs.declared.refusal.Spot.{Spot}
 use Rattle.ae_tree.specs.Plain.{Code}
 use Rattle.ae_rules.specs.Verdict.{given}
 use Rattle.ae_rules.specs.Instances.{Instance, Ordered, Conflict}
 use Rattle.ae_rules.specs.Paths.{comes_before, is_prefix_of, later_of, is_simple_at}
 use Rattle.ae_semantics.specs.Places.{CellName}
-use Rattle.ae_semantics.specs.Observations.{Piece, Image, OfLog, Ask, Answer, Seen, OfBlock, OfCell, Origin}
-use Rattle.ae_semantics.specs.Observations.{FromBlock, FromCell, Query, AtBlock, AtEnd, Ending, Done, Trap, Fuel}
+use Rattle.ae_semantics.specs.declared.report.TraceLine.{TraceLine}
+use Rattle.ae_semantics.specs.declared.report.Ending.{Ending}
+use Rattle.ae_semantics.specs.declared.report.Ending.TheVariants.{Done, Trap, Fuel}
+use Rattle.ae_semantics.specs.declared.report.Piece.{Piece}
+use Rattle.ae_semantics.specs.Observations.{Image, OfLog, Ask, Answer, Seen, OfBlock, OfCell, Origin, FromBlock}
+use Rattle.ae_semantics.specs.Observations.{FromCell, Query, AtBlock, AtEnd}
 use Rattle.ae_semantics.specs.Means.{At, Turn, First, Asking, Meant, mean, bytes}
 use Rattle.ae_semantics.specs.Atom.{atom, part}
 
@@ -24,26 +27,20 @@ pub record Event : Type 0 where
   pub stamp : ℕ
 
 -- the cell of a split block that was entered, with what it held at first and at last
-pub record Cell : Type 0 where
+pub record CellReport : Type 0 where
   pub name : CellName
   pub first : Image
   pub last : Image
 
--- an instance that ran, or a loop from a turn on, and when
-pub record LineRun : Type 0 where
-  pub path : Instance
-  pub at : Spot
-  pub began : ℕ
-  pub ended : ℕ
-
+-- what is told of a run: its ending and its bytes, its events and how many of them are past, their order, the cells, and the trace
 pub record Report : Type 0 where
   pub ending : Ending
   pub out : List ℕ
   pub events : List Event
   pub past : ℕ
   pub order : List ℕ
-  pub cells : List Cell
-  pub trace : List LineRun
+  pub cells : List CellReport
+  pub trace : List TraceLine
 
 -- ---- lists
 
@@ -70,6 +67,7 @@ abbrev pub origin_path : Origin → Instance
 origin_path (FromBlock q) = q
 origin_path (FromCell c) = c.path
 
+-- the observation is that of a cell
 abbrev pub is_of_cell : Origin → Bool
 is_of_cell (FromBlock q) = false
 is_of_cell (FromCell c) = true
@@ -80,47 +78,58 @@ origin_before a b = if is_prefix_of (origin_path a) (origin_path b) then not (is
     else (if is_prefix_of (origin_path b) (origin_path a) then is_of_cell b else comes_before (origin_path a)
     (origin_path b))
 
+-- an observation put in its place among sorted ones
 abbrev pub inserted : Item → List Item → List Item
 inserted x [] = x ∷ []
 inserted x (y ∷ ys) = if origin_before y.from x.from then y ∷ inserted x ys else x ∷ y ∷ ys
 
+-- observations in source order
 abbrev pub sorted : List Item → List Item
 sorted [] = []
 sorted (x ∷ xs) = inserted x (sorted xs)
 
+-- the answer of an event
 abbrev pub event_item : Event → Item
 event_item e = record { from = FromBlock e.path; seen = OfBlock e.out }
 
-abbrev pub cell_item : Cell → Item
+-- what a cell holds at last
+abbrev pub cell_item : CellReport → Item
 cell_item c = record { from = FromCell c.name; seen = OfCell c.last }
 
 -- the answers of the events and what the cells hold at last, in source order; the cells of one block in written order
 abbrev pub items : Report → List Item
 items r = sorted (map event_item r.events ++ map cell_item r.cells)
 
+-- the observations of a report, in source order
 abbrev pub observations : Report → List Seen
 observations r = map (λ (x : Item). x.seen) (items r)
 
 -- ---- observations by what is asked
 
+-- the paths are the same
 abbrev pub same_instance : Instance → Instance → Bool
 same_instance q r = is_prefix_of q r && is_prefix_of r q
 
+-- the answer of the event at this path
 abbrev pub answer_in : List Event → Instance → Option Seen
 answer_in [] q = None
 answer_in (e ∷ es) q = if same_instance e.path q then Some (OfBlock e.out) else answer_in es q
 
-abbrev pub is_cell : CellName → Cell → Bool
+-- the cell has this name
+abbrev pub is_cell : CellName → CellReport → Bool
 is_cell c x = same_instance x.name.path c.path && nat_eq x.name.group c.group
 
-abbrev pub last_in : List Cell → CellName → Option Seen
+-- what the cell of this name holds at last
+abbrev pub last_in : List CellReport → CellName → Option Seen
 last_in [] c = None
 last_in (x ∷ xs) c = if is_cell c x then Some (OfCell x.last) else last_in xs c
 
+-- a report as observations by what is asked
 abbrev pub by_report : Report → Query → Option Seen
 by_report r (AtBlock ask) = answer_in r.events ask.path
 by_report r (AtEnd c first) = last_in r.cells c
 
+-- what is observed, or else what there was at first
 abbrev pub or_first : Option Seen → Image → Option Seen
 or_first None first = Some (OfCell first)
 or_first (Some x) first = Some x
@@ -134,14 +143,17 @@ by_report_or_first r (AtEnd c first) = or_first (last_in r.cells c) first
 abbrev pub mean_of : Code → List ℤ → ℕ → Report → Meant
 mean_of p ints fuel r = mean p ints fuel (observations r)
 
+-- the meaning past what stopped, with the observations of the report
 abbrev pub part_of_report : Code → List ℤ → ℕ → Report → Meant
 part_of_report p ints fuel r = part p ints fuel (by_report r)
 
 -- ---- legal order
 
+-- the stamps of events
 abbrev pub stamps : List Event → List ℕ
 stamps es = map (λ (e : Event). e.stamp) es
 
+-- no number stands twice
 abbrev pub AllDiffer : List ℕ → Type 0
 AllDiffer xs = AllPairs (λ m n. m ≢ n) xs
 
@@ -172,12 +184,18 @@ abbrev pub picked : List Event → List ℕ → List Event
 picked es [] = []
 picked es (i ∷ is) = given (slice_get es i) (picked es is) (λ e. e ∷ picked es is)
 
+-- the order of the events, by their paths: places in a list of events tell it of one report alone
+abbrev pub order_paths : Report → List Instance
+order_paths r = map (λ (e : Event). e.path) (picked r.events r.order)
+
+-- The order holds each event once, by rising stamps that differ. The events of each cell lead from what it held at first to what it
+-- holds at last, and events that keep their order have rising stamps.
 pub record Legal (p : Code) (r : Report) : Type 0 where
   pub differ : AllDiffer (stamps r.events)
   pub places : (i : ℕ) → i < length r.events ↔ Contains r.order i
   pub once : AllDiffer r.order
   pub rises : Rises r.events r.order
-  pub leads : (i : ℕ) (c : Cell) → slice_get r.cells i ≡ Some c
+  pub leads : (i : ℕ) (c : CellReport) → slice_get r.cells i ≡ Some c
       → Leads p (of_cell i (picked r.events r.order)) c.first c.last
   pub ordered : (d e : Event) → Contains r.events d → Contains r.events e → Ordered p d.path e.path → d.stamp < e.stamp
 
@@ -201,9 +219,11 @@ began m = map (λ (x : At). x.path) m.ran ++ map turn_path m.turns
 abbrev pub ended_at : Meant → Instance
 ended_at m = later_of (last_path (map (λ (x : At). x.path) m.ran)) (last_path (map turn_path m.turns))
 
+-- the events that are not past
 abbrev pub used_events : Report → List Event
 used_events r = take (length r.events - r.past) r.events
 
+-- the events past the ending
 abbrev pub past_events : Report → List Event
 past_events r = drop (length r.events - r.past) r.events
 
@@ -211,16 +231,19 @@ past_events r = drop (length r.events - r.past) r.events
 abbrev pub asking_of : Report → Event → Option Asking
 asking_of r e = given (slice_get r.cells e.cell) None (λ c. Some (record { cell = c.name; ask = e.ask }))
 
+-- what each of these events asks
 abbrev pub event_askings : Report → List Event → List (Option Asking)
 event_askings r es = map (asking_of r) es
 
-abbrev pub first_of : Cell → First
+-- a cell with what it held at first
+abbrev pub first_of : CellReport → First
 first_of c = record { cell = c.name; image = c.first }
 
 -- a past event lies in the split block of a cell, or is ordered after it
 abbrev pub Concerns : Code → CellName → Event → Type 0
 Concerns p c e = (is_prefix_of c.path e.path ≡ true) ⊎ Ordered p c.path e.path
 
+-- a past event concerns the cell
 abbrev pub ConcernsSome : Code → Report → CellName → Type 0
 ConcernsSome p r c = (e : Event) × Contains (past_events r) e × Concerns p c e
 
@@ -233,9 +256,11 @@ abbrev pub appended : Image → Image → List Piece
 appended (OfLog old) (OfLog new) = drop (length old) new
 appended _ _ = []
 
+-- the event is not past
 abbrev pub is_used : Report → Event → Bool
 is_used r e = given (answer_in (used_events r) e.path) false (λ x. true)
 
+-- the pieces, where the test holds
 abbrev pub pieces_if : Bool → List Piece → List Piece
 pieces_if true pieces = pieces
 pieces_if false pieces = []
@@ -244,10 +269,11 @@ pieces_if false pieces = []
 abbrev pub used_pieces : Code → Report → List Event → Image → List Piece
 used_pieces p r [] image = []
 used_pieces p r (e ∷ es) image =
-    let next : Image = (atom p e.ask image []).image in
-    pieces_if (is_used r e) (appended image next) ++ used_pieces p r es next
+    let next : Image = (atom p e.ask image []).image in pieces_if (is_used r e) (appended image next)
+    ++ used_pieces p r es next
 
-abbrev pub pieces_from : Code → Report → CellName → ℕ → List Cell → List Piece
+-- the pieces that used events appended to the cell of this name
+abbrev pub pieces_from : Code → Report → CellName → ℕ → List CellReport → List Piece
 pieces_from p r c i [] = []
 pieces_from p r c i (x ∷ xs) = if is_cell c x
     then used_pieces p r (of_cell i (picked r.events r.order)) x.first
@@ -299,12 +325,12 @@ abbrev pub InTurnsFrom : Turn → Instance → Type 0
 InTurnsFrom x q = (u : ℕ) × (rest : Instance) × (q ≡ x.path ++ (u ∷ rest)) × (x.turn < suc u)
 
 -- a line covers what lies at its path or below it, and a loop from a turn on also what lies in later turns
-abbrev pub Covers : Meant → LineRun → Instance → Type 0
+abbrev pub Covers : Meant → TraceLine → Instance → Type 0
 Covers m l q = (is_prefix_of l.path q ≡ true)
     ⊎ ((x : Turn) × Contains m.turns x × (l.path ≡ turn_path x) × InTurnsFrom x q)
 
 -- the run ran the line's instance, or evaluated the condition of its turn
-abbrev pub IsLineOf : Meant → LineRun → Type 0
+abbrev pub IsLineOf : Meant → TraceLine → Type 0
 IsLineOf m l = Contains m.ran (record { path = l.path; spot = l.at })
     ⊎ ((x : Turn) × Contains m.turns x × (l.path ≡ turn_path x)
     × Contains m.ran (record { path = x.path; spot = l.at }))
@@ -315,23 +341,26 @@ IsLater m Done q = ⊥
 IsLater m (Trap code at) q = comes_before (ended_at m) q ≡ true
 IsLater m (Fuel at) q = comes_before (ended_at m) q ≡ true
 
-abbrev pub line_stamps : List LineRun → List ℕ
+-- the stamps of lines, began and ended
+abbrev pub line_stamps : List TraceLine → List ℕ
 line_stamps [] = []
 line_stamps (l ∷ ls) = l.began ∷ l.ended ∷ line_stamps ls
 
 -- the paths keep their order in time
-abbrev pub KeepInTime : Code → LineRun → LineRun → Type 0
+abbrev pub KeepInTime : Code → TraceLine → TraceLine → Type 0
 KeepInTime p l m = (Ordered p l.path m.path ⊎ Conflict p l.path m.path) → l.ended < m.began
 
+-- The lines are those of instances that ran, in source order, each covered once and each simple one covered. Their stamps differ from
+-- each other and from those of the events, and lines that keep their order do not overlap.
 pub record Traced (p : Code) (ints : List ℤ) (fuel : ℕ) (r : Report) : Type 0 where
   pub differ : AllDiffer (line_stamps r.trace ++ stamps r.events)
-  pub spans : (l : LineRun) → Contains r.trace l → l.began < l.ended
-  pub once : AllPairs (λ (l m : LineRun). (q : Instance) → Covers (traced_part p ints fuel r) l q
+  pub spans : (l : TraceLine) → Contains r.trace l → l.began < l.ended
+  pub once : AllPairs (λ (l m : TraceLine). (q : Instance) → Covers (traced_part p ints fuel r) l q
       → Covers (traced_part p ints fuel r) m q → ⊥) r.trace
   pub keeps : AllPairs (KeepInTime p) r.trace
   pub all_run : (x : At) → Contains (mean_of p ints fuel r).ran x → is_simple_at p x.path ≡ true
-      → (l : LineRun) × Contains r.trace l × Covers (traced_part p ints fuel r) l x.path
-  pub run_only : (l : LineRun) → Contains r.trace l → IsLineOf (traced_part p ints fuel r) l
-  pub meant : (l : LineRun) → Contains r.trace l → IsLater (mean_of p ints fuel r) r.ending l.path
+      → (l : TraceLine) × Contains r.trace l × Covers (traced_part p ints fuel r) l x.path
+  pub run_only : (l : TraceLine) → Contains r.trace l → IsLineOf (traced_part p ints fuel r) l
+  pub meant : (l : TraceLine) → Contains r.trace l → IsLater (mean_of p ints fuel r) r.ending l.path
       ⊎ IsLineOf (mean_of p ints fuel r) l
-  pub sorted : AllPairs (λ (l m : LineRun). comes_before l.path m.path ≡ true) r.trace
+  pub rising : AllPairs (λ (l m : TraceLine). comes_before l.path m.path ≡ true) r.trace

@@ -7,13 +7,16 @@ use Rattle.ae_tree.specs.declared.tree.NameAt.{NameAt}
 use Rattle.ae_rules.specs.declared.uses.Resource.TheVariants as resource
 use Rattle.ae_tree.specs.Plain.{Expression, Lines, Definition, Code}
 use Rattle.ae_rules.specs.Context.{Context}
-use Rattle.ae_rules.specs.Statements.{while_locked}
+use Rattle.ae_rules.specs.Statements.{while_split, while_locked}
 use Rattle.ae_rules.specs.EdgeLists.{is_edge}
-use Rattle.ae_rules.specs.Blocks.{Scene, scene_uses}
+use Rattle.ae_rules.specs.Blocks.{Scene, block_at, scene_uses}
 use Rattle.ae_rules.specs.Instances.{Instance}
 use Rattle.ae_semantics.specs.Places.{Outcome, Fine, Traps, Lacks, State}
-use Rattle.ae_semantics.specs.Contexts.{in_split, shuts_out}
-use Rattle.ae_semantics.specs.Observations.{Piece, Ending, Trap, Fuel, Mark, Stopped, Notes, Observer}
+use Rattle.ae_semantics.specs.Contexts.{shuts_out}
+use Rattle.ae_semantics.specs.declared.report.Ending.{Ending}
+use Rattle.ae_semantics.specs.declared.report.Ending.TheVariants.{Trap, Fuel}
+use Rattle.ae_semantics.specs.declared.report.Piece.{Piece}
+use Rattle.ae_semantics.specs.Observations.{Mark, Stopped, Notes, Observer}
 
 -- ---- runs
 
@@ -44,13 +47,16 @@ abbrev pub paid : {A W : Type 0} → Option A → Spot → Notes W → (A → Ru
 paid None at n go = Ends (Fuel at) n
 paid (Some run) at n go = go run
 
+-- the one or the other, by a test
 abbrev pub chosen : {W : Type 0} → Bool → (⊤ → Run W) → (⊤ → Run W) → Run W
 chosen true yes_then no_then = yes_then tt
 chosen false yes_then no_then = no_then tt
 
+-- the notes with one mark more
 abbrev pub marked : {W : Type 0} → Mark → Notes W → Notes W
 marked m n = record n { marks = n.marks ++ (m ∷ []) }
 
+-- the notes with these pieces in the log
 abbrev pub logged : {W : Type 0} → List Piece → Notes W → Notes W
 logged pieces n = record n { log = n.log ++ pieces }
 
@@ -75,7 +81,7 @@ knowing c here = record here { context = c }
 
 -- where a split block begins
 abbrev pub splitting : List NameAt → Where → Where
-splitting gs here = knowing (in_split gs here.context) here
+splitting gs here = knowing (while_split gs here.context) here
 
 -- where an atomic block begins
 abbrev pub locking : NameAt → Where → Where
@@ -83,7 +89,7 @@ locking g here = knowing (while_locked g.name here.context) here
 
 -- a whole block that begins here
 abbrev pub whole_block : Lines → Where → Scene
-whole_block b here = record { method = here.method; lines = b; start = here.context }
+whole_block b here = block_at here.method b here.context
 
 -- ---- the ways through a block
 
@@ -117,11 +123,13 @@ gone_on (Stops n) path j barred kept next = next (j ∷ barred) kept (marked (St
 abbrev pub is_left_out : Code → Scene → ℕ → List ℕ → Bool
 is_left_out p all j barred = list_any (λ i. is_edge (length p.names) (scene_uses p all) i j) barred
 
+-- a statement past what stopped: it is left out, or done and barred where it does not go through
 abbrev pub flow_step : {W : Type 0} → Code → Where → Scene → ℕ → List ℕ → Act W → (List ℕ → Act W) → Act W
 flow_step p here all j barred act next s n = chosen (is_left_out p all j barred)
     (λ _. next (j ∷ barred) (absent p all j s) n)
     (λ _. gone_on (act s n) (here.path ++ (j ∷ [])) j barred (absent p all j s) next)
 
+-- a block with a barred statement stops
 abbrev pub flow_close : {W : Type 0} → List ℕ → Act W
 flow_close [] s n = Went s n
 flow_close (j ∷ barred) s n = Stops n

@@ -58,11 +58,13 @@ abbrev mutual
 abbrev pub is_low : Val → Bool
 is_low v = nat_lt (height v) 1001
 
+-- no member is too high
 abbrev pub all_low : Store → Bool
 all_low st = list_all (λ t. is_low (Owned t)) st
 
 -- ---- which value fits which form
 
+-- how many values there are
 abbrev pub value_count : Values → ℕ
 value_count NoValue = 0
 value_count (AndValue v xs) = value_count xs + 1
@@ -85,15 +87,16 @@ fits_object p q k (Owned t) = is_of_kind p k t
 fits_object p q k _ = false
 
 -- the value fits a place of this form
-abbrev pub fits : Code → Form → Val → Bool
-fits p f.Int (OfInt n) = true
-fits p f.Int _ = false
-fits p f.Bool (OfBool b) = true
-fits p f.Bool _ = false
-fits p (f.Object q k) v = fits_object p q k v
+abbrev pub value_fits : Code → Form → Val → Bool
+value_fits p f.Int (OfInt n) = true
+value_fits p f.Int _ = false
+value_fits p f.Bool (OfBool b) = true
+value_fits p f.Bool _ = false
+value_fits p (f.Object q k) v = fits_object p q k v
 
 -- ---- fields by number
 
+-- the value with this number
 abbrev pub value_at : Values → ℕ → Option Val
 value_at NoValue i = None
 value_at (AndValue v xs) zero = Some v
@@ -105,6 +108,7 @@ with_changed NoValue i new = NoValue
 with_changed (AndValue v xs) zero new = AndValue (new v) xs
 with_changed (AndValue v xs) (suc i) new = AndValue v (with_changed xs i new)
 
+-- a list as values
 abbrev pub values : List Val → Values
 values [] = NoValue
 values (v ∷ vs) = AndValue v (values vs)

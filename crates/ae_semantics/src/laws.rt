@@ -1,17 +1,17 @@
 // Laws over the meaning alone.
-ghost use Rattle.ae_semantics.specs.Gathering.{GoesByItsAnswers};
-ghost use Rattle.ae_semantics.specs.Laws.{ContextsAreJudged, FreshStandsFor, OneEnding, MoreChangesNothing};
+ghost use Rattle.ae_semantics.specs.Gathering.{GoesByItsAnswers, MoreGoesFurther, StatementGoesByItsAnswers};
+ghost use Rattle.ae_semantics.specs.Gathering.{StatementGoesFurther};
+ghost use Rattle.ae_semantics.specs.Laws.{AtomAsksNothing, CellsAreFixed, ContextsAreJudged, FittingIsLow};
+ghost use Rattle.ae_semantics.specs.Laws.{FreshStandsFor, MoreChangesNothing};
 ghost use Rattle.ae_semantics.specs.Laws.{NothingBegunIsAfter};
-ghost use Rattle.ae_semantics.specs.Unfolding.{WatchingChangesNothing};
+ghost use Rattle.ae_semantics.specs.PastStops.{RunsGoPast, StatementsGoPast};
+ghost use Rattle.ae_semantics.specs.Stamps.{FreshIsStamped};
+ghost use Rattle.ae_semantics.specs.Standing.{AsksAreLocated};
+ghost use Rattle.ae_semantics.specs.Trails.{WatchingChangesNothing};
 
 /// After a statement that is judged the meaning goes on in the context that the judgement comes to.
 pub fn contexts_are_judged()
     ensures { ContextsAreJudged }
-{}
-
-/// A program has one ending at most, whatever is observed.
-pub fn program_has_one_ending()
-    ensures { OneEnding }
 {}
 
 /// A meaning that has an ending is the same with more observations after those that it has.
@@ -19,9 +19,24 @@ pub fn more_observations_change_nothing()
     ensures { MoreChangesNothing }
 {}
 
-/// A run whose observations are found by what is asked is the meaning with the list of the answers that it got, in order.
+/// With more observations a run tells all that it told before, and where it did not stop it is the same.
+pub fn run_goes_further_with_more()
+    ensures { MoreGoesFurther }
+{}
+
+/// With more observations a statement tells all that it told before, and where it did not stop it does the same.
+pub fn statement_goes_further_with_more()
+    ensures { StatementGoesFurther }
+{}
+
+/// A run whose observations are found by what is asked is the run with the list of the answers that it got, in order.
 pub fn run_goes_by_its_answers()
     ensures { GoesByItsAnswers }
+{}
+
+/// So is what a single statement does.
+pub fn statement_goes_by_its_answers()
+    ensures { StatementGoesByItsAnswers }
 {}
 
 /// The run that notes what each statement finds and leaves comes to what the meaning past what stopped comes to.
@@ -37,4 +52,39 @@ pub fn nothing_begun_is_after_the_ending()
 /// In every program with a `main` the tree before anything ran is there, and stands for the meaning past what stopped.
 pub fn fresh_stands_for()
     ensures { FreshStandsFor }
+{}
+
+/// What an atomic block does asks nothing, and goes by what it was asked with and its group's image alone.
+pub fn atom_asks_nothing()
+    ensures { AtomAsksNothing }
+{}
+
+/// A run past what stopped is the run up to the first ending where that goes through, and stops first where that ends or stops.
+pub fn runs_go_past_what_stopped()
+    ensures { RunsGoPast }
+{}
+
+/// So does what a single statement does.
+pub fn statements_go_past_what_stopped()
+    ensures { StatementsGoPast }
+{}
+
+/// What an atomic statement of the text asks is located again, with its group and with its statements in the context in which they begin.
+pub fn asks_are_located()
+    ensures { AsksAreLocated }
+{}
+
+/// The tree before anything ran is stamped: nothing in it has a stamp yet.
+pub fn fresh_is_stamped()
+    ensures { FreshIsStamped }
+{}
+
+/// The cells that an explained report has, and their order, are fixed by what else it tells.
+pub fn reported_cells_are_fixed()
+    ensures { CellsAreFixed }
+{}
+
+/// No local that comes out of an answer that fits is too high.
+pub fn fitting_answers_are_low()
+    ensures { FittingIsLow }
 {}

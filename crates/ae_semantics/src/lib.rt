@@ -2,9 +2,13 @@
 #![tactic(auto)]
 
 mod laws;
+mod report;
 
 pub use laws::{
-    contexts_are_judged, fresh_stands_for, more_observations_change_nothing,
-    nothing_begun_is_after_the_ending, program_has_one_ending, run_goes_by_its_answers,
-    watching_changes_nothing,
+    asks_are_located, atom_asks_nothing, contexts_are_judged, fitting_answers_are_low,
+    fresh_is_stamped, fresh_stands_for, more_observations_change_nothing,
+    nothing_begun_is_after_the_ending, reported_cells_are_fixed, run_goes_by_its_answers,
+    run_goes_further_with_more, runs_go_past_what_stopped, statement_goes_by_its_answers,
+    statement_goes_further_with_more, statements_go_past_what_stopped, watching_changes_nothing,
 };
+pub use report::{Ending, Piece, TraceLine};

@@ -232,8 +232,8 @@ body_end n levels ts rest qs m c b = took_as (statements n) (chain stmt behind n
 pub record Starts (n : ℕ) (t : Lexeme) : Type 0 where
   pub tree : Spot × Action
   pub after : Tokens
-  pub is : stmt n tree (t ∷ state_after)
-  pub known : AreSpellable state_after
+  pub is : stmt n tree (t ∷ after)
+  pub known : AreSpellable after
 
 at_word : (n : ℕ) (t : Lexeme) (k : Lexical) → t.kind ≡ k → Starts n (record { kind = k; at = t.at }) → Starts n t
 at_word n t k e s = let P : Lexeme → Type 0 = Starts n in subst P (ap (λ j. record { kind = j; at = t.at }) (sym e)) s
@@ -499,12 +499,7 @@ braced_long n b us d h = omega (
 one_block : {p q : Tokens → Type 0} (n : ℕ) (b : Lines) (us : Tokens)
     (d : (p ⨾ q ⨾ productions.numbered_block n b) us) → opened_in b ≤ length d.second.second.second.front
     → 1 + opened_in b ≤ length us
-one_block n b us d h = omega (
-  arith,
-  braced_long n b d.second.back d.second.second h,
-  back_long d.back d.second,
-  back_long us d,
-)
+one_block n b us d h = omega (arith, braced_long n b d.second.back d.second.second h, back_long d.back d.second, back_long us d)
 
 two_blocks : {p q r : Tokens → Type 0} (n m : ℕ) (b c : Lines) (us : Tokens)
     (d : (p ⨾ q ⨾ productions.numbered_block n b ⨾ r ⨾ productions.numbered_block m c) us) →
@@ -513,16 +508,7 @@ two_blocks : {p q r : Tokens → Type 0} (n m : ℕ) (b c : Lines) (us : Tokens)
     → 1 + opened_in b + 1 + opened_in c ≤ length us
 two_blocks n m b c us d h k =
     let s = d.second.second in
-    omega (
-      arith,
-      braced_long n b s.front s.first h,
-      braced_long m c s.second.back s.second.second k,
-      back_long s.back s.second,
-      ap length s.parts,
-      length-append s.front s.back,
-      back_long d.back d.second,
-      back_long us d,
-    )
+    omega (arith, braced_long n b s.front s.first h, braced_long m c s.second.back s.second.second k, back_long s.back s.second, ap length s.parts, length-append s.front s.back, back_long d.back d.second, back_long us d)
 
 mutual
   pub opened_fits : (n : ℕ) (at : Spot) (a : Action) (us : Tokens) → statement n at a us → blocks_opened a ≤ length us
@@ -582,14 +568,7 @@ chain_fits n qs us d = opened_in_fits n (lines_of qs) us (listed_is n qs us d)
 pub body_room : (n levels most : ℕ) (ts rest : Tokens) (qs : Items) (m : ℕ) → Body n levels ts qs rest m
     → n + length ts ≤ most → m + length rest ≤ most
 body_room n levels most ts rest qs m b room =
-    omega (
-      arith,
-      room,
-      b.number,
-      chain_fits n qs b.items.taken b.items.derives,
-      ap length b.items.whole,
-      length-append b.items.taken rest,
-    )
+    omega (arith, room, b.number, chain_fits n qs b.items.taken b.items.derives, ap length b.items.whole, length-append b.items.taken rest)
 
 -- ---- what is left
 
@@ -647,6 +626,15 @@ pub simple_number : (n : ℕ) {W : Bound (Spot × Action)} {F : Follow} (ts rest
 simple_number n ts rest q none t =
     let e : blocks_opened q.1 ≡ 0 = opens_none n q.0 q.1 t.taken rest ts t.derives (ap head (sym t.whole)) none in
     omega (arith, e)
+
+-- the last word of a block that is left
+pub is_lock : (ts : Tokens) → IsOpener (head ts) → (Is (tok.Word word.If) (head ts) → ⊥)
+    → (Is (tok.Word word.While) (head ts) → ⊥) → (Is (tok.Word word.Split) (head ts) → ⊥)
+    → Is (tok.Word word.Atomic) (head ts)
+is_lock ts (inl i) a b c = absurd (a i)
+is_lock ts (inr (inl i)) a b c = absurd (b i)
+is_lock ts (inr (inr (inl i))) a b c = absurd (c i)
+is_lock ts (inr (inr (inr i))) a b c = i
 
 -- a statement needs a word or a path in front
 pub no_words : (o : Option Lexeme) → (IsOpener o → ⊥) → (Is (tok.Word word.Let) o → ⊥)

@@ -26,21 +26,21 @@ marks_in-append (t ∷ a) b = let ih : marks_in (a ++ b) ≡ marks_in a + marks_
 in_parts : (us a b : Tokens) → us ≡ a ++ b → marks_in us ≡ marks_in a + marks_in b
 in_parts us a b e = ap marks_in e ∙ marks_in-append a b
 
-pub one_token : (k : Lexical) (at : Spot) (us : Tokens) → one_at k at us → marks_in us ≡ weight k + 0
-one_token k at us d = ap marks_in d
+pub token_marks : (k : Lexical) (at : Spot) (us : Tokens) → one_at k at us → marks_in us ≡ weight k + 0
+token_marks k at us d = ap marks_in d
 
 one_mark : (k : Lexical) (us : Tokens) → one_token k us → marks_in us ≡ weight k + 0
-one_mark k us d = one_token k d.0 us d.1
+one_mark k us d = token_marks k d.0 us d.1
 
 root_marks : (x : NameAt) (us : Tokens) → root x us → marks_in us ≡ 0
-root_marks x us (inl d) = one_token (tok.Name x.name) x.at us d
-root_marks x us (inr d) = one_token (tok.Word word.This) x.at us d.1
+root_marks x us (inl d) = token_marks (tok.Name x.name) x.at us d
+root_marks x us (inr d) = token_marks (tok.Word word.This) x.at us d.1
 
 step_marks : (x : NameAt) (us : Tokens) → path_step x us → marks_in us ≡ 1
 step_marks x us d =
     let a : marks_in us ≡ marks_in d.front + marks_in d.back = in_parts us d.front d.back d.parts in
     let b : marks_in d.front ≡ 1 = one_mark (tok.Sign sign.Dot) d.front d.first in
-    let c : marks_in d.back ≡ 0 = one_token (tok.Name x.name) x.at d.back d.second in
+    let c : marks_in d.back ≡ 0 = token_marks (tok.Name x.name) x.at d.back d.second in
     omega (arith, a, b, c)
 
 steps_marks : (xs : List NameAt) (us : Tokens) → one_by_one path_step xs us → length xs ≡ marks_in us
@@ -74,14 +74,14 @@ operator_counts op.Div = refl
 operator_counts op.Rem = refl
 
 truth_marks : (b : Bool) (at : Spot) (l : ℕ) (us : Tokens) → expression_at (Truth b at) l us → 0 ≡ marks_in us
-truth_marks true at l us d = sym (one_token (tok.Word word.True) at us d)
-truth_marks false at l us d = sym (one_token (tok.Word word.False) at us d)
+truth_marks true at l us d = sym (token_marks (tok.Word word.True) at us d)
+truth_marks false at l us d = sym (token_marks (tok.Word word.False) at us d)
 
 -- the marks of an expression are its tokens that count
 pub expression_marks : (e : Expression) (l : ℕ) (us : Tokens) → expression_at e l us → marks e ≡ marks_in us
-expression_marks (Number n at) l us d = sym (one_token (tok.Int n) at us d)
+expression_marks (Number n at) l us d = sym (token_marks (tok.Int n) at us d)
 expression_marks (Truth b at) l us d = truth_marks b at l us d
-expression_marks (Nothing at) l us d = sym (one_token (tok.Word word.Null) at us d)
+expression_marks (Nothing at) l us d = sym (token_marks (tok.Word word.Null) at us d)
 expression_marks (Read p) l us d = path_marks p us d
 expression_marks (Item p e) l us d =
     let a : marks_in us ≡ marks_in d.front + marks_in d.back = in_parts us d.front d.back d.parts in
@@ -97,12 +97,12 @@ expression_marks (Item p e) l us d =
     omega (arith, a, b, c, f, g, h, i)
 expression_marks (Length p at) l us d =
     let a : marks_in us ≡ marks_in d.front + marks_in d.back = in_parts us d.front d.back d.parts in
-    let b : marks_in d.front ≡ 1 = one_token (tok.Word word.Len) at d.front d.first in
+    let b : marks_in d.front ≡ 1 = token_marks (tok.Word word.Len) at d.front d.first in
     let c : length p.steps ≡ marks_in d.back = path_marks p d.back d.second in
     omega (arith, a, b, c)
 expression_marks (Grouped e at) l us d =
     let a : marks_in us ≡ marks_in d.front + marks_in d.back = in_parts us d.front d.back d.parts in
-    let b : marks_in d.front ≡ 1 = one_token (tok.Sign sign.OpenParen) at d.front d.first in
+    let b : marks_in d.front ≡ 1 = token_marks (tok.Sign sign.OpenParen) at d.front d.first in
     let q = d.second in
     let g : marks_in d.back ≡ marks_in q.front + marks_in q.back = in_parts d.back q.front q.back q.parts in
     let h : marks e ≡ marks_in q.front = expression_marks e 0 q.front q.first in
@@ -110,12 +110,12 @@ expression_marks (Grouped e at) l us d =
     omega (arith, a, b, g, h, i)
 expression_marks (Negated e at) l us d =
     let a : marks_in us ≡ marks_in d.front + marks_in d.back = in_parts us d.front d.back d.parts in
-    let b : marks_in d.front ≡ 1 = one_token (tok.Sign sign.Not) at d.front d.first in
+    let b : marks_in d.front ≡ 1 = token_marks (tok.Sign sign.Not) at d.front d.first in
     let c : marks e ≡ marks_in d.back = expression_marks e 5 d.back d.second in
     omega (arith, a, b, c)
 expression_marks (Minus e at) l us d =
     let a : marks_in us ≡ marks_in d.front + marks_in d.back = in_parts us d.front d.back d.parts in
-    let b : marks_in d.front ≡ 1 = one_token (tok.Sign sign.Minus) at d.front d.first in
+    let b : marks_in d.front ≡ 1 = token_marks (tok.Sign sign.Minus) at d.front d.first in
     let c : marks e ≡ marks_in d.back = expression_marks e 5 d.back d.second in
     omega (arith, a, b, c)
 expression_marks (Binary o e g) l us d =

@@ -274,17 +274,7 @@ value_stopped ts why left at k u = by_meet (meet k.before k.rest u.before u.rest
     by_meet : ((e : Tokens) × (u.before ≡ k.before ++ e) × (k.rest ≡ e ++ u.rest))
         ⊎ ((t : Lexeme) × (e : Tokens) × (k.before ≡ u.before ++ t ∷ e) × (u.rest ≡ t ∷ (e ++ k.rest)))
         → StopsAt ts why left at
-    by_meet (inl q) = inl (
-      omega (
-        arith,
-        u.left_is,
-        k.left_is,
-        ap length q.2,
-        length-append q.0
-            u.rest,
-      ),
-      stopped_later ts why left at k u q.0 q.1 q.2,
-    )
+    by_meet (inl q) = inl (omega (arith, u.left_is, k.left_is, ap length q.2, length-append q.0 u.rest), stopped_later ts why left at k u q.0 q.1 q.2)
     by_meet (inr q) = inr (
       omega (arith, u.left_is, k.left_is, ap length q.3, length-append q.1 k.rest),
       by_undecided q.0 q.1 q.2 q.3 k.undecided,

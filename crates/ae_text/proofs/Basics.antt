@@ -30,10 +30,6 @@ option_holds_one o x y p q = same_Some x y (sym p ∙ q)
 pub none_is_no_some : {A : Type 0} {x : A} → None ≡ Some x → ⊥
 none_is_no_some {x = x} h = none-some x h
 
--- where a thing is known an option is not empty
-pub something_is_there : {A : Type 0} (o : Option A) (x : A) → o ≡ Some x → is_some o ≡ true
-something_is_there o x h = subst (λ o'. is_some o' ≡ true) (sym h) refl
-
 -- nothing is in the empty list
 pub empty_has_nothing : {A : Type 0} (x : A) → Contains [] x → ⊥
 empty_has_nothing x h = absurd (omega (arith, h.1))

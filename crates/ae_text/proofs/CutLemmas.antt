@@ -393,23 +393,8 @@ tokens_few : (bytes x : Text) (at : ℕ) (ps : List TextPiece) → ArePieces ps 
     → length (tokens_from bytes at ps) ≤ length (text_of ps)
 tokens_few bytes x at [] m = omega arith
 tokens_few bytes x at (p ∷ ps) m =
-    omega (
-      arith,
-      length-append (token_at bytes at p) (tokens_from bytes (at + width (piece_text p)) ps),
-      length-append (piece_text p) (text_of
-          ps),
-      token_few bytes (text_of ps ++ x) at p
-          m.0,
-      tokens_few bytes x (at + width (piece_text p)) ps m.1,
-    )
+    omega (arith, length-append (token_at bytes at p) (tokens_from bytes (at + width (piece_text p)) ps), length-append (piece_text p) (text_of ps), token_few bytes (text_of ps ++ x) at p m.0, tokens_few bytes x (at + width (piece_text p)) ps m.1)
 
 pub lexes_few : (bytes : Text) (tokens : List Token) → Lexes bytes tokens → length tokens ≤ length bytes + 1
 lexes_few bytes tokens l =
-    omega (
-      arith,
-      ap length l.are,
-      length-append (tokens_from bytes 0 l.pieces) (end_token bytes ∷ []),
-      tokens_few bytes [] 0 l.pieces l.each,
-      ap length l.whole,
-      length-le-encodes (text_of l.pieces),
-    )
+    omega (arith, ap length l.are, length-append (tokens_from bytes 0 l.pieces) (end_token bytes ∷ []), tokens_few bytes [] 0 l.pieces l.each, ap length l.whole, length-le-encodes (text_of l.pieces))

@@ -61,6 +61,9 @@ pub each_push : (c : ℕ → Bool) (s : Text) (x : ℕ) → Each c s → IsTrue 
 each_push c [] x e h = (h, tt)
 each_push c (y ∷ s) x e h = (e.0, each_push c s x e.1 h)
 
+pub stops_here : (c : ℕ → Bool) (text rest : Text) (x : ℕ) → chars text ≡ x ∷ rest → c x ≡ false → Stops c (chars text)
+stops_here c text rest x e h = let P : Text → Type 0 = Stops c in subst P (sym e) h
+
 pub stops_end : (c : ℕ → Bool) (text : Text) → chars text ≡ [] → Stops c (chars text)
 stops_end c text e = let P : Text → Type 0 = Stops c in subst P (sym e) tt
 

@@ -122,13 +122,7 @@ receiver_named n None d = tt
 receiver_named n (Some p) d = path_named n p (head d)
 
 call_named : (n : ℕ) (c : Invocation) → Of (IsBelow n) (call_written c) → CallNamed n c
-call_named n c d = (
-  receiver_named n c.on (head d),
-  name_named n c.method (head (tail d)),
-  groups_named n c.groups
-      (head (tail (tail d))),
-  arguments_named n c.args (tail (tail (tail d))),
-)
+call_named n c d = (receiver_named n c.on (head d), name_named n c.method (head (tail d)), groups_named n c.groups (head (tail (tail d))), arguments_named n c.args (tail (tail (tail d))))
 
 right_named : (n : ℕ) (e : RightSide) → Of (IsBelow n) (right_of_equals e) → RightNamed n e
 right_named n (Value e) d = whole_named n e d

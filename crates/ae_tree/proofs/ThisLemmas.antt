@@ -68,10 +68,7 @@ kind_other names rest e k.End h = tt
 tokens_other : (names rest : List (List ℕ)) → names ≡ first_names ++ rest → (ts : List Token)
     → All (λ (t : Token). IsSpelledOther t.kind) ts → EachToken IsOther (numbered names ts)
 tokens_other names rest e [] h = tt
-tokens_other names rest e (t ∷ ts) h = (
-  kind_other names rest e t.kind (All-head (λ (x : Token). IsSpelledOther x.kind) t ts h),
-  tokens_other names rest e ts (All-tail (λ (x : Token). IsSpelledOther x.kind) t ts h),
-)
+tokens_other names rest e (t ∷ ts) h = (kind_other names rest e t.kind (All-head (λ (x : Token). IsSpelledOther x.kind) t ts h), tokens_other names rest e ts (All-tail (λ (x : Token). IsSpelledOther x.kind) t ts h))
 
 -- ---- declared names
 

@@ -13,7 +13,7 @@ pub use laws::{derived_programs_are_well_shaped, this_is_no_declared_name};
 pub use lexeme::{Lexeme, Lexical};
 pub use limits::Limit;
 pub use tree::{
-    Block, Call, Class, Decl, Expr, Field, GroupNeed, KindAt, Me, Method, Name, NameAt, Need, Op,
-    Param, Path, PermAt, Program, Rhs, Stmt, StmtAt, StmtKind, Ty,
+    Block, Call, Class, Decl, Expr, Field, GroupNeed, IO, KindAt, MAIN, Me, Method, Name, NameAt,
+    Need, Op, Param, Path, PermAt, Program, Rhs, Stmt, StmtAt, StmtKind, THIS, Ty,
 };
 pub use types::form_of;

@@ -4,6 +4,15 @@ use ae_text::{Boxed, Items, Spot};
 /// A name by its number in `Program::names`: 0 is `io`, 1 is `main`, 2 is `this`, the others in order of first use.
 pub type Name = u32;
 
+/// The number of `io`, the group of output.
+pub const IO: Name = 0;
+
+/// The number of `main`, the method that a program begins with.
+pub const MAIN: Name = 1;
+
+/// The number of `this`, the receiver.
+pub const THIS: Name = 2;
+
 /// A name and where it stands.
 #[derive(Clone, Copy, Debug, PartialEq, Eq)]
 pub struct NameAt {

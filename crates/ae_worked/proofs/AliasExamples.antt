@@ -2,7 +2,8 @@
 use Rattle.std.specs.Prelude.{refl, pos, List, [], ◌∷◌}
 use Rattle.ae_tree.specs.Plain.{Code}
 use Rattle.ae_rules.specs.Verdict.{given}
-use Rattle.ae_semantics.specs.Observations.{Seen, OfBlock, OfCell, OfStore, Done}
+use Rattle.ae_semantics.specs.declared.report.Ending.TheVariants.{Done}
+use Rattle.ae_semantics.specs.Observations.{Seen, OfBlock, OfCell, OfStore}
 use Rattle.ae_semantics.specs.Meaning.{one, many, below}
 use Rattle.ae_semantics.specs.Means.{mean, Asking}
 use Rattle.ae_semantics.specs.Atom.{atom}

@@ -2,7 +2,8 @@
 use Rattle.std.proofs.Common.{◌≡◌, refl, sym, subst, true, [], ◌∷◌}
 use Rattle.ae_rules.specs.Instances.{Instance}
 use Rattle.ae_rules.specs.Paths.{comes_before}
-use Rattle.ae_semantics.specs.Observations.{Gave, OfBlock, Trap}
+use Rattle.ae_semantics.specs.declared.report.Ending.TheVariants.{Trap}
+use Rattle.ae_semantics.specs.Observations.{Gave, OfBlock}
 use Rattle.ae_semantics.specs.Meaning.{one, many, below}
 use Rattle.ae_semantics.specs.Means.{mean, Meant}
 use Rattle.ae_semantics.specs.Report.{ended_at, IsLater}

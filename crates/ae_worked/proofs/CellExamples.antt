@@ -8,13 +8,15 @@ use Rattle.ae_tree.specs.declared.form.Kind.TheVariants as kind
 use Rattle.ae_rules.specs.Instances.{Instance}
 use Rattle.ae_semantics.specs.Values.{Object, OfInt, Member, AndValue, NoValue}
 use Rattle.ae_semantics.specs.Places.{Bound}
-use Rattle.ae_semantics.specs.Observations.{Image, OfStore, Gave, Done}
+use Rattle.ae_semantics.specs.declared.report.Ending.TheVariants.{Done}
+use Rattle.ae_semantics.specs.Observations.{Image, OfStore, Gave}
 use Rattle.ae_semantics.specs.Meaning.{one, many, below}
 use Rattle.ae_semantics.specs.Means.{First, mean}
 use Rattle.ae_semantics.specs.Atom.{part}
-use Rattle.ae_semantics.specs.Report.{Event, Cell, Report, Picks, first_of, IsReported, Explained}
+use Rattle.ae_semantics.specs.Report.{Event, CellReport, Report, Picks, first_of, IsReported, Explained}
 use Rattle.ae_worked.proofs.MeaningWords.{line, nothing_out}
-use Rattle.ae_worked.proofs.NewExamples.{four_blocks, two_groups}
+use Rattle.ae_worked.proofs.GroupUseExamples.{four_in_a_group}
+use Rattle.ae_worked.proofs.NewExamples.{two_groups}
 
 -- ---- cells exchanged
 
@@ -22,11 +24,11 @@ use Rattle.ae_worked.proofs.NewExamples.{four_blocks, two_groups}
 abbrev counter : ℕ → Image
 counter n = OfStore (Object 3 (AndValue (OfInt (pos n)) NoValue) ∷ [])
 
-abbrev cell_of : Instance → ℕ → ℕ → ℕ → Cell
+abbrev cell_of : Instance → ℕ → ℕ → ℕ → CellReport
 cell_of q g m n = record { name = record { path = q; group = g }; first = counter m; last = counter n }
 
 -- a report with these cells, whose program went through
-abbrev with_cells : List Event → List ℕ → List Cell → ℕ → Report
+abbrev with_cells : List Event → List ℕ → List CellReport → ℕ → Report
 with_cells events order cells n = record {
   ending = Done;
   out = line (pos n);
@@ -91,7 +93,7 @@ one_in_place_of_two : (passes : First → Type 0) (x y z : First) → passes x �
 one_in_place_of_two passes x y z h (inl (k, (rest, e, more))) = absurd (cc)
 one_in_place_of_two passes x y z h (inr (k, more)) = k h
 
-doubled-refused : Explained four_blocks [] 100 doubled → ⊥
+doubled-refused : Explained four_in_a_group [] 100 doubled → ⊥
 unfolding mean part one many below
-doubled-refused e = one_in_place_of_two (IsReported four_blocks [] 100 doubled)
+doubled-refused e = one_in_place_of_two (IsReported four_in_a_group [] 100 doubled)
     (first_of (cell_of (3 ∷ []) 6 0 2)) _ _ (inl (0, omega arith, refl)) e.cells

@@ -1,10 +1,11 @@
 -- Programs that go too deep, and observations that are too high.
-use Rattle.std.specs.Prelude.{refl, ℕ, suc, nat_eq, pos, if◌then◌else◌, List, [], ◌∷◌, None, Some}
+use Rattle.std.specs.Prelude.{refl, ℕ, zero, suc, nat_eq, pos, if◌then◌else◌, List, [], ◌∷◌, None, Some}
 use Rattle.ae_tree.specs.declared.form.Form.TheVariants as f
 use Rattle.ae_tree.specs.declared.form.Perm.TheVariants as perm
 use Rattle.ae_tree.specs.declared.form.Kind.TheVariants as kind
 use Rattle.ae_semantics.specs.Values.{Val, Null, Owned, Object, NoValue, AndValue}
-use Rattle.ae_semantics.specs.Observations.{Seen, OfBlock, OfCell, OfStore, Gave, Done, Trap}
+use Rattle.ae_semantics.specs.declared.report.Ending.TheVariants.{Done, Trap}
+use Rattle.ae_semantics.specs.Observations.{Seen, OfBlock, OfCell, OfStore, Gave}
 use Rattle.ae_semantics.specs.Meaning.{one, many, below}
 use Rattle.ae_semantics.specs.Means.{mean}
 use Rattle.ae_worked.proofs.ProgramWords.{at}

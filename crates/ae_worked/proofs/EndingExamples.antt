@@ -7,15 +7,17 @@ use Rattle.std.specs.Prelude.{pos}
 use Rattle.ae_rules.specs.Instances.{Instance, Ordered}
 use Rattle.ae_rules.specs.Paths.{comes_before, is_simple_at, is_prefix_of}
 use Rattle.ae_semantics.specs.Places.{CellName}
-use Rattle.ae_semantics.specs.Observations.{Piece, OfLog, Ask, Gave, Fuel}
+use Rattle.ae_semantics.specs.declared.report.Ending.TheVariants.{Fuel}
+use Rattle.ae_semantics.specs.declared.report.Piece.{Piece}
+use Rattle.ae_semantics.specs.Observations.{OfLog, Ask, Gave}
 use Rattle.ae_semantics.specs.Meaning.{one, many, below}
 use Rattle.ae_semantics.specs.Means.{At, Turn, Asking, mean}
 use Rattle.ae_semantics.specs.Atom.{atom, part}
-use Rattle.ae_semantics.specs.Report.{Event, Cell, Report, LeadsTo, Legal, Explained, mean_of, part_of_report}
-use Rattle.ae_semantics.specs.Report.{asking_of}
-use Rattle.ae_semantics.specs.Report.{ended_at, LineRun, turn_path, IsLater, InTurnsFrom, Covers, IsLineOf}
-use Rattle.ae_semantics.specs.Report.{KeepInTime, traced_part}
-use Rattle.ae_semantics.specs.Report.{Traced}
+use Rattle.ae_semantics.specs.declared.report.TraceLine.{TraceLine}
+use Rattle.ae_semantics.specs.Report.{Event, CellReport, Report, LeadsTo, Legal, Explained, mean_of, part_of_report}
+use Rattle.ae_semantics.specs.Report.{asking_of, ended_at, turn_path, IsLater, InTurnsFrom, Covers, IsLineOf}
+use Rattle.ae_semantics.specs.Report.{KeepInTime}
+use Rattle.ae_semantics.specs.Report.{traced_part, Traced}
 use Rattle.ae_worked.proofs.ReportWords.{by_test, of_two, pair_of_two, two_differ, carried_same}
 use Rattle.ae_worked.proofs.ReportWords.{asking_same, two_same, not_both, unparted, fork_of, part_so, rises_two}
 use Rattle.ae_worked.proofs.ReportWords.{one_cell, nothing_given, all_differ-so, and_false}
@@ -50,15 +52,15 @@ piece_in t = record { path = 0 ∷ 0 ∷ t ∷ 0 ∷ 0 ∷ []; bytes = line (pos
 abbrev io_cell : CellName
 io_cell = record { path = 0 ∷ []; group = 0 }
 
-abbrev printed_twice : Cell
+abbrev printed_twice : CellReport
 printed_twice = record { name = io_cell; first = OfLog []; last = OfLog (piece_in 0 ∷ piece_in 1 ∷ []) }
 
 -- a block's span
-abbrev line_in : ℕ → ℕ → ℕ → LineRun
+abbrev line_in : ℕ → ℕ → ℕ → TraceLine
 line_in t began ended = record { path = block_in t; at = at 4 1; began = began; ended = ended }
 
 -- the loop from its third turn on
-abbrev last_turn : LineRun
+abbrev last_turn : TraceLine
 last_turn = record { path = 0 ∷ 0 ∷ 2 ∷ []; at = at 3 1; began = 7; ended = 8 }
 
 -- With fuel for two turns the run ends in the third. The blocks of both turns are used, and none is past.
@@ -207,7 +209,7 @@ next_statement-after : IsAfterEnd (0 ∷ 1 ∷ [])
 unfolding mean one many below
 next_statement-after = refl
 
-abbrev AreApart : LineRun → LineRun → Type 0
+abbrev AreApart : TraceLine → TraceLine → Type 0
 AreApart l m = (q : Instance) → Covers (traced_part prints_forever [] 2 spent) l q
     → Covers (traced_part prints_forever [] 2 spent) m q → ⊥
 
@@ -264,13 +266,13 @@ block_and_turn-apart t l began ended q (inr x) y = no_turn t x.0 x.1 x.2
 
 abbrev HasLine : At → Type 0
 HasLine x = is_simple_at prints_forever x.path ≡ true
-    → (l : LineRun) × Contains spent.trace l × Covers (traced_part prints_forever [] 2 spent) l x.path
+    → (l : TraceLine) × Contains spent.trace l × Covers (traced_part prints_forever [] 2 spent) l x.path
 
 spent-traced : Traced prints_forever [] 2 spent
 unfolding mean part one many below
 spent-traced = record {
   differ = all_differ-so (3 ∷ 4 ∷ 5 ∷ 6 ∷ 7 ∷ 8 ∷ 1 ∷ 2 ∷ []) refl;
-  spans = every (λ (l : LineRun). l.began < l.ended) spent.trace (omega arith, (omega arith, (omega arith, tt)));
+  spans = every (λ (l : TraceLine). l.began < l.ended) spent.trace (omega arith, (omega arith, (omega arith, tt)));
   once = (
     of_two (AreApart (line_in 0 3 4)) (line_in 1 5 6) last_turn blocks_apart
         (block_and_turn-apart 0 (omega arith) 3 4),
@@ -301,15 +303,15 @@ spent-traced = record {
       ),
     ),
   );
-  meant = every (λ (l : LineRun). IsAfterEnd l.path ⊎ IsLineOf (mean_of prints_forever [] 2 spent) l) spent.trace (
+  meant = every (λ (l : TraceLine). IsAfterEnd l.path ⊎ IsLineOf (mean_of prints_forever [] 2 spent) l) spent.trace (
     inr (inl (2, omega arith, refl)),
     (
       inr (inl (3, omega arith, refl)),
       (inr (inr (record { path = 0 ∷ 0 ∷ []; turn = 2 }, (2, omega arith, refl), refl, (1, omega arith, refl))), tt),
     ),
   );
-  sorted = (
-    of_two (λ (m : LineRun). comes_before (block_in 0) m.path ≡ true) (line_in 1 5 6) last_turn refl refl,
-    pair_of_two (λ (l m : LineRun). comes_before l.path m.path ≡ true) (line_in 1 5 6) last_turn refl,
+  rising = (
+    of_two (λ (m : TraceLine). comes_before (block_in 0) m.path ≡ true) (line_in 1 5 6) last_turn refl refl,
+    pair_of_two (λ (l m : TraceLine). comes_before l.path m.path ≡ true) (line_in 1 5 6) last_turn refl,
   );
 }

@@ -1,7 +1,7 @@
 -- What goes on past an ending, and which statements of a block are joined by an edge.
 use Rattle.std.specs.Prelude.{◌≡◌, refl, ℕ, pos, true, false, List, [], ◌∷◌, Option, None, Some, Bool, map, length}
 use Rattle.ae_tree.specs.Plain.{Code}
-use Rattle.ae_semantics.specs.Observations.{Trap}
+use Rattle.ae_semantics.specs.declared.report.Ending.TheVariants.{Trap}
 use Rattle.ae_semantics.specs.Meaning.{one, many, below}
 use Rattle.ae_tree.specs.Names.{main}
 use Rattle.ae_rules.specs.declared.uses.Resource.{Resource}
@@ -10,9 +10,9 @@ use Rattle.ae_rules.specs.declared.uses.Mode.{Mode}
 use Rattle.ae_rules.specs.declared.uses.Mode.TheVariants as mode
 use Rattle.ae_rules.specs.Verdict.{given}
 use Rattle.ae_rules.specs.Lookups.{top_called}
-use Rattle.ae_rules.specs.Blocks.{Scene, scene_uses}
+use Rattle.ae_rules.specs.Blocks.{Scene, body_scene, scene_uses}
 use Rattle.ae_rules.specs.EdgeLists.{is_edge}
-use Rattle.ae_rules.specs.Instances.{body, Instance, Parting, parting, uses_from}
+use Rattle.ae_rules.specs.Instances.{Instance, Parting, parting, uses_from}
 use Rattle.ae_semantics.specs.Means.{At, Meant}
 use Rattle.ae_semantics.specs.Atom.{part}
 use Rattle.ae_worked.proofs.ProgramWords.{at}
@@ -43,7 +43,7 @@ abbrev edges_of : Code → Scene → List (ℕ × ℕ) → List Bool
 edges_of p s xs = map (λ (x : ℕ × ℕ). is_edge (length p.names) (scene_uses p s) x.0 x.1) xs
 
 abbrev edges_among : Code → List (ℕ × ℕ) → List Bool
-edges_among p xs = given (top_called p main) [] (λ m. edges_of p (body p m) xs)
+edges_among p xs = given (top_called p main) [] (λ m. edges_of p (body_scene p m) xs)
 
 trap_beside_a_print-edges : edges_among trap_beside_a_print
     ((0, 1) ∷ (0, 2) ∷ (0, 3) ∷ (1, 2) ∷ (1, 3) ∷ (2, 3) ∷ []) ≡ false ∷ true ∷ false ∷ false ∷ true ∷ false ∷ []

@@ -4,8 +4,9 @@ use Rattle.ae_tree.specs.declared.form.Form.TheVariants as f
 use Rattle.ae_tree.specs.Plain.{Code}
 use Rattle.ae_semantics.specs.Values.{OfInt, Member, Object, NoValue, AndValue}
 use Rattle.ae_semantics.specs.Places.{Bound}
-use Rattle.ae_semantics.specs.Observations.{OfBlock, OfCell, Piece, Image, OfStore, OfLog, Answer, Gave, Trapped, Done}
-use Rattle.ae_semantics.specs.Observations.{Trap}
+use Rattle.ae_semantics.specs.declared.report.Ending.TheVariants.{Done, Trap}
+use Rattle.ae_semantics.specs.declared.report.Piece.{Piece}
+use Rattle.ae_semantics.specs.Observations.{OfBlock, OfCell, Image, OfStore, OfLog, Answer, Gave, Trapped}
 use Rattle.ae_semantics.specs.Meaning.{one, many, below}
 use Rattle.ae_semantics.specs.Means.{mean, Asking}
 use Rattle.ae_semantics.specs.Atom.{Atomed, atom}

@@ -58,3 +58,4 @@ pub mod UnfoldingLoopExamples
 pub mod NewExamples
 pub mod AliasExamples
 pub mod CellExamples
+pub mod StandingExamples

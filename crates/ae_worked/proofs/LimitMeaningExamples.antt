@@ -1,6 +1,6 @@
 -- What programs at the limits come to.
 use Rattle.std.specs.Prelude.{refl, pos, [], ◌∷◌}
-use Rattle.ae_semantics.specs.Observations.{Done, Trap}
+use Rattle.ae_semantics.specs.declared.report.Ending.TheVariants.{Done, Trap}
 use Rattle.ae_semantics.specs.Meaning.{one, many, below}
 use Rattle.ae_semantics.specs.Means.{mean}
 use Rattle.ae_worked.proofs.ProgramWords.{at}

@@ -1,6 +1,6 @@
 -- What some programs come to.
 use Rattle.std.specs.Prelude.{refl, pos, negsuc, [], ◌∷◌, codes}
-use Rattle.ae_semantics.specs.Observations.{Done, Trap, Fuel}
+use Rattle.ae_semantics.specs.declared.report.Ending.TheVariants.{Done, Trap, Fuel}
 use Rattle.ae_semantics.specs.Meaning.{one, many, below}
 use Rattle.ae_semantics.specs.Means.{mean}
 use Rattle.ae_worked.proofs.ProgramWords.{at}

@@ -2,7 +2,9 @@
 use Rattle.std.specs.Prelude.{◌≡◌, ℕ, nat_eq, if◌then◌else◌, ℤ, List, [], ◌∷◌, ◌++◌, map, length, Option, None, Some}
 use Rattle.std.specs.Fmt.{signed_decimal}
 use Rattle.ae_tree.specs.Plain.{Code}
-use Rattle.ae_semantics.specs.Observations.{Piece, Seen, Ending, Carried, Answer, Gave, Trapped, Spent}
+use Rattle.ae_semantics.specs.declared.report.Ending.{Ending}
+use Rattle.ae_semantics.specs.declared.report.Piece.{Piece}
+use Rattle.ae_semantics.specs.Observations.{Seen, Carried, Answer, Gave, Trapped, Spent}
 use Rattle.ae_semantics.specs.Values.{OfInt}
 use Rattle.ae_semantics.specs.Places.{Bound}
 use Rattle.ae_tree.specs.declared.form.Form.TheVariants as f

@@ -161,36 +161,3 @@ two_groups = record {
 
 two_groups-accepted : Accepts two_groups
 two_groups-accepted = refl
-
--- Four blocks of one group, in calls.
-abbrev pub four_blocks : Code
-four_blocks = record {
-  names = codes "io" ∷ codes "main" ∷ codes "this" ∷ codes "Count" ∷ codes "n" ∷ codes "bump" ∷ codes "g"
-      ∷ codes "c" ∷ [];
-  classes =
-      class_with (name 3 1 7) [] (field (ty.Int (at 1 15)) (name 4 1 19) ∷ []) []
-      ∷ [];
-  methods =
-      (top_method None (name 5 2 13) ((name 6 2 18) ∷ []) (param
-      (ty.Object (perm_at.Shared (at 2 21) (name 6 2 28)) (kind_at.Class (name 3 2 31) [])) (name 7 2 37) ∷ [])
-      (need need_of.Shared (name 6 2 52) ∷ [])
-      (Next (at 3 1) (Locks (name 6 3 8) 1
-      (Next (at 3 12) (Stores (path (name 7 3 12) ((name 4 3 14) ∷ []))
-      (Binary op.Add (Read (path (name 7 3 18) ((name 4 3 20) ∷ []))) (Number (pos 1) (at 3 24)))) End)) End))
-      ∷ (top_method None (name 1 5 13) [] [] (need need_of.Exclusive (name 0 5 35) ∷ [])
-      (Next (at 6 1) (Groups (name 6 6 7))
-      (Next (at 7 1) (Declares (ty.Object (perm_at.Unique (at 7 5)) (kind_at.Class (name 3 7 12) [])) (name 7 7 18)
-      (Made (name 3 7 26) [] ((Number (pos 0) (at 7 32)) ∷ []) (at 7 22)))
-      (Next (at 8 1) (Shares (name 7 8 7) (name 6 8 14))
-      (Next (at 9 1) (Splits ((name 6 9 7) ∷ []) 1
-      (Next (at 10 1) (Calls (call (name 5 10 1) ((name 6 10 6) ∷ []) ((Read (path (name 7 10 9) [])) ∷ [])))
-      (Next (at 11 1) (Calls (call (name 5 11 1) ((name 6 11 6) ∷ []) ((Read (path (name 7 11 9) [])) ∷ [])))
-      (Next (at 12 1) (Calls (call (name 5 12 1) ((name 6 12 6) ∷ []) ((Read (path (name 7 12 9) [])) ∷ [])))
-      (Next (at 13 1) (Calls (call (name 5 13 1) ((name 6 13 6) ∷ []) ((Read (path (name 7 13 9) [])) ∷ []))) End)))))
-      (Next (at 15 1) (Prints (Read (path (name 7 15 7) ((name 4 15 9) ∷ [])))) End))))))
-      ∷ [];
-  decls = decl.Class 0 ∷ decl.Method 0 ∷ decl.Method 1 ∷ [];
-}
-
-four_blocks-accepted : Accepts four_blocks
-four_blocks-accepted = refl

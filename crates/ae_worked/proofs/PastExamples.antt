@@ -8,7 +8,9 @@ use Rattle.ae_rules.specs.declared.uses.Resource.TheVariants.{Local, Group}
 use Rattle.ae_rules.specs.Edges.{IsConflict}
 use Rattle.ae_rules.specs.Instances.{Instance, Ordered}
 use Rattle.ae_rules.specs.Paths.{comes_before}
-use Rattle.ae_semantics.specs.Observations.{Piece, OfLog, Trapped, Done, Trap}
+use Rattle.ae_semantics.specs.declared.report.Ending.TheVariants.{Done, Trap}
+use Rattle.ae_semantics.specs.declared.report.Piece.{Piece}
+use Rattle.ae_semantics.specs.Observations.{OfLog, Trapped}
 use Rattle.ae_semantics.specs.Meaning.{one, many, below}
 use Rattle.ae_semantics.specs.Means.{Asking, mean}
 use Rattle.ae_semantics.specs.Atom.{atom, part}

@@ -11,13 +11,15 @@ use Rattle.ae_rules.specs.Edges.{IsConflict}
 use Rattle.ae_rules.specs.Instances.{Instance, Point, inside, first_point, Ordered}
 use Rattle.ae_rules.specs.Paths.{comes_before}
 use Rattle.ae_semantics.specs.Places.{CellName}
-use Rattle.ae_semantics.specs.Observations.{Piece, Image, OfLog, Carried, Ask, Answer, Gave, Trapped, Done}
+use Rattle.ae_semantics.specs.declared.report.Ending.TheVariants.{Done}
+use Rattle.ae_semantics.specs.declared.report.Piece.{Piece}
+use Rattle.ae_semantics.specs.Observations.{Image, OfLog, Carried, Ask, Answer, Gave, Trapped}
 use Rattle.ae_semantics.specs.Meaning.{one, many, below}
 use Rattle.ae_semantics.specs.Means.{Asking, mean, pieces_bytes}
 use Rattle.ae_semantics.specs.Atom.{atom, part}
-use Rattle.ae_semantics.specs.Report.{Event, Cell, LineRun, Report, Leads, LeadsTo, Legal, Explained, mean_of}
-use Rattle.ae_semantics.specs.Report.{part_of_report}
-use Rattle.ae_semantics.specs.Report.{asking_of}
+use Rattle.ae_semantics.specs.declared.report.TraceLine.{TraceLine}
+use Rattle.ae_semantics.specs.Report.{Event, CellReport, Report, Leads, LeadsTo, Legal, Explained, mean_of}
+use Rattle.ae_semantics.specs.Report.{part_of_report, asking_of}
 use Rattle.ae_worked.proofs.ReportWords.{of_two, pair_of_two, two_differ, carried_same}
 use Rattle.ae_worked.proofs.ReportWords.{asking_same, two_same, unparted, part_so, fork_of, used_at, backwards}
 use Rattle.ae_worked.proofs.ReportWords.{side_by_side, hidden, unused, rises_two, one_cell, by_test, nothing_given}
@@ -49,11 +51,11 @@ piece_one = record { path = 0 ∷ 0 ∷ 0 ∷ []; bytes = line (pos 1) }
 abbrev pub piece_two : Piece
 piece_two = record { path = 0 ∷ 1 ∷ 0 ∷ []; bytes = line (pos 2) }
 
-abbrev pub log_cell : List Piece → Cell
+abbrev pub log_cell : List Piece → CellReport
 log_cell pieces = record { name = record { path = 0 ∷ []; group = 0 }; first = OfLog []; last = OfLog pieces }
 
 -- a report of the two blocks, with these stamps, in this order of their places
-abbrev pub report : ℕ → ℕ → List ℕ → List Piece → List ℕ → List LineRun → Report
+abbrev pub report : ℕ → ℕ → List ℕ → List Piece → List ℕ → List TraceLine → Report
 report s t order pieces out trace = record {
   ending = Done;
   out = out;
@@ -64,7 +66,7 @@ report s t order pieces out trace = record {
   trace = trace;
 }
 
-abbrev pub block_line : Instance → ℕ → ℕ → ℕ → LineRun
+abbrev pub block_line : Instance → ℕ → ℕ → ℕ → TraceLine
 block_line q number began ended = record { path = q; at = at number 1; began = began; ended = ended }
 
 -- first the one block, then the other
@@ -196,7 +198,7 @@ abbrev pub both_asks : List Asking
 both_asks = asking first_block 2 ∷ asking second_block 3 ∷ []
 
 -- in source order, and past what stopped, the two blocks ask alike
-asked_in : (s t : ℕ) (order : List ℕ) (pieces : List Piece) (out : List ℕ) (trace : List LineRun)
+asked_in : (s t : ℕ) (order : List ℕ) (pieces : List Piece) (out : List ℕ) (trace : List TraceLine)
     → (mean_of two_prints [] 10 (report s t order pieces out trace)).asked ≡ both_asks
 unfolding mean one many below
 asked_in s t order pieces out trace = two_same _ _ _ _
@@ -207,7 +209,7 @@ asked_in s t order pieces out trace = two_same _ _ _ _
     (carried_same _ nothing_out (λ x. by_test 2 x (λ e. rw e refl) (λ e. rw e refl))
     (elim [ zero ↦ refl | suc g ↦ rw (eqb-zero-suc g) refl ]) refl))
 
-asked_past : (s t : ℕ) (order : List ℕ) (pieces : List Piece) (out : List ℕ) (trace : List LineRun)
+asked_past : (s t : ℕ) (order : List ℕ) (pieces : List Piece) (out : List ℕ) (trace : List TraceLine)
     → (part_of_report two_prints [] 10 (report s t order pieces out trace)).asked ≡ both_asks
 unfolding part one many below
 asked_past s t order pieces out trace = two_same _ _ _ _
@@ -218,7 +220,7 @@ asked_past s t order pieces out trace = two_same _ _ _ _
     (carried_same _ nothing_out (λ x. by_test 2 x (λ e. rw e refl) (λ e. rw e refl))
     (elim [ zero ↦ refl | suc g ↦ rw (eqb-zero-suc g) refl ]) refl))
 
-is_asked : (s t : ℕ) (order : List ℕ) (pieces : List Piece) (out : List ℕ) (trace : List LineRun) (e : Event)
+is_asked : (s t : ℕ) (order : List ℕ) (pieces : List Piece) (out : List ℕ) (trace : List TraceLine) (e : Event)
     (x : Asking) → Contains (report s t order pieces out trace).events e
     → asking_of (report s t order pieces out trace) e ≡ Some x → Contains both_asks x
 is_asked s t order pieces out trace e x c = of_two
@@ -227,7 +229,7 @@ is_asked s t order pieces out trace e x c = of_two
     (λ q. (0, omega arith, same_Some (asking first_block 2) x q))
     (λ q. (1, omega arith, same_Some (asking second_block 3) x q)) e c
 
-explained : (s t : ℕ) (order : List ℕ) (pieces : List Piece) (out : List ℕ) (trace : List LineRun) → out
+explained : (s t : ℕ) (order : List ℕ) (pieces : List Piece) (out : List ℕ) (trace : List TraceLine) → out
     ≡ pieces_bytes pieces ++ [] → Legal two_prints (report s t order pieces out trace)
     → Explained two_prints [] 10 (report s t order pieces out trace)
 unfolding mean part one many below atom

@@ -7,11 +7,13 @@ use Rattle.std.specs.Prelude.{pos}
 use Rattle.ae_rules.specs.declared.uses.Resource.TheVariants.{Local}
 use Rattle.ae_rules.specs.Instances.{inside, first_point, Ordered}
 use Rattle.ae_rules.specs.Paths.{comes_before}
-use Rattle.ae_semantics.specs.Observations.{Piece, OfLog, Carried, Gave, Done}
+use Rattle.ae_semantics.specs.declared.report.Ending.TheVariants.{Done}
+use Rattle.ae_semantics.specs.declared.report.Piece.{Piece}
+use Rattle.ae_semantics.specs.Observations.{OfLog, Carried, Gave}
 use Rattle.ae_semantics.specs.Meaning.{one, many, below}
 use Rattle.ae_semantics.specs.Means.{Asking, mean}
 use Rattle.ae_semantics.specs.Atom.{atom, part}
-use Rattle.ae_semantics.specs.Report.{Event, Cell, Report, LeadsTo, Legal, Explained, mean_of, part_of_report}
+use Rattle.ae_semantics.specs.Report.{Event, CellReport, Report, LeadsTo, Legal, Explained, mean_of, part_of_report}
 use Rattle.ae_semantics.specs.Report.{asking_of}
 use Rattle.ae_worked.proofs.ReportWords.{of_two, pair_of_two, two_differ, carried_same}
 use Rattle.ae_worked.proofs.ReportWords.{asking_same, two_same, unparted, part_so, fork_of, backwards, rises_two}
@@ -65,7 +67,7 @@ printing = record {
 abbrev printed_one : Piece
 printed_one = record { path = 1 ∷ 1 ∷ 0 ∷ []; bytes = line (pos 1) }
 
-abbrev written_cell : Cell
+abbrev written_cell : CellReport
 written_cell = record {
   name = record { path = 1 ∷ []; group = 0 };
   first = OfLog [];

@@ -4,12 +4,13 @@ use Rattle.std.proofs.Common.{List, [], ◌∷◌, Contains}
 use Rattle.std.proofs.Math.Dec.{eqb-zero-suc}
 use Rattle.ae_rules.specs.Instances.{Instance, Conflict}
 use Rattle.ae_rules.specs.Paths.{comes_before, is_prefix_of, is_simple_at}
-use Rattle.ae_semantics.specs.Observations.{Piece, Done}
+use Rattle.ae_semantics.specs.declared.report.Ending.TheVariants.{Done}
+use Rattle.ae_semantics.specs.declared.report.Piece.{Piece}
 use Rattle.ae_semantics.specs.Meaning.{one, many, below}
 use Rattle.ae_semantics.specs.Means.{At, mean}
 use Rattle.ae_semantics.specs.Atom.{part}
-use Rattle.ae_semantics.specs.Report.{LineRun, Report, AllDiffer, mean_of, Covers, IsLineOf, IsLater, KeepInTime}
-use Rattle.ae_semantics.specs.Report.{traced_part}
+use Rattle.ae_semantics.specs.declared.report.TraceLine.{TraceLine}
+use Rattle.ae_semantics.specs.Report.{Report, AllDiffer, mean_of, Covers, IsLineOf, IsLater, KeepInTime, traced_part}
 use Rattle.ae_semantics.specs.Report.{Traced}
 use Rattle.ae_worked.proofs.ReportWords.{of_two, of_three, pair_of_two, and_false, not_both, fork_of}
 use Rattle.ae_worked.proofs.ReportWords.{conflict_so, all_differ-so, no_line}
@@ -29,13 +30,13 @@ apart (suc a ∷ b ∷ q) e d = not_both _ (ap (λ c. c && (nat_eq 0 b && true))
 apart (zero ∷ zero ∷ q) e d = not_both _ refl d
 apart (zero ∷ suc b ∷ q) e d = not_both _ (ap (λ c. c && true) (eqb-zero-suc b)) e
 
-abbrev AreApart : Report → LineRun → LineRun → Type 0
+abbrev AreApart : Report → TraceLine → TraceLine → Type 0
 AreApart r l m = (q : Instance) → Covers (traced_part two_prints [] 10 r) l q
     → Covers (traced_part two_prints [] 10 r) m q → ⊥
 
 -- no loop has turns
-lines_apart : (s t : ℕ) (order : List ℕ) (pieces : List Piece) (out : List ℕ) (trace : List LineRun) (l m : LineRun)
-    → l.path ≡ first_block → m.path ≡ second_block
+lines_apart : (s t : ℕ) (order : List ℕ) (pieces : List Piece) (out : List ℕ) (trace : List TraceLine)
+    (l m : TraceLine) → l.path ≡ first_block → m.path ≡ second_block
     → AreApart (report s t order pieces out trace) l m
 unfolding part one many below
 lines_apart s t order pieces out trace l m e d q (inl x) (inl y) = apart q (subst (λ z. is_prefix_of z q ≡ true) e x)
@@ -48,12 +49,13 @@ no_conflict = conflict_so two_prints first_block second_block
     (fork_of two_prints first_block second_block) refl no_clash
 
 abbrev HasLine : Report → At → Type 0
-HasLine r x = (l : LineRun) × Contains r.trace l × Covers (traced_part two_prints [] 10 r) l x.path
+HasLine r x = (l : TraceLine) × Contains r.trace l × Covers (traced_part two_prints [] 10 r) l x.path
 
-abbrev both_lines : ℕ → ℕ → ℕ → ℕ → List LineRun
+abbrev both_lines : ℕ → ℕ → ℕ → ℕ → List TraceLine
 both_lines a b c d = block_line first_block 3 a b ∷ block_line second_block 4 c d ∷ []
 
-is_covered : (r : Report) (x : At) (l : LineRun) → Contains r.trace l → is_prefix_of l.path x.path ≡ true → HasLine r x
+is_covered : (r : Report) (x : At) (l : TraceLine) → Contains r.trace l → is_prefix_of l.path x.path ≡ true
+    → HasLine r x
 is_covered r x l c e = (l, c, inl e)
 
 -- the statements that ran: the split block, which is not simple, and the two blocks
@@ -64,9 +66,10 @@ all_covered : (r : Report) (a b c d : ℕ) → r.trace ≡ both_lines a b c d �
 all_covered r a b c d t = of_three (λ (x : At). is_simple_at two_prints x.path ≡ true → HasLine r x) _ _ _
     (λ e. absurd (not_both _ refl e))
     (λ e. is_covered r (record { path = first_block; spot = at 3 1 }) (block_line first_block 3 a b)
-    (subst (λ (ls : List LineRun). Contains ls (block_line first_block 3 a b)) (sym t) (0, omega arith, refl)) refl)
+    (subst (λ (ls : List TraceLine). Contains ls (block_line first_block 3 a b)) (sym t) (0, omega arith, refl)) refl)
     (λ e. is_covered r (record { path = second_block; spot = at 4 1 }) (block_line second_block 4 c d)
-    (subst (λ (ls : List LineRun). Contains ls (block_line second_block 4 c d)) (sym t) (1, omega arith, refl)) refl)
+    (subst (λ (ls : List TraceLine). Contains ls (block_line second_block 4 c d)) (sym t)
+    (1, omega arith, refl)) refl)
 
 -- Two lines whose spans may lie anywhere, at once or one after the other.
 traced : (s t : ℕ) (order : List ℕ) (pieces : List Piece) (out : List ℕ) (a b c d : ℕ)
@@ -74,12 +77,12 @@ traced : (s t : ℕ) (order : List ℕ) (pieces : List Piece) (out : List ℕ) (
     → Traced two_prints [] 10 (report s t order pieces out (both_lines a b c d))
 unfolding mean part one many below
 traced s t order pieces out a b c d differ first second =
-    let l : LineRun = block_line first_block 3 a b in
-    let m : LineRun = block_line second_block 4 c d in
+    let l : TraceLine = block_line first_block 3 a b in
+    let m : TraceLine = block_line second_block 4 c d in
     let r : Report = report s t order pieces out (both_lines a b c d) in
     record {
       differ = differ;
-      spans = of_two (λ (k : LineRun). k.began < k.ended) l m first second;
+      spans = of_two (λ (k : TraceLine). k.began < k.ended) l m first second;
       once = pair_of_two (AreApart r) l m (lines_apart s t order pieces out (both_lines a b c d) l m refl refl);
       keeps = pair_of_two (KeepInTime two_prints) l m
           (elim [
@@ -89,10 +92,10 @@ traced s t order pieces out a b c d differ first second =
       all_run = all_covered r a b c d refl;
       run_only = of_two (IsLineOf (traced_part two_prints [] 10 r)) l m (inl (1, omega arith, refl))
           (inl (2, omega arith, refl));
-      meant = of_two (λ (k : LineRun). IsLater (mean_of two_prints [] 10 r) Done k.path ⊎ IsLineOf
+      meant = of_two (λ (k : TraceLine). IsLater (mean_of two_prints [] 10 r) Done k.path ⊎ IsLineOf
           (mean_of two_prints [] 10 r) k) l m
           (inr (inl (1, omega arith, refl))) (inr (inl (2, omega arith, refl)));
-      sorted = pair_of_two (λ (j k : LineRun). comes_before j.path k.path ≡ true) l m refl;
+      rising = pair_of_two (λ (j k : TraceLine). comes_before j.path k.path ≡ true) l m refl;
     }
 
 in_order-traced : Traced two_prints [] 10 in_order

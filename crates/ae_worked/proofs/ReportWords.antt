@@ -16,7 +16,8 @@ use Rattle.ae_rules.specs.Instances.{Instance, Point, InBlock, AtChoice, AtLoop,
 use Rattle.ae_rules.specs.Instances.{Ordered, Conflict, uses_from}
 use Rattle.ae_semantics.specs.Observations.{Carried, Gave}
 use Rattle.ae_semantics.specs.Means.{Asking}
-use Rattle.ae_semantics.specs.Report.{Event, Cell, LineRun, AllPairs, AllDiffer, Rises, of_cell, Leads}
+use Rattle.ae_semantics.specs.declared.report.TraceLine.{TraceLine}
+use Rattle.ae_semantics.specs.Report.{Event, CellReport, AllPairs, AllDiffer, Rises, of_cell, Leads}
 use Rattle.ae_worked.proofs.MeaningWords.{nothing_out}
 use Rattle.ae_worked.proofs.from_text.Basics.{second_of_both, first_of_both, none_is_no_some, empty_has_nothing}
 use Rattle.std.proofs.lemmas.Option.{same_Some}
@@ -176,9 +177,9 @@ rises_two es i j x y p q l = (λ d e a b. later x y d e (same_Some x d (sym p �
     later : (x y d e : Event) → x ≡ d → y ≡ e → x.stamp < y.stamp → d.stamp < e.stamp
     later x y d e a b l = subst (λ (z : Event). z.stamp < e.stamp) a (subst (λ (z : Event). x.stamp < z.stamp) b l)
 
-pub one_cell : (p : Code) (es : List Event) (x : Cell) → Leads p (of_cell 0 es) x.first x.last
-    → (i : ℕ) (c : Cell) → slice_get (x ∷ []) i ≡ Some c → Leads p (of_cell i es) c.first c.last
-one_cell p es x l zero c e = subst (λ (z : Cell). Leads p (of_cell 0 es) z.first z.last) (same_Some x c e) l
+pub one_cell : (p : Code) (es : List Event) (x : CellReport) → Leads p (of_cell 0 es) x.first x.last
+    → (i : ℕ) (c : CellReport) → slice_get (x ∷ []) i ≡ Some c → Leads p (of_cell i es) c.first c.last
+one_cell p es x l zero c e = subst (λ (z : CellReport). Leads p (of_cell 0 es) z.first z.last) (same_Some x c e) l
 one_cell p es x l (suc i) c e = absurd (none_is_no_some e)
 
 -- ---- numbers that differ
@@ -211,7 +212,7 @@ absent m [] h z (k, l, e) = absurd (omega (arith, l))
 absent m (x ∷ xs) h z (zero, l, e) = subst (λ y. m ≢ y) e (differs m x (first_of_both _ _ h))
 absent m (x ∷ xs) h z (suc k, l, e) = absent m xs (second_of_both _ _ h) z (k, omega (arith, l), e)
 
-pub no_line : {P : LineRun → Type 0} → ((l : LineRun) × Contains [] l × P l) → ⊥
+pub no_line : {P : TraceLine → Type 0} → ((l : TraceLine) × Contains [] l × P l) → ⊥
 no_line x = empty_has_nothing x.0 x.1
 
 pub all_differ-so : (xs : List ℕ) → all_differ xs ≡ true → AllDiffer xs

@@ -1,7 +1,9 @@
 -- What the programs of the page on the language come to.
 use Rattle.std.specs.Prelude.{refl, pos, negsuc, [], ◌∷◌, codes}
 use Rattle.ae_semantics.specs.Values.{OfInt, Object, NoValue, AndValue}
-use Rattle.ae_semantics.specs.Observations.{Piece, OfBlock, OfCell, OfStore, OfLog, Gave, Trapped, Done, Trap, Fuel}
+use Rattle.ae_semantics.specs.declared.report.Piece.{Piece}
+use Rattle.ae_semantics.specs.Observations.{OfBlock, OfCell, OfStore, OfLog, Gave, Trapped}
+use Rattle.ae_semantics.specs.declared.report.Ending.TheVariants.{Done, Trap, Fuel}
 use Rattle.ae_semantics.specs.Meaning.{one, many, below}
 use Rattle.ae_semantics.specs.Means.{mean}
 use Rattle.ae_worked.proofs.ProgramWords.{at}

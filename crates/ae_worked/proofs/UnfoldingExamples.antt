@@ -10,17 +10,17 @@ use Rattle.ae_semantics.specs.Places.{Bound}
 use Rattle.ae_rules.specs.Uses.{stronger}
 use Rattle.ae_semantics.specs.Contexts.{shuts_out}
 use Rattle.ae_rules.specs.declared.uses.Mode.TheVariants as mode
-use Rattle.ae_semantics.specs.Observations.{Trap}
+use Rattle.ae_semantics.specs.declared.report.Ending.TheVariants.{Trap}
 use Rattle.ae_worked.proofs.ProgramWords.{at}
 use Rattle.ae_rules.specs.Verdict.{given}
 use Rattle.ae_semantics.specs.Meaning.{one, many, below}
 use Rattle.ae_semantics.specs.Atom.{part}
-use Rattle.ae_semantics.specs.Unfolding.{Passage, AgreesOnChanged, uses_of, BlockFrame, Begun, NoMore, Moment, Within}
-use Rattle.ae_semantics.specs.Unfolding.{IsAfter, trail, fresh, StandsFor, part_of_frame, trail_of, results, frames}
-use Rattle.ae_semantics.specs.Unfolding.{halted}
-use Rattle.ae_semantics.specs.Unfolding.{left_out, Then, Halted, Finished, LeftOut, Waiting, Gained, IsFrameEntered}
-use Rattle.ae_semantics.specs.Unfolding.{IsLeft}
-use Rattle.ae_semantics.specs.Unfolding.{halt_place}
+use Rattle.ae_semantics.specs.Moments.{Moment, AgreesOnChanged}
+use Rattle.ae_semantics.specs.Trails.{Passage, trail}
+use Rattle.ae_semantics.specs.Unfolding.{uses_of, IsAfter, StandsFor, part_of_tree, trail_of, IsLeft, halt_place}
+use Rattle.ae_semantics.specs.BlockTrees.{BlockTree, Begun, NoMore, fresh, results, halted, left_out, Then, Halted}
+use Rattle.ae_semantics.specs.BlockTrees.{Finished, LeftOut, Waiting, Gained}
+use Rattle.ae_semantics.specs.Regions.{Within}
 use Rattle.ae_worked.proofs.ReportWords.{fork_of}
 use Rattle.ae_worked.proofs.RunExamples.{trap_beside_a_print}
 
@@ -35,26 +35,11 @@ every P (y ∷ ys) h x (zero, l, e) = subst P e h.0
 every P (y ∷ ys) h x (suc k, l, e) = every P ys h.1 x (k, omega (arith, l), e)
 
 abbrev pub no_values : Moment
-no_values = record { state = record { locals = λ x. None; groups = λ g. None; result = None }; log = [] }
+no_values = record { state = record { locals = λ x. None; groups = λ g. None; result = None }; log = []; cell = None }
 
 -- all statements wait
-abbrev begun : BlockFrame
+abbrev begun : BlockTree
 begun = given (fresh trap_beside_a_print []) (Begun no_values NoMore) (λ tree. tree)
-
-begun-entered : IsFrameEntered trap_beside_a_print (trail_of trap_beside_a_print [] 100 begun) [] begun
-unfolding part trail one many below
-begun-entered = (
-  _,
-  (0, omega arith, refl),
-  refl,
-  refl,
-  record {
-    locals = λ x h. refl;
-    groups = λ g h. refl;
-    result = refl;
-    log = λ h. refl;
-  },
-)
 
 fresh-stands : StandsFor trap_beside_a_print [] 100 begun
 unfolding part trail one many below
@@ -62,13 +47,29 @@ fresh-stands = record {
   each_left = every _ [] tt;
   each_turn = every _ [] tt;
   each_between = every _ [] tt;
+  first = (
+    _,
+    refl,
+    (
+      record {
+        locals = λ x. refl;
+        groups = λ g. refl;
+        result = refl;
+        log = refl;
+        cell = refl;
+      },
+      refl,
+    ),
+  );
   each_unfolded = every _ [] tt;
-  each_entered = every _ (frames begun) (begun-entered, tt);
+  each_entered = every _ [] tt;
   each_halt = every _ [] tt;
   each_left_out = every _ [] tt;
+  events_differ = tt;
+  cells_differ = tt;
   each_event = every _ [] tt;
   each_cell = every _ [] tt;
-  all_others = every _ (part_of_frame trap_beside_a_print [] 100 begun).ran (
+  all_others = every _ (part_of_tree trap_beside_a_print [] 100 begun).ran (
     inr (inl (Within (0 ∷ []), (0, omega arith, refl), refl)),
     (
       inr (inl (Within (1 ∷ []), (1, omega arith, refl), refl)),
@@ -82,7 +83,7 @@ fresh-stands = record {
 
 -- The first statement has ended, the second has left its local, the third is left out, and the print waits.
 abbrev pub nothing_gained : Gained
-nothing_gained = record { events = []; cells = [] }
+nothing_gained = record { events = []; cells = []; trace = [] }
 
 abbrev two : Bound
 two = record { form = f.Int; value = OfInt (pos 2) }
@@ -91,9 +92,10 @@ abbrev two_in_b : Moment
 two_in_b = record {
   state = record { locals = λ x. if nat_eq 4 x then Some two else None; groups = λ g. None; result = None };
   log = [];
+  cell = None;
 }
 
-abbrev halfway : BlockFrame
+abbrev halfway : BlockTree
 halfway = Begun no_values
     (Then (Halted (Trap 2 (at 2 1)) nothing_gained)
     (Then (Finished two_in_b nothing_gained)
@@ -120,21 +122,7 @@ second-left = (
     groups = λ g h. refl;
     result = refl;
     log = λ h. refl;
-  },
-)
-
-halfway-entered : IsFrameEntered trap_beside_a_print (trail_of trap_beside_a_print [] 100 halfway) [] halfway
-unfolding part trail one many below
-halfway-entered = (
-  _,
-  (0, omega arith, refl),
-  refl,
-  refl,
-  record {
-    locals = λ x h. refl;
-    groups = λ g h. refl;
-    result = refl;
-    log = λ h. refl;
+    cell = λ h. refl;
   },
 )
 
@@ -164,13 +152,29 @@ halfway-stands = record {
   each_left = every _ (results halfway) (((at 3 1, (1, omega arith, refl)), second-left), tt);
   each_turn = every _ [] tt;
   each_between = every _ [] tt;
+  first = (
+    _,
+    refl,
+    (
+      record {
+        locals = λ x. refl;
+        groups = λ g. refl;
+        result = refl;
+        log = refl;
+        cell = refl;
+      },
+      refl,
+    ),
+  );
   each_unfolded = every _ [] tt;
-  each_entered = every _ (frames halfway) (halfway-entered, tt);
+  each_entered = every _ [] tt;
   each_halt = every _ (halted halfway) (refl, tt);
   each_left_out = every _ (left_out halfway) (first-before-third, tt);
+  events_differ = tt;
+  cells_differ = tt;
   each_event = every _ [] tt;
   each_cell = every _ [] tt;
-  all_others = every _ (part_of_frame trap_beside_a_print [] 100 halfway).ran (
+  all_others = every _ (part_of_tree trap_beside_a_print [] 100 halfway).ran (
     inr (inl (Within (0 ∷ []), (1, omega arith, refl), refl)),
     (
       inl (Within (1 ∷ []), (0, omega arith, refl), refl),
@@ -191,6 +195,7 @@ three_in_b = record {
     result = None;
   };
   log = [];
+  cell = None;
 }
 
 abbrev int_in : Val → ℕ
@@ -214,5 +219,5 @@ unfolding part trail one many below
 not-left (x, (zero, l, e), q, h) =
     absurd (omega (arith, subst (λ b. number_in b ≡ 3) ((subst HasThree (sym e) h).locals 4 refl) refl))
 not-left (x, (suc zero, l, e), q, h) =
-    absurd (omega (arith, subst (λ r. head_of r ≡ 3) (subst (λ (y : Passage). y.path ≡ 1 ∷ []) (sym e) q) refl))
+    absurd (omega (arith, subst (λ r. head_of r ≡ 3) (subst (λ (y : Passage). y.here.path ≡ 1 ∷ []) (sym e) q) refl))
 not-left (x, (suc (suc k), l, e), q, h) = absurd (omega (arith, l))

@@ -5,11 +5,12 @@ use Rattle.ae_semantics.specs.Values.{OfInt}
 use Rattle.ae_semantics.specs.Places.{Bound}
 use Rattle.ae_semantics.specs.Meaning.{one, many, below}
 use Rattle.ae_semantics.specs.Atom.{part}
-use Rattle.ae_semantics.specs.Unfolding.{BlockFrame, Begun, NoMore, Then, Waiting, Loop, Finished, Moment, Trail}
-use Rattle.ae_semantics.specs.Unfolding.{Within}
-use Rattle.ae_semantics.specs.Unfolding.{FromTurn, Only, before_turn, trail, StandsFor, IsFrameEntered}
-use Rattle.ae_semantics.specs.Unfolding.{part_of_frame, trail_of}
-use Rattle.ae_semantics.specs.Unfolding.{results, turns, betweens, unfolded, frames}
+use Rattle.ae_semantics.specs.Moments.{Moment}
+use Rattle.ae_semantics.specs.BlockTrees.{BlockTree, Begun, NoMore, Then, Waiting, Loop, Finished, results, turns}
+use Rattle.ae_semantics.specs.BlockTrees.{betweens, unfolded}
+use Rattle.ae_semantics.specs.Unfolding.{before_turn, StandsFor, part_of_tree}
+use Rattle.ae_semantics.specs.Trails.{Trail, trail}
+use Rattle.ae_semantics.specs.Regions.{Within, FromTurn, Only}
 use Rattle.ae_worked.proofs.ProgramWords.{at}
 use Rattle.ae_worked.proofs.UnfoldingExamples.{every, nothing_gained}
 use Rattle.ae_worked.proofs.UnfoldingGroupExamples.{moment_at}
@@ -26,26 +27,11 @@ after_a_turn-is : option_map (λ (b : Bound). b.value) (after_a_turn.state.local
 unfolding trail one many below
 after_a_turn-is = refl
 
-abbrev between_turns : BlockFrame
+abbrev between_turns : BlockTree
 between_turns = Begun (moment_at noted.found 0)
     (Then (Finished (moment_at noted.left 0) nothing_gained)
     (Then (Loop 1 after_a_turn nothing_gained)
     (Then Waiting NoMore)))
-
-loop_entered : IsFrameEntered loop_of_three_turns (trail_of loop_of_three_turns [] 3 between_turns) [] between_turns
-unfolding part trail one many below
-loop_entered = (
-  _,
-  (0, omega arith, refl),
-  refl,
-  refl,
-  record {
-    locals = λ x h. refl;
-    groups = λ g h. refl;
-    result = refl;
-    log = λ h. refl;
-  },
-)
 
 between_turns-stands : StandsFor loop_of_three_turns [] 3 between_turns
 unfolding part trail one many below
@@ -62,6 +48,7 @@ between_turns-stands = record {
           groups = λ g h. refl;
           result = refl;
           log = λ h. refl;
+          cell = λ h. refl;
         },
       ),
     ),
@@ -78,17 +65,34 @@ between_turns-stands = record {
         groups = λ g h. refl;
         result = refl;
         log = λ h. refl;
+        cell = λ h. refl;
       },
     ),
     tt,
   );
+  first = (
+    _,
+    refl,
+    (
+      record {
+        locals = λ x. refl;
+        groups = λ g. refl;
+        result = refl;
+        log = refl;
+        cell = refl;
+      },
+      refl,
+    ),
+  );
   each_unfolded = every _ (unfolded between_turns) ((at 3 1, (1, omega arith, refl)), tt);
-  each_entered = every _ (frames between_turns) (loop_entered, tt);
+  each_entered = every _ [] tt;
   each_halt = every _ [] tt;
   each_left_out = every _ [] tt;
+  events_differ = tt;
+  cells_differ = tt;
   each_event = every _ [] tt;
   each_cell = every _ [] tt;
-  all_others = every _ (part_of_frame loop_of_three_turns [] 3 between_turns).ran (
+  all_others = every _ (part_of_tree loop_of_three_turns [] 3 between_turns).ran (
     inl (Within (0 ∷ []), (0, omega arith, refl), refl),
     (
       inr (inl (Only (1 ∷ []), (2, omega arith, refl), refl)),

@@ -14,7 +14,7 @@ use Rattle.aem.specs.declared.answer.Command.{Command}
 use Rattle.aem.specs.declared.answer.UsageKind.{UsageKind}
 use Rattle.aem.specs.Words.{command_of}
 use Rattle.ae_graph.specs.Graphs.{graph_text}
-use Rattle.aem.specs.Top.{IsWholeText, IsFirstBroken, IsMeant, IsDoneFor, IsDone, ByCommand, Caused, Answers}
+use Rattle.aem.specs.Top.{IsWholeText, IsFirstBroken, IsMeant, IsDoneFor, IsDone, ByCommand, Caused, HasItsCause}
 use Rattle.aem.specs.Top.{IsAsked, IsAnswered}
 use Rattle.aem.proofs.OneAnswer.{Laws, IsAccepted, one_source, refused_alone}
 

@@ -115,8 +115,8 @@ graph_is exact n uses below g k e rows = ext_get_or [] g (graph n uses k)
 no_scenes_in : (p : Code) (m : Definition) (a : Action) → IsBuiltAction a → (c : Context) → scenes_in p m false a c ≡ []
 no_scenes_in p m (Declares t x e) b s = refl
 no_scenes_in p m (Assigns x e) b s = refl
-no_scenes_in p m (Stores p e) b s = absurd b
-no_scenes_in p m (StoresAt p j e) b s = absurd b
+no_scenes_in p m (Stores q e) b s = absurd b
+no_scenes_in p m (StoresAt q j e) b s = absurd b
 no_scenes_in p m (Calls c) b s = absurd b
 no_scenes_in p m (Chooses e j c) b s = absurd b
 no_scenes_in p m (ChoosesElse e j c k f) b s = absurd b
@@ -127,7 +127,7 @@ no_scenes_in p m (Locks g j c) b s = absurd b
 no_scenes_in p m (Freezes x) b s = absurd b
 no_scenes_in p m (Shares x g) b s = absurd b
 no_scenes_in p m (Prints e) b s = refl
-no_scenes_in p m (PrintsText s) b s = absurd b
+no_scenes_in p m (PrintsText q) b s = absurd b
 no_scenes_in p m (Asserts e) b s = absurd b
 no_scenes_in p m (Returns e) b s = absurd b
 

@@ -24,7 +24,8 @@ use Rattle.ae_meaning.specs.declared.report.RunReport.{RunReport}
 use Rattle.ae_meaning.specs.declared.report.Ending.{Ending}
 use Rattle.ae_meaning.specs.declared.report.Ending.TheVariants as e
 use Rattle.ae_semantics.specs.Means.{seq}
-use Rattle.ae_semantics.specs.Observations as whole_ending
+use Rattle.ae_semantics.specs.declared.report.Ending as whole_ending
+use Rattle.ae_semantics.specs.declared.report.Ending.TheVariants as ends_whole
 use Rattle.ae_cases.specs.Laws.{as_whole}
 use Rattle.aem.specs.declared.answer.What.{What}
 use Rattle.aem.specs.declared.answer.What.TheVariants as w
@@ -35,7 +36,7 @@ use Rattle.aem.specs.Words.{command_of}
 use Rattle.aem.specs.Small.{IsSource}
 use Rattle.ae_graph.specs.Graphs.{graph_text}
 use Rattle.aem.specs.Top.{IsWholeText, IsFaultAt, IsTokenAt, IsBroken, IsFirstBroken, IsMeant, IsAnswer, IsDone}
-use Rattle.aem.specs.Top.{ByCommand, Caused, Answers, IsTold, IsOneAnswer, IsOnlyAnswer}
+use Rattle.aem.specs.Top.{ByCommand, Caused, HasItsCause, IsTold, IsOneAnswer, IsOnlyAnswer}
 
 -- what the layers below say of one text
 pub record Laws : Type 0 where
@@ -172,9 +173,9 @@ unbroken laws text p r at s built a short (inr b) = uncaused laws text p r at s 
 
 -- an ending of the whole language as one of today
 abbrev today_of : whole_ending.Ending → Ending
-today_of whole_ending.Done = e.Done
-today_of (whole_ending.Trap code at) = e.Trap code at
-today_of (whole_ending.Fuel at) = e.Fuel at
+today_of ends_whole.Done = e.Done
+today_of (ends_whole.Trap code at) = e.Trap code at
+today_of (ends_whole.Fuel at) = e.Fuel at
 
 today_as_whole : (x : Ending) → today_of (as_whole x) ≡ x
 today_as_whole e.Done = refl
@@ -184,7 +185,7 @@ today_as_whole (e.Fuel at) = refl
 -- the ending that is there
 abbrev ending_or : Option whole_ending.Ending → whole_ending.Ending
 ending_or (Some x) = x
-ending_or None = whole_ending.Done
+ending_or None = ends_whole.Done
 
 -- endings that are one in the whole language are one
 same_ending : (x y : Ending) (o : Option whole_ending.Ending) → Some (as_whole x) ≡ o → Some (as_whole y) ≡ o → x ≡ y
@@ -286,7 +287,7 @@ same_taken (Some xs) (Some ys) a b known x y = append_cancel_right b a ys (sym y
 
 -- so an answer that has a cause is the only one
 pub only_answer : IsOneAnswer → (words : List (List ℕ)) (before after : Option (List ℕ)) (what : What)
-    → Answers words before after what → IsOnlyAnswer words before after what
+    → HasItsCause words before after what → IsOnlyAnswer words before after what
 only_answer one words before after what (taken, consumed, caused) known told other is_told (others, also, causes) =
     one words taken after other what is_told told
     (subst (λ (l : List ℕ). Caused words l after other) (same_taken before after taken others known consumed also)

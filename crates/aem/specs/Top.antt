@@ -119,8 +119,8 @@ Caused words taken left w.Memory = Unit {0}
 Caused words taken left what = ByCommand (command_of words) taken left what
 
 -- some bytes were taken, and the answer has its cause in them
-abbrev pub Answers : List (List ℕ) → Option (List ℕ) → Option (List ℕ) → What → Type 0
-Answers words before after what = (taken : List ℕ) × Consumes before after taken × Caused words taken after what
+abbrev pub HasItsCause : List (List ℕ) → Option (List ℕ) → Option (List ℕ) → What → Type 0
+HasItsCause words before after what = (taken : List ℕ) × Consumes before after taken × Caused words taken after what
 
 -- the words and the bytes tell this answer: it is neither a failed read nor want of memory
 abbrev pub IsTold : What → Type 0
@@ -136,7 +136,7 @@ IsOneAnswer = (words : List (List ℕ)) (taken : List ℕ) (left : Option (List 
 -- of the answers that words and known bytes tell, no other one has a cause
 abbrev pub IsOnlyAnswer : List (List ℕ) → Option (List ℕ) → Option (List ℕ) → What → Type 0
 IsOnlyAnswer words before after what = IsSome before → IsTold what → (other : What) → IsTold other
-    → Answers words before after other → other ≡ what
+    → HasItsCause words before after other → other ≡ what
 
 -- the words ask for this command, and the source has a text of this program, which is accepted and of forms that run today
 pub record IsAsked (words : List (List ℕ)) (before : Option (List ℕ)) (command : Command) (program : Code) : Type
@@ -153,7 +153,7 @@ pub record IsAsked (words : List (List ℕ)) (before : Option (List ℕ)) (comma
 abbrev pub IsAnswered : Type 0
 IsAnswered = (words : List (List ℕ)) (before after : Option (List ℕ)) (what : What) (command : Command)
     (program : Code) →
-    IsAsked words before command program → Answers words before after what → (what ≡ w.ReadFault → ⊥)
+    IsAsked words before command program → HasItsCause words before after what → (what ≡ w.ReadFault → ⊥)
     → IsDoneFor command program what
 
 -- each accepted program that is asked for has the answer of its command, or want of memory, and nothing of it was cut

@@ -8,13 +8,9 @@ ghost use Rattle.ae_tree.specs.Built.{IsBuiltExpression, IsBuiltRight, IsBuiltTy
 ghost use Rattle.ae_tree.specs.Built.{Built};
 ghost use Rattle.aem.specs.Forms.{IsExclusiveIo, NeedsIo, IsPlainName, IsBare, IsBuiltMethod};
 
-use ae_tree::{Expr, GroupNeed, Method, Name, Need, Op, Path, Program, Rhs, Stmt, StmtKind, Ty};
-
-const IO: Name = 0;
-
-const MAIN: Name = 1;
-
-const THIS: Name = 2;
+use ae_tree::{
+    Expr, GroupNeed, IO, MAIN, Method, Name, Need, Op, Path, Program, Rhs, Stmt, StmtKind, THIS, Ty,
+};
 
 fn is_built_operator(op: Op) -> bool
     ensures { MatchBool result (3 ≤ level op) (3 ≤ level op → ⊥) }

@@ -7,11 +7,9 @@ ghost use Rattle.ae_tree.specs.Names.{io};
 ghost use Rattle.aem.specs.Names.{scope, FoundBroken, FoundIn};
 
 use ae_text::{Refusal, Rule};
-use ae_tree::{Expr, NameAt, Rhs, Stmt, StmtKind};
+use ae_tree::{Expr, IO, NameAt, Rhs, Stmt, StmtKind};
 use std::alloc::{AllocError, Global};
 use std::collections::HashSet;
-
-const IO: u32 = 0;
 
 fn unless_visible(seen: &HashSet<u32>, name: NameAt) -> Option<Refusal>
     ensures { FoundBroken (visible name.name name.at (scope seen.now)) (scope seen.now) result }

@@ -8,7 +8,7 @@ ghost use Rattle.ae_rules.specs.Judges.{Accepts};
 ghost use Rattle.aem.specs.Small.{IsSource, HasSource};
 ghost use Rattle.aem.specs.Texts.{output, whole_status, status_of};
 ghost use Rattle.aem.specs.declared.answer.Command.{Command};
-ghost use Rattle.aem.specs.Top.{HasBody, IsUnread, IsDoneFor, IsAnswer, Answers, IsTold, IsOneAnswer, IsOnlyAnswer};
+ghost use Rattle.aem.specs.Top.{HasBody, IsUnread, IsDoneFor, IsAnswer, HasItsCause, IsTold, IsOneAnswer, IsOnlyAnswer};
 ghost use Rattle.aem.specs.Top.{IsAsked, IsAnswered, IsComplete, Wrote, IsUsage};
 
 use crate::answer::{Answer, Command, What};
@@ -141,7 +141,7 @@ fn find_answer<S: Source, G: Gate>(
     source: &mut S,
     gate: &G,
 ) -> What
-    ensures answer { Answers (map string_bytes words.now) (S.left source.old) (S.left source.new) result }
+    ensures answer { HasItsCause (map string_bytes words.now) (S.left source.old) (S.left source.new) result }
     ensures later { S.faults source.old ≤ S.faults source.new }
     ensures fault { result ≡ What.ReadFault → Rose S.last (S.faults source.old) (S.faults source.new) }
     ensures kept { IsTold result → S.faults source.new ≡ S.faults source.old }
@@ -182,7 +182,7 @@ fn decide<S: Source, G: Gate>(
     source: &mut S,
     gate: &G,
 ) -> What
-    ensures answer { Answers (map string_bytes words.now) (S.left source.old) (S.left source.new) result }
+    ensures answer { HasItsCause (map string_bytes words.now) (S.left source.old) (S.left source.new) result }
     ensures only { IsOnlyAnswer (map string_bytes words.now) (S.left source.old) (S.left source.new) result }
     ensures later { S.faults source.old ≤ S.faults source.new }
     ensures fault { result ≡ What.ReadFault → Rose S.last (S.faults source.old) (S.faults source.new) }
@@ -208,7 +208,7 @@ pub fn aeminium<S: Source, K: Sink, G: Gate>(
     sink: &mut K,
     gate: &G,
 ) -> Answer
-    ensures answer { Answers (map string_bytes words.now) (S.left source.old) (S.left source.new) result.what }
+    ensures answer { HasItsCause (map string_bytes words.now) (S.left source.old) (S.left source.new) result.what }
     ensures only { IsOnlyAnswer (map string_bytes words.now) (S.left source.old) (S.left source.new) result.what }
     ensures unread { IsUsage result.what → source.new ≡ source.old }
     ensures source_faults { S.faults source.old ≤ S.faults source.new }
