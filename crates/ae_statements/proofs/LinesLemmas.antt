@@ -540,13 +540,9 @@ mutual
   pub opened_in_fits : (n : ℕ) (b : Lines) (us : Tokens) → statements n b us → opened_in b ≤ length us
   opened_in_fits n End us d = omega arith
   opened_in_fits n (Next at a rest) us d =
-      omega (
-        arith,
-        opened_fits n at a d.front d.first,
-        opened_in_fits (n + blocks_opened a) rest d.back d.second,
-        ap length d.parts,
-        length-append d.front d.back,
-      )
+      let action = opened_fits n at a d.front d.first in
+      let others = opened_in_fits (n + blocks_opened a) rest d.back d.second in
+      omega (arith, action, others, ap length d.parts, length-append d.front d.back)
 
 -- behind a block its tokens leave room for the numbers of more
 pub braced_room : {W : Bound Lines} {F : Follow} (n most : ℕ) (ts rest : Tokens) (b : Lines)
