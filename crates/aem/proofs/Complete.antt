@@ -1,6 +1,6 @@
 -- An accepted program that is asked for is answered.
-use Rattle.std.proofs.Common.{◌≡◌, ◌⊎◌, inl, inr, ℕ, ◌+◌, ◌≤◌, List, [], ◌∷◌, ◌++◌, Option, None, Some, Result, Ok}
-use Rattle.std.proofs.Common.{refl, sym, ap, ◌∙◌, subst, arith, length, length-append, append-nil}
+use Rattle.std.proofs.Common.{◌≡◌, ◌⊎◌, inl, inr, ℕ, ◌+◌, ◌≤◌, List, ◌++◌, Option, None, Some, Result, Ok}
+use Rattle.std.proofs.Common.{refl, ap, ◌∙◌, subst, arith, length, length-append, append-nil}
 use Rattle.std.specs.Io.KnownBytes.{Consumes, IsAtEnd}
 use Rattle.ae_text.specs.declared.refusal.Spot.{Spot}
 use Rattle.ae_text.specs.declared.refusal.Rule.{Rule}
@@ -13,9 +13,9 @@ use Rattle.aem.specs.declared.answer.What.TheVariants as w
 use Rattle.aem.specs.declared.answer.Command.{Command}
 use Rattle.aem.specs.declared.answer.UsageKind.{UsageKind}
 use Rattle.aem.specs.Words.{command_of}
-use Rattle.ae_graph.specs.Graphs.{graph_text}
-use Rattle.aem.specs.Top.{IsWholeText, IsFirstBroken, IsMeant, IsDoneFor, IsDone, ByCommand, Caused, HasItsCause}
-use Rattle.aem.specs.Top.{IsAsked, IsAnswered}
+use Rattle.aem.specs.Small.{IsSource}
+use Rattle.aem.specs.Top.{IsWholeText, IsFirstBroken, IsDoneFor, IsDoneForSource, IsDone, ByCommand, Caused}
+use Rattle.aem.specs.Top.{IsAnswered}
 use Rattle.aem.proofs.OneAnswer.{Laws, IsAccepted, one_source, refused_alone}
 
 -- where nothing of known bytes is left, all were taken
@@ -31,36 +31,44 @@ no_more_taken text taken None c = absurd c
 no_more_taken text taken (Some ys) c = omega (arith, ap length c ∙ length-append taken ys)
 
 -- a rule that is broken first: the text was read to its end, or is too long
-whole_or_long : (rule : Rule) (at : Spot) (taken : List ℕ) (left : Option (List ℕ)) → IsFirstBroken rule at taken left
-    → IsWholeText taken left ⊎ (length taken ≡ most + 1)
-whole_or_long TooLong at taken left b = inr b.1
-whole_or_long rule at taken left b = inl b.0
+whole_or_long : (command : Command) (rule : Rule) (at : Spot) (taken : List ℕ) (left : Option (List ℕ))
+    → IsFirstBroken command rule at taken left → IsWholeText taken left ⊎ (length taken ≡ most + 1)
+whole_or_long command TooLong at taken left b = inr b.1
+whole_or_long command rule at taken left b = inl b.0
 
 -- the text of an accepted program is not refused
-never_refused : Laws → (text taken : List ℕ) (left : Option (List ℕ)) (r : Refusal) (p : Code)
-    → Consumes (Some text) left taken → length text ≤ most → IsAccepted text p →
-    IsFirstBroken r.rule r.at taken left → ⊥
-never_refused laws text taken left r p c short a b =
-    elim (whole_or_long r.rule r.at taken left b) as (λ _. ⊥) [
-      | inl whole ↦ refused_alone laws taken left r p b whole
-          (subst (λ (l : List ℕ). IsAccepted l p) (all_were_taken text taken left c whole.1) a)
+never_refused : Laws → (command : Command) (text taken : List ℕ) (left : Option (List ℕ)) (r : Refusal) (p : Code)
+    → Consumes (Some text) left taken → length text ≤ most → IsAccepted command text p →
+    IsFirstBroken command r.rule r.at taken left → ⊥
+never_refused laws command text taken left r p c short a b =
+    elim (whole_or_long command r.rule r.at taken left b) as (λ _. ⊥) [
+      | inl whole ↦ refused_alone laws command taken left r p b whole
+          (subst (λ (l : List ℕ). IsAccepted command l p) (all_were_taken text taken left c whole.1) a)
       | inr long ↦ omega (arith, long, short, no_more_taken text taken left c)
     ]
+
+-- what is done for a source is done for its program
+done_for_one : Laws → (command : Command) (text taken : List ℕ) (left : Option (List ℕ)) (p : Code) (what : What)
+    → Consumes (Some text) left taken → IsWholeText taken left → IsSource text p → IsDoneForSource command taken what
+    → IsDoneFor command p what
+done_for_one laws command text taken left p what c t a (q, s, _, _, done) =
+    let b : IsSource taken p = subst (λ (l : List ℕ). IsSource l p) (all_were_taken text taken left c t.1) a in
+    subst (λ k. IsDoneFor command k what) (one_source laws taken p q b s) done
 
 -- what is done for a text is done for its program
 done_for_program : Laws → (command : Command) (text taken : List ℕ) (left : Option (List ℕ)) (p : Code) (what : What)
     → Consumes (Some text) left taken → length text ≤ most →
-    IsAccepted text p → (what ≡ w.ReadFault → ⊥) → IsDone command taken left what → IsDoneFor command p what
+    IsAccepted command text p → (what ≡ w.ReadFault → ⊥) → IsDone command taken left what → IsDoneFor command p what
 done_for_program laws command text taken left p (w.Usage kind) c short a n d = absurd d
 done_for_program laws command text taken left p w.ReadFault c short a n d = absurd (n refl)
 done_for_program laws command text taken left p (w.Refused r) c short a n d =
-    absurd (never_refused laws text taken left r p c short a d)
-done_for_program laws command text taken left p (w.Graph graph) c short a n (t, (is, (q, s, _, _, e))) =
-    let b : IsAccepted taken p = subst (λ (l : List ℕ). IsAccepted l p) (all_were_taken text taken left c t.1) a in
-    (is, e ∙ ap graph_text (one_source laws taken p q b.0 s))
-done_for_program laws command text taken left p (w.Ran report) c short a n (t, (is, (q, s, _, _, m))) =
-    let b : IsAccepted taken p = subst (λ (l : List ℕ). IsAccepted l p) (all_were_taken text taken left c t.1) a in
-    (is, subst (IsMeant report) (one_source laws taken p q b.0 s) m)
+    absurd (never_refused laws command text taken left r p c short a d)
+done_for_program laws command text taken left p w.Checked c short a n (t, d) =
+    done_for_one laws command text taken left p w.Checked c t a.0 d
+done_for_program laws command text taken left p (w.Graph graph) c short a n (t, d) =
+    done_for_one laws command text taken left p (w.Graph graph) c t a.0 d
+done_for_program laws command text taken left p (w.Ran report) c short a n (t, d) =
+    done_for_one laws command text taken left p (w.Ran report) c t a.0 d
 done_for_program laws command text taken left p w.Memory c short a n d = tt
 
 -- an answer with a cause is done for the command that the words ask for
@@ -74,6 +82,8 @@ done_as_asked words command taken left w.ReadFault e c = let P : Result Command 
     λ r. ByCommand r taken left w.ReadFault in subst P e c
 done_as_asked words command taken left (w.Refused x) e c = let P : Result Command UsageKind → Type 0 =
     λ r. ByCommand r taken left (w.Refused x) in subst P e c
+done_as_asked words command taken left w.Checked e c = let P : Result Command UsageKind → Type 0 =
+    λ r. ByCommand r taken left w.Checked in subst P e c
 done_as_asked words command taken left (w.Graph x) e c = let P : Result Command UsageKind → Type 0 =
     λ r. ByCommand r taken left (w.Graph x) in subst P e c
 done_as_asked words command taken left (w.Ran x) e c = let P : Result Command UsageKind → Type 0 =

@@ -6,7 +6,6 @@ use Rattle.std.proofs.Common.{append-nil}
 use Rattle.std.specs.Prelude.{codes, if◌then◌else◌}
 use Rattle.std.specs.List.{Contains, flat_map}
 use Rattle.std.proofs.lemmas.List.{ext_get_or, get_or_append_left, get_or_push, length-append, length-map, get_or-map}
-use Rattle.std.proofs.lemmas.Bool.Decides.{nat_tests}
 use Rattle.std.proofs.lemmas.Bool.{cases_order}
 use Rattle.ae_tree.specs.Plain.{Action, Declares, Assigns, Stores, StoresAt, Calls, Chooses, ChoosesElse, Repeats}
 use Rattle.ae_tree.specs.Plain.{Groups, Splits, Locks, Freezes, Shares, Prints, PrintsText, Asserts, Returns, Lines}
@@ -24,7 +23,7 @@ use Rattle.ae_rules.specs.Statements.{judge_statement}
 use Rattle.ae_rules.specs.Judges.{start}
 use Rattle.ae_rules.specs.EdgeLists.{preds, graph, those_below}
 use Rattle.ae_rules.specs.EdgeLaws.{NamesBelow, PredsAreEdges}
-use Rattle.ae_rules.specs.Blocks.{Scene, Opened, body_scene as body_scene, scene, scene_numbered, scenes_in}
+use Rattle.ae_rules.specs.Blocks.{Opened, body_scene as body_scene, scene, scene_numbered, scenes_in}
 use Rattle.ae_rules.specs.Blocks.{scenes_among, scene_uses, scene_graph}
 use Rattle.ae_rules.specs.Cases.{DeclaresOne, TodaysUsesAreACase}
 use Rattle.ae_graph.specs.Graph.{Graph, IsGraph, preds_in}

@@ -1,9 +1,8 @@
 -- What a statement of a well shaped program uses are names of the program.
-use Rattle.std.proofs.Common.{◌≡◌, ◌<◌, ◌⊎◌, inl, inr, refl, subst, ap, ℕ, zero, suc, ◌++◌, nat_eq, slice_index_or}
-use Rattle.std.proofs.Common.{Bool, true, false, ◌||◌, List, [], length, None, Some, arith}
+use Rattle.std.proofs.Common.{◌≡◌, ◌<◌, inl, inr, refl, subst, ap, ℕ, zero, suc, ◌++◌, nat_eq, slice_index_or}
+use Rattle.std.proofs.Common.{Bool, true, false, List, [], length, None, Some, arith}
 use Rattle.std.specs.Prelude.{All, if◌then◌else◌}
 use Rattle.std.proofs.lemmas.List.Elements.{All-head}
-use Rattle.std.proofs.lemmas.Bool.Decides.{nat_tests}
 use Rattle.ae_rules.specs.declared.uses.Resource.{Resource}
 use Rattle.ae_rules.specs.declared.uses.Resource.TheVariants as resource
 use Rattle.ae_rules.specs.declared.uses.Mode.{Mode}

@@ -7,14 +7,13 @@ use Rattle.ae_text.specs.declared.refusal.Spot.{Spot}
 use Rattle.ae_text.specs.declared.refusal.Rule.{Rule}
 use Rattle.ae_text.specs.declared.refusal.Rule.TheVariants.{NotText, BadChar, IntTooLarge, OpenText, TooLong}
 use Rattle.ae_text.specs.declared.refusal.Rule.TheVariants.{Unexpected, BlockTooLong, TooDeep, TooManyParams}
-use Rattle.ae_text.specs.declared.refusal.Rule.TheVariants.{NotBuilt, UnknownName, DuplicateLocal}
+use Rattle.ae_text.specs.declared.refusal.Rule.TheVariants.{NotBuilt}
 use Rattle.ae_text.specs.declared.refusal.Refusal.{Refusal}
 use Rattle.ae_text.specs.declared.token.Token.{Token}
 use Rattle.ae_text.specs.Tokens.{Lexes, LexFault, place, first_spot}
 use Rattle.ae_text.specs.Whole.{most}
 use Rattle.ae_tree.specs.Plain.{Code}
 use Rattle.ae_tree.specs.Grammar.{Derives}
-use Rattle.ae_tree.specs.Built.{Built}
 use Rattle.ae_tree.specs.Refused.{IsRefused}
 use Rattle.ae_parser.specs.Laws.{IsOneRefusal, NoProgramIsRefused}
 use Rattle.ae_parser.specs.Laws.{IsOneProgram}
@@ -30,12 +29,11 @@ use Rattle.ae_cases.specs.Laws.{as_whole}
 use Rattle.aem.specs.declared.answer.What.{What}
 use Rattle.aem.specs.declared.answer.What.TheVariants as w
 use Rattle.aem.specs.declared.answer.Command.{Command}
-use Rattle.aem.specs.declared.answer.Command.TheVariants.{Graph, Run}
 use Rattle.aem.specs.declared.answer.UsageKind.{UsageKind}
 use Rattle.aem.specs.Words.{command_of}
 use Rattle.aem.specs.Small.{IsSource}
-use Rattle.ae_graph.specs.Graphs.{graph_text}
-use Rattle.aem.specs.Top.{IsWholeText, IsFaultAt, IsTokenAt, IsBroken, IsFirstBroken, IsMeant, IsAnswer, IsDone}
+use Rattle.aem.specs.Top.{IsWholeText, IsFaultAt, IsTokenAt, IsOfMode, IsBroken, IsFirstBroken, IsMeant}
+use Rattle.aem.specs.Top.{IsDoneFor, IsDoneForSource, IsDone}
 use Rattle.aem.specs.Top.{ByCommand, Caused, HasItsCause, IsTold, IsOneAnswer, IsOnlyAnswer}
 
 -- what the layers below say of one text
@@ -49,33 +47,34 @@ pub record Laws : Type 0 where
   pub never_both : NeverAcceptedAndBroken
   pub first : FirstIsOne
 
--- why a program is refused: it is not built, or it breaks this rule first
-abbrev IsProgramBroken : Rule → Spot → Code → Type 0
-IsProgramBroken rule at p = ((rule ≡ NotBuilt) × (at ≡ first_spot) × (Built p → ⊥)) ⊎ (Built p × FirstBroken p rule at)
+-- why a program is refused: it has a form that the mode does not have, or it breaks this rule first
+abbrev IsProgramBroken : Command → Rule → Spot → Code → Type 0
+IsProgramBroken command rule at p = ((rule ≡ NotBuilt) × (at ≡ first_spot) × (IsOfMode command p → ⊥))
+    ⊎ (IsOfMode command p × FirstBroken p rule at)
 
 -- the text is a source of a program that is refused
-abbrev IsProgramAt : Rule → Spot → List ℕ → Type 0
-IsProgramAt rule at text = (p : Code) × IsSource text p × IsProgramBroken rule at p
+abbrev IsRefusedProgram : Command → Rule → Spot → List ℕ → Type 0
+IsRefusedProgram command rule at text = (p : Code) × IsSource text p × IsProgramBroken command rule at p
 
 -- the cause of a refusal, by the layer that finds it
-data Cause (rule : Rule) (at : Spot) (text : List ℕ) : Type 0 where
-  Fault : IsFaultAt rule at text → Cause rule at text
-  Refused : IsTokenAt rule at text → Cause rule at text
-  Program : IsProgramAt rule at text → Cause rule at text
+data Cause (command : Command) (rule : Rule) (at : Spot) (text : List ℕ) : Type 0 where
+  Fault : IsFaultAt rule at text → Cause command rule at text
+  Refused : IsTokenAt rule at text → Cause command rule at text
+  Program : IsRefusedProgram command rule at text → Cause command rule at text
 
-cause : (rule : Rule) (at : Spot) (text : List ℕ) → IsBroken rule at text → Cause rule at text
-cause NotText at text b = Fault b
-cause BadChar at text b = Fault b
-cause IntTooLarge at text b = Fault b
-cause OpenText at text b = Fault b
-cause Unexpected at text b = Refused b
-cause BlockTooLong at text b = Refused b
-cause TooDeep at text b = Refused b
-cause TooManyParams at text b = Refused b
-cause NotBuilt at text b = Program (b.1.0, b.1.1, inl (refl, b.0, b.1.2))
-cause UnknownName at text b = Program (b.0, b.1, inr (b.2, b.3))
-cause DuplicateLocal at text b = Program (b.0, b.1, inr (b.2, b.3))
-cause rule at text b = absurd b
+cause : (command : Command) (rule : Rule) (at : Spot) (text : List ℕ) → IsBroken command rule at text
+    → Cause command rule at text
+cause command NotText at text b = Fault b
+cause command BadChar at text b = Fault b
+cause command IntTooLarge at text b = Fault b
+cause command OpenText at text b = Fault b
+cause command Unexpected at text b = Refused b
+cause command BlockTooLong at text b = Refused b
+cause command TooDeep at text b = Refused b
+cause command TooManyParams at text b = Refused b
+cause command NotBuilt at text b = Program (b.1.0, b.1.1, inl (refl, b.0, b.1.2))
+cause command TooLong at text b = absurd b
+cause command rule at text b = Program (b.0, b.1, inr (b.2, b.3))
 
 -- a text is a source of one program
 pub one_source : Laws → (text : List ℕ) (p q : Code) → IsSource text p → IsSource text q → q ≡ p
@@ -107,67 +106,69 @@ two_tokens laws text r s at spot a b =
     laws.refusal b.0 r s at spot (subst (λ (l : List Token). IsRefused l r at) (laws.tokens text a.0 b.0 a.1 b.1) a.2)
     b.2
 
-same_program : Laws → (p : Code) (r s : Rule) (at spot : Spot) → IsProgramBroken r at p → IsProgramBroken s spot p
-    → Same r at s spot
-same_program laws p r s at spot (inl a) (inl b) = (a.0 ∙ sym b.0, a.1 ∙ sym b.1)
-same_program laws p r s at spot (inl a) (inr b) = absurd (a.2 b.0)
-same_program laws p r s at spot (inr a) (inl b) = absurd (b.2 a.0)
-same_program laws p r s at spot (inr a) (inr b) = laws.first p r s at spot a.1 b.1
+same_program : Laws → (command : Command) (p : Code) (r s : Rule) (at spot : Spot) → IsProgramBroken command r at p
+    → IsProgramBroken command s spot p → Same r at s spot
+same_program laws command p r s at spot (inl a) (inl b) = (a.0 ∙ sym b.0, a.1 ∙ sym b.1)
+same_program laws command p r s at spot (inl a) (inr b) = absurd (a.2 b.0)
+same_program laws command p r s at spot (inr a) (inl b) = absurd (b.2 a.0)
+same_program laws command p r s at spot (inr a) (inr b) = laws.first p r s at spot a.1 b.1
 
-two_programs : Laws → (text : List ℕ) (r s : Rule) (at spot : Spot) → IsProgramAt r at text → IsProgramAt s spot text
-    → Same r at s spot
-two_programs laws text r s at spot a b
-    = same_program laws a.0 r s at spot a.2 (subst (IsProgramBroken s spot) (one_source laws text a.0 b.0 a.1 b.1) b.2)
+two_programs : Laws → (command : Command) (text : List ℕ) (r s : Rule) (at spot : Spot)
+    → IsRefusedProgram command r at text → IsRefusedProgram command s spot text → Same r at s spot
+two_programs laws command text r s at spot a b
+    = same_program laws command a.0 r s at spot a.2
+    (subst (IsProgramBroken command s spot) (one_source laws text a.0 b.0 a.1 b.1) b.2)
 
-two_causes : Laws → (text : List ℕ) (r s : Rule) (at spot : Spot) → Cause r at text → Cause s spot text
-    → Same r at s spot
-two_causes laws text r s at spot (Fault a) (Fault b) = two_faults laws text r s at spot a b
-two_causes laws text r s at spot (Fault a) (Refused b) = absurd (laws.no_tokens text r a.0 b.0 a.1 b.1)
-two_causes laws text r s at spot (Fault a) (Program b) = absurd (fault_alone laws text r at b.0 a b.1)
-two_causes laws text r s at spot (Refused a) (Fault b) = absurd (laws.no_tokens text s b.0 a.0 b.1 a.1)
-two_causes laws text r s at spot (Refused a) (Refused b) = two_tokens laws text r s at spot a b
-two_causes laws text r s at spot (Refused a) (Program b) = absurd (token_alone laws text r at b.0 a b.1)
-two_causes laws text r s at spot (Program a) (Fault b) = absurd (fault_alone laws text s spot a.0 b a.1)
-two_causes laws text r s at spot (Program a) (Refused b) = absurd (token_alone laws text s spot a.0 b a.1)
-two_causes laws text r s at spot (Program a) (Program b) = two_programs laws text r s at spot a b
+two_causes : Laws → (command : Command) (text : List ℕ) (r s : Rule) (at spot : Spot) → Cause command r at text
+    → Cause command s spot text → Same r at s spot
+two_causes laws command text r s at spot (Fault a) (Fault b) = two_faults laws text r s at spot a b
+two_causes laws command text r s at spot (Fault a) (Refused b) = absurd (laws.no_tokens text r a.0 b.0 a.1 b.1)
+two_causes laws command text r s at spot (Fault a) (Program b) = absurd (fault_alone laws text r at b.0 a b.1)
+two_causes laws command text r s at spot (Refused a) (Fault b) = absurd (laws.no_tokens text s b.0 a.0 b.1 a.1)
+two_causes laws command text r s at spot (Refused a) (Refused b) = two_tokens laws text r s at spot a b
+two_causes laws command text r s at spot (Refused a) (Program b) = absurd (token_alone laws text r at b.0 a b.1)
+two_causes laws command text r s at spot (Program a) (Fault b) = absurd (fault_alone laws text s spot a.0 b a.1)
+two_causes laws command text r s at spot (Program a) (Refused b) = absurd (token_alone laws text s spot a.0 b a.1)
+two_causes laws command text r s at spot (Program a) (Program b) = two_programs laws command text r s at spot a b
 
--- a built program that the rules accept breaks none
-program_unbroken : Laws → (p : Code) (r : Rule) (at : Spot) → Built p → Accepts p → IsProgramBroken r at p → ⊥
-program_unbroken laws p r at built a (inl b) = b.2 built
-program_unbroken laws p r at built a (inr b) = laws.never_both p r at a b.1
+-- a program of the mode's forms that the rules accept breaks none
+program_unbroken : Laws → (command : Command) (p : Code) (r : Rule) (at : Spot) → IsOfMode command p → Accepts p
+    → IsProgramBroken command r at p → ⊥
+program_unbroken laws command p r at built a (inl b) = b.2 built
+program_unbroken laws command p r at built a (inr b) = laws.never_both p r at a b.1
 
 -- the text of an accepted program has no cause of a refusal
-uncaused : Laws → (text : List ℕ) (p : Code) (r : Rule) (at : Spot) → IsSource text p → Built p → Accepts p
-    → Cause r at text → ⊥
-uncaused laws text p r at s built a (Fault f) = fault_alone laws text r at p f s
-uncaused laws text p r at s built a (Refused t) = token_alone laws text r at p t s
-uncaused laws text p r at s built a (Program b) = program_unbroken laws p r at built a
-    (subst (IsProgramBroken r at) (one_source laws text p b.0 s b.1) b.2)
+uncaused : Laws → (command : Command) (text : List ℕ) (p : Code) (r : Rule) (at : Spot) → IsSource text p
+    → IsOfMode command p → Accepts p → Cause command r at text → ⊥
+uncaused laws command text p r at s built a (Fault f) = fault_alone laws text r at p f s
+uncaused laws command text p r at s built a (Refused t) = token_alone laws text r at p t s
+uncaused laws command text p r at s built a (Program b) = program_unbroken laws command p r at built a
+    (subst (IsProgramBroken command r at) (one_source laws text p b.0 s b.1) b.2)
 
 -- a rule that a text breaks first: the text is too long, or was read to its end and is broken
-abbrev IsLongOrBroken : Rule → Spot → List ℕ → Type 0
-IsLongOrBroken rule at text = ((rule ≡ TooLong) × (at ≡ first_spot) × (length text ≡ most + 1))
-    ⊎ ((length text ≤ most) × Cause rule at text)
+abbrev IsLongOrBroken : Command → Rule → Spot → List ℕ → Type 0
+IsLongOrBroken command rule at text = ((rule ≡ TooLong) × (at ≡ first_spot) × (length text ≡ most + 1))
+    ⊎ ((length text ≤ most) × Cause command rule at text)
 
-long_or_broken : (rule : Rule) (at : Spot) (taken : List ℕ) (left : Option (List ℕ))
-    → IsFirstBroken rule at taken left → IsLongOrBroken rule at taken
-long_or_broken TooLong at taken left b = inl (refl, b.0, b.1)
-long_or_broken rule at taken left b = inr (b.0.0, cause rule at taken b.1)
+long_or_broken : (command : Command) (rule : Rule) (at : Spot) (taken : List ℕ) (left : Option (List ℕ))
+    → IsFirstBroken command rule at taken left → IsLongOrBroken command rule at taken
+long_or_broken command TooLong at taken left b = inl (refl, b.0, b.1)
+long_or_broken command rule at taken left b = inr (b.0.0, cause command rule at taken b.1)
 
 not_long : (text : List ℕ) → length text ≡ most + 1 → length text ≤ most → ⊥
 not_long text long short = omega (arith, long, short)
 
-two_broken : Laws → (text : List ℕ) (r s : Rule) (at spot : Spot) → IsLongOrBroken r at text
-    → IsLongOrBroken s spot text → Same r at s spot
-two_broken laws text r s at spot (inl a) (inl b) = (a.0 ∙ sym b.0, a.1 ∙ sym b.1)
-two_broken laws text r s at spot (inl a) (inr b) = absurd (not_long text a.2 b.0)
-two_broken laws text r s at spot (inr a) (inl b) = absurd (not_long text b.2 a.0)
-two_broken laws text r s at spot (inr a) (inr b) = two_causes laws text r s at spot a.1 b.1
+two_broken : Laws → (command : Command) (text : List ℕ) (r s : Rule) (at spot : Spot)
+    → IsLongOrBroken command r at text → IsLongOrBroken command s spot text → Same r at s spot
+two_broken laws command text r s at spot (inl a) (inl b) = (a.0 ∙ sym b.0, a.1 ∙ sym b.1)
+two_broken laws command text r s at spot (inl a) (inr b) = absurd (not_long text a.2 b.0)
+two_broken laws command text r s at spot (inr a) (inl b) = absurd (not_long text b.2 a.0)
+two_broken laws command text r s at spot (inr a) (inr b) = two_causes laws command text r s at spot a.1 b.1
 
-unbroken : Laws → (text : List ℕ) (p : Code) (r : Rule) (at : Spot) → IsSource text p → Built p → Accepts p
-    → length text ≤ most → IsLongOrBroken r at text → ⊥
-unbroken laws text p r at s built a short (inl b) = not_long text b.2 short
-unbroken laws text p r at s built a short (inr b) = uncaused laws text p r at s built a b.1
+unbroken : Laws → (command : Command) (text : List ℕ) (p : Code) (r : Rule) (at : Spot) → IsSource text p
+    → IsOfMode command p → Accepts p → length text ≤ most → IsLongOrBroken command r at text → ⊥
+unbroken laws command text p r at s built a short (inl b) = not_long text b.2 short
+unbroken laws command text p r at s built a short (inr b) = uncaused laws command text p r at s built a b.1
 
 -- ---- reports
 
@@ -210,52 +211,80 @@ same_refusal x y a b = ap (λ z. refusal z x.at) a ∙ ap (refusal y.rule) b
 -- ---- answers
 
 -- an accepted program of this text
-abbrev pub IsAccepted : List ℕ → Code → Type 0
-IsAccepted text p = IsSource text p × Built p × Accepts p
+abbrev pub IsAccepted : Command → List ℕ → Code → Type 0
+IsAccepted command text p = IsSource text p × IsOfMode command p × Accepts p
 
-pub refused_alone : Laws → (taken : List ℕ) (left : Option (List ℕ)) (r : Refusal) (p : Code)
-    → IsFirstBroken r.rule r.at taken left → IsWholeText taken left → IsAccepted taken p → ⊥
-refused_alone laws taken left r p b t a = unbroken laws taken p r.rule r.at a.0 a.1 a.2 t.0
-    (long_or_broken r.rule r.at taken left b)
+pub refused_alone : Laws → (command : Command) (taken : List ℕ) (left : Option (List ℕ)) (r : Refusal) (p : Code)
+    → IsFirstBroken command r.rule r.at taken left → IsWholeText taken left → IsAccepted command taken p → ⊥
+refused_alone laws command taken left r p b t a = unbroken laws command taken p r.rule r.at a.0 a.1 a.2 t.0
+    (long_or_broken command r.rule r.at taken left b)
 
-not_both_modes : (command : Command) → command ≡ Graph → command ≡ Run → ⊥
-not_both_modes command a b = cc
+-- a text that is refused is not that of an accepted program
+refused_or_done : Laws → (command : Command) (taken : List ℕ) (left : Option (List ℕ)) (r : Refusal) (what : What)
+    → IsFirstBroken command r.rule r.at taken left → IsWholeText taken left → IsDoneForSource command taken what → ⊥
+refused_or_done laws command taken left r what x t (p, s, b, a, _) =
+    refused_alone laws command taken left r p x t (s, b, a)
 
-two_graphs : Laws → (command : Command) (text : List ℕ) (x y : List ℕ) → IsAnswer command text (w.Graph x)
-    → IsAnswer command text (w.Graph y) → x ≡ y
-two_graphs laws command text x y (c, (p, s, _, _, a)) (d, (q, z, _, _, b)) = a
-    ∙ ap graph_text (sym (one_source laws text p q s z)) ∙ sym b
+-- what an accepted program comes to is one thing
+one_done_for : (command : Command) (p : Code) (a b : What) → IsTold a → IsTold b → IsDoneFor command p a
+    → IsDoneFor command p b → a ≡ b
+one_done_for command p w.Checked w.Checked _ _ x y = refl
+one_done_for command p w.Checked (w.Graph h) _ _ x y = let no : ⊥ = cc in absurd no
+one_done_for command p w.Checked (w.Ran h) _ _ x y = let no : ⊥ = cc in absurd no
+one_done_for command p (w.Graph g) w.Checked _ _ x y = let no : ⊥ = cc in absurd no
+one_done_for command p (w.Graph g) (w.Graph h) _ _ x y = ap w.Graph (x.1 ∙ sym y.1)
+one_done_for command p (w.Graph g) (w.Ran h) _ _ x y = let no : ⊥ = cc in absurd no
+one_done_for command p (w.Ran g) w.Checked _ _ x y = let no : ⊥ = cc in absurd no
+one_done_for command p (w.Ran g) (w.Graph h) _ _ x y = let no : ⊥ = cc in absurd no
+one_done_for command p (w.Ran g) (w.Ran h) _ _ x y = ap w.Ran (two_reports g h p x.1 y.1)
+one_done_for command p (w.Usage k) b _ _ x y = absurd x
+one_done_for command p w.ReadFault b _ _ x y = absurd x
+one_done_for command p (w.Refused r) b _ _ x y = absurd x
+one_done_for command p w.Memory b i _ x y = absurd i
+one_done_for command p a (w.Usage k) _ _ x y = absurd y
+one_done_for command p a w.ReadFault _ _ x y = absurd y
+one_done_for command p a (w.Refused r) _ _ x y = absurd y
+one_done_for command p a w.Memory _ i x y = absurd i
 
-two_runs : Laws → (command : Command) (text : List ℕ) (x y : RunReport) → IsAnswer command text (w.Ran x)
-    → IsAnswer command text (w.Ran y) → x ≡ y
-two_runs laws command text x y (c, (p, s, _, _, a)) (d, (q, z, _, _, b)) = two_reports x y p a
-    (subst (IsMeant y) (one_source laws text p q s z) b)
+-- and so is what the accepted program of a text comes to
+one_done_for_source : Laws → (command : Command) (text : List ℕ) (a b : What) → IsTold a → IsTold b
+    → IsDoneForSource command text a → IsDoneForSource command text b → a ≡ b
+one_done_for_source laws command text a b i j (p, s, _, _, x) (q, z, _, _, y) =
+    one_done_for command p a b i j x (subst (λ k. IsDoneFor command k b) (one_source laws text p q s z) y)
+
+-- a text that was read to its end is refused, or has an accepted program
+data Settled (command : Command) (taken : List ℕ) (left : Option (List ℕ)) (what : What) : Type 0 where
+  IsRefusal : (r : Refusal) → what ≡ w.Refused r → IsFirstBroken command r.rule r.at taken left
+      → Settled command taken left what
+  IsResult : IsWholeText taken left → IsDoneForSource command taken what → Settled command taken left what
+
+settled : (command : Command) (taken : List ℕ) (left : Option (List ℕ)) (a : What) → IsTold a
+    → IsDone command taken left a → Settled command taken left a
+settled command taken left (w.Usage k) i x = absurd x
+settled command taken left w.ReadFault i x = absurd i
+settled command taken left (w.Refused r) i x = IsRefusal r refl x
+settled command taken left w.Checked i x = IsResult x.0 x.1
+settled command taken left (w.Graph g) i x = IsResult x.0 x.1
+settled command taken left (w.Ran g) i x = IsResult x.0 x.1
+settled command taken left w.Memory i x = absurd i
+
+one_settled : Laws → (command : Command) (taken : List ℕ) (left : Option (List ℕ)) (a b : What) → IsTold a → IsTold b
+    → Settled command taken left a → Settled command taken left b → a ≡ b
+one_settled laws command taken left a b _ _ (IsRefusal r e x) (IsRefusal s f y) =
+    let same = two_broken laws command taken r.rule s.rule r.at s.at
+    (long_or_broken command r.rule r.at taken left x) (long_or_broken command s.rule s.at taken left y) in
+    e ∙ ap w.Refused (same_refusal r s same.0 same.1) ∙ sym f
+one_settled laws command taken left a b _ _ (IsRefusal r e x) (IsResult t y) =
+    absurd (refused_or_done laws command taken left r b x t y)
+one_settled laws command taken left a b _ _ (IsResult t x) (IsRefusal s f y) =
+    absurd (refused_or_done laws command taken left s a y t x)
+one_settled laws command taken left a b i j (IsResult t x) (IsResult u y) =
+    one_done_for_source laws command taken a b i j x y
 
 one_done : Laws → (command : Command) (taken : List ℕ) (left : Option (List ℕ)) (a b : What) → IsTold a → IsTold b
     → IsDone command taken left a → IsDone command taken left b → a ≡ b
-one_done laws command taken left (w.Refused r) (w.Refused s) _ _ x y =
-    let same = two_broken laws taken r.rule s.rule r.at s.at (long_or_broken r.rule r.at taken left x)
-    (long_or_broken s.rule s.at taken left y) in
-    ap w.Refused (same_refusal r s same.0 same.1)
-one_done laws command taken left (w.Refused r) (w.Graph g) _ _ x (t, (_, (p, s, b, a, _))) =
-    absurd (refused_alone laws taken left r p x t (s, b, a))
-one_done laws command taken left (w.Refused r) (w.Ran g) _ _ x (t, (_, (p, s, b, a, _))) =
-    absurd (refused_alone laws taken left r p x t (s, b, a))
-one_done laws command taken left (w.Graph g) (w.Refused r) _ _ (t, (_, (p, s, b, a, _))) y =
-    absurd (refused_alone laws taken left r p y t (s, b, a))
-one_done laws command taken left (w.Graph g) (w.Graph h) _ _ x y = ap w.Graph
-    (two_graphs laws command taken g h x.1 y.1)
-one_done laws command taken left (w.Graph g) (w.Ran h) _ _ x y = absurd (not_both_modes command x.1.0 y.1.0)
-one_done laws command taken left (w.Ran g) (w.Refused r) _ _ (t, (_, (p, s, b, a, _))) y =
-    absurd (refused_alone laws taken left r p y t (s, b, a))
-one_done laws command taken left (w.Ran g) (w.Graph h) _ _ x y = absurd (not_both_modes command y.1.0 x.1.0)
-one_done laws command taken left (w.Ran g) (w.Ran h) _ _ x y = ap w.Ran (two_runs laws command taken g h x.1 y.1)
-one_done laws command taken left (w.Usage k) b _ _ x y = absurd x
-one_done laws command taken left w.ReadFault b i _ x y = absurd i
-one_done laws command taken left w.Memory b i _ x y = absurd i
-one_done laws command taken left a (w.Usage k) _ _ x y = absurd y
-one_done laws command taken left a w.ReadFault _ i x y = absurd i
-one_done laws command taken left a w.Memory _ i x y = absurd i
+one_done laws command taken left a b i j x y =
+    one_settled laws command taken left a b i j (settled command taken left a i x) (settled command taken left b j y)
 
 one_by : Laws → (asked : Result Command UsageKind) (taken : List ℕ) (left : Option (List ℕ)) (a b : What) → IsTold a
     → IsTold b → ByCommand asked taken left a → ByCommand asked taken left b → a ≡ b
@@ -268,6 +297,7 @@ by_command : (words : List (List ℕ)) (taken : List ℕ) (left : Option (List �
 by_command words taken left (w.Usage kind) i c = c
 by_command words taken left w.ReadFault i c = c
 by_command words taken left (w.Refused r) i c = c
+by_command words taken left w.Checked i c = c
 by_command words taken left (w.Graph graph) i c = c
 by_command words taken left (w.Ran report) i c = c
 by_command words taken left w.Memory i c = absurd i

@@ -25,30 +25,30 @@ use Rattle.aem.specs.Words.{command_of}
 use Rattle.aem.specs.Top.{IsUnread, IsWholeText, IsBroken, IsFirstBroken, IsAnswer, IsDone, ByCommand, Caused}
 
 -- a fault that stands there is that of a rule of texts
-fault_broken : (r : Rule) (at : Spot) (text : List ℕ) (offset : ℕ) → LexFault text r offset → at ≡ place text offset
-    → IsBroken r at text
-fault_broken NotText at text offset f e = (offset, f, e)
-fault_broken BadChar at text offset f e = (offset, f, e)
-fault_broken IntTooLarge at text offset f e = (offset, f, e)
-fault_broken OpenText at text offset f e = (offset, f, e)
-fault_broken r at text offset f e = absurd f.fault
+fault_broken : (command : Command) (r : Rule) (at : Spot) (text : List ℕ) (offset : ℕ) → LexFault text r offset
+    → at ≡ place text offset → IsBroken command r at text
+fault_broken command NotText at text offset f e = (offset, f, e)
+fault_broken command BadChar at text offset f e = (offset, f, e)
+fault_broken command IntTooLarge at text offset f e = (offset, f, e)
+fault_broken command OpenText at text offset f e = (offset, f, e)
+fault_broken command r at text offset f e = absurd f.fault
 
 pub denied : (text : List ℕ) (e : Deny) → IsTextDenied text e → IsUnread text e
-denied text (d.Refused r) f = fault_broken r.rule r.at text f.0 f.1 f.2
+denied text (d.Refused r) f = λ command. fault_broken command r.rule r.at text f.0 f.1 f.2
 denied text d.Memory f = tt
 
 -- a token that is refused is so in each text with these tokens
 pub unparsed : (text : List ℕ) (tokens : List Token) (e : Deny) → Lexes text tokens → ParserDenies tokens e
     → IsUnread text e
-unparsed text tokens (d.Refused r) l u = token_broken r.rule r.at text tokens l u
+unparsed text tokens (d.Refused r) l u = λ command. token_broken command r.rule r.at text tokens l u
   where
-    token_broken : (rule : Rule) (at : Spot) (text : List ℕ) (tokens : List Token) → Lexes text tokens
-        → IsRefused tokens rule at → IsBroken rule at text
-    token_broken Unexpected at text tokens l u = (tokens, l, u)
-    token_broken BlockTooLong at text tokens l u = (tokens, l, u)
-    token_broken TooDeep at text tokens l u = (tokens, l, u)
-    token_broken TooManyParams at text tokens l u = (tokens, l, u)
-    token_broken rule at text tokens l u = absurd u.4
+    token_broken : (command : Command) (rule : Rule) (at : Spot) (text : List ℕ) (tokens : List Token)
+        → Lexes text tokens → IsRefused tokens rule at → IsBroken command rule at text
+    token_broken command Unexpected at text tokens l u = (tokens, l, u)
+    token_broken command BlockTooLong at text tokens l u = (tokens, l, u)
+    token_broken command TooDeep at text tokens l u = (tokens, l, u)
+    token_broken command TooManyParams at text tokens l u = (tokens, l, u)
+    token_broken command rule at text tokens l u = absurd u.4
 unparsed text tokens d.Memory l u = tt
 
 -- the body of the one method
@@ -65,17 +65,18 @@ one_body (x ∷ []) m ls n e b = (
 one_body (x ∷ y ∷ ms) m ls n e b = absurd (omega arith)
 
 -- a rule that a whole text breaks first
-first_broken : (r : Rule) (at : Spot) (taken : List ℕ) (left : Option (List ℕ)) → IsWholeText taken left
-    → IsBroken r at taken → IsFirstBroken r at taken left
-first_broken TooLong at taken left whole b = absurd b
-first_broken r at taken left whole b = (whole, b)
+first_broken : (command : Command) (r : Rule) (at : Spot) (taken : List ℕ) (left : Option (List ℕ))
+    → IsWholeText taken left → IsBroken command r at taken → IsFirstBroken command r at taken left
+first_broken command TooLong at taken left whole b = absurd b
+first_broken command r at taken left whole b = (whole, b)
 
 -- an answer to a whole text has its cause
 done_whole : (command : Command) (taken : List ℕ) (left : Option (List ℕ)) (what : What) → IsWholeText taken left
     → IsAnswer command taken what → IsDone command taken left what
 done_whole command taken left (w.Usage kind) t a = absurd a
 done_whole command taken left w.ReadFault t a = absurd a
-done_whole command taken left (w.Refused r) t a = first_broken r.rule r.at taken left t a
+done_whole command taken left (w.Refused r) t a = first_broken command r.rule r.at taken left t a
+done_whole command taken left w.Checked t a = (t, a)
 done_whole command taken left (w.Graph graph) t a = (t, a)
 done_whole command taken left (w.Ran report) t a = (t, a)
 done_whole command taken left w.Memory t a = tt
@@ -91,6 +92,7 @@ pub done_caused : (words : List (List ℕ)) (command : Command) (taken : List �
 done_caused words command taken left (w.Usage kind) e d = absurd d
 done_caused words command taken left w.ReadFault e d = by_words words command taken left w.ReadFault e d
 done_caused words command taken left (w.Refused r) e d = by_words words command taken left (w.Refused r) e d
+done_caused words command taken left w.Checked e d = by_words words command taken left w.Checked e d
 done_caused words command taken left (w.Graph graph) e d = by_words words command taken left (w.Graph graph) e d
 done_caused words command taken left (w.Ran report) e d = by_words words command taken left (w.Ran report) e d
 done_caused words command taken left w.Memory e d = tt

@@ -17,12 +17,13 @@ use Rattle.ae_semantics.specs.Means.{pieces_bytes}
 use Rattle.ae_cases.specs.Laws.{as_whole, IsAsToday}
 use Rattle.ae_cases.specs.Laws as cases
 use Rattle.aem.specs.declared.answer.Command.{Command}
+use Rattle.aem.specs.declared.answer.Command.TheVariants.{Check, Graph, Run}
 use Rattle.aem.specs.declared.answer.What.{What}
 use Rattle.aem.specs.declared.answer.What.TheVariants as w
 use Rattle.ae_text.specs.declared.refusal.Refusal.{Refusal}
 use Rattle.aem.specs.Names.{IsOfNames, FoundIn}
 use Rattle.aem.specs.Small.{IsSource}
-use Rattle.aem.specs.Top.{HasBody, IsNameAt, IsBroken, IsMeant, IsDoneFor, IsAnswer}
+use Rattle.aem.specs.Top.{HasBody, IsOfMode, IsProgramAt, IsBroken, IsMeant, IsDoneFor, IsAnswer}
 
 -- a source of forms that run today declares its one method alone
 pub declares : BuiltDeclaresOne → (text : List ℕ) (p : Code) → IsSource text p → Built p → DeclaresOne p
@@ -43,21 +44,33 @@ pub accepts : BuiltDeclaresOne → TodaysJudgementIsACase → (text : List ℕ) 
 accepts one alike text p s built b h held = (alike p built (declares one text p s built)).0
     (built, subst IsHeld (sym (one_judged p b h)) (held_still (judge b nobody) held))
 
+-- each mode has the forms that run today, and no others
+pub of_mode : (command : Command) (p : Code) → Built p → IsOfMode command p
+of_mode Check p b = b
+of_mode Graph p b = b
+of_mode Run p b = b
+
+pub built_of_mode : (command : Command) (p : Code) → IsOfMode command p → Built p
+built_of_mode Check p b = b
+built_of_mode Graph p b = b
+built_of_mode Run p b = b
+
 -- a rule that today's judgement gives is one of the two
-name_broken : (rule : Rule) (at : Spot) (text : List ℕ) → IsOfNames rule → IsNameAt rule at text → IsBroken rule at text
-name_broken UnknownName at text n h = h
-name_broken DuplicateLocal at text n h = h
-name_broken rule at text n h = absurd n
+name_broken : (command : Command) (rule : Rule) (at : Spot) (text : List ℕ) → IsOfNames rule
+    → IsProgramAt command rule at text → IsBroken command rule at text
+name_broken command UnknownName at text n h = h
+name_broken command DuplicateLocal at text n h = h
+name_broken command rule at text n h = absurd n
 
 -- what today's judgement finds broken, the whole rules find broken first
-pub broken : BuiltDeclaresOne → TodaysJudgementIsACase → (text : List ℕ) (p : Code) → IsSource text p → Built p
-    → (b : Lines) → HasBody p b → (r : Refusal)
-    → FoundIn (judge b nobody) (Some r) → IsBroken r.rule r.at text
-broken one alike text p s built b h r e
-    = name_broken r.rule r.at text e.1 (
+pub broken : BuiltDeclaresOne → TodaysJudgementIsACase → (command : Command) (text : List ℕ) (p : Code)
+    → IsSource text p → Built p → (b : Lines) → HasBody p b → (r : Refusal)
+    → FoundIn (judge b nobody) (Some r) → IsBroken command r.rule r.at text
+broken one alike command text p s built b h r e
+    = name_broken command r.rule r.at text e.1 (
       p,
       s,
-      built,
+      of_mode command p built,
       (alike p built (declares one text p s built)).2 r.rule r.at
           (one_judged p b h ∙ ap (λ v. then_judge v (λ _. Holds nobody)) e.0),
     )
@@ -90,6 +103,7 @@ pub answered : (command : Command) (text : List ℕ) (p : Code) → IsSource tex
 answered command text p s b a (w.Usage kind) d = d
 answered command text p s b a w.ReadFault d = d
 answered command text p s b a (w.Refused r) d = absurd d
-answered command text p s b a (w.Graph graph) d = (d.0, (p, s, b, a, d.1))
-answered command text p s b a (w.Ran report) d = (d.0, (p, s, b, a, d.1))
+answered command text p s b a w.Checked d = (p, s, of_mode command p b, a, d)
+answered command text p s b a (w.Graph graph) d = (p, s, of_mode command p b, a, d)
+answered command text p s b a (w.Ran report) d = (p, s, of_mode command p b, a, d)
 answered command text p s b a w.Memory d = tt

@@ -1,14 +1,10 @@
--- The texts of the whole tool that are not printed yet: that a program is accepted, the order of events, what lies past an ending, a trace, and a made program.
+-- The texts of the whole tool that are not printed yet: the order of events, what lies past an ending, a trace, and a made program.
 use Rattle.std.specs.Prelude.{ℕ, zero, suc, Bool, List, [], ◌∷◌, ◌++◌, codes, if◌then◌else◌}
 use Rattle.std.specs.Fmt.{decimal}
 use Rattle.ae_text.specs.declared.refusal.Spot.{Spot}
 use Rattle.ae_meaning.specs.declared.report.Ending.{Ending}
 use Rattle.aem.specs.Texts.{feed_after, last_byte, ending_text}
 use Rattle.ae_graph.specs.GraphText.{spaced}
-
--- what is written for an accepted program that is checked alone
-abbrev pub checked_text : List ℕ
-checked_text = codes "accepted\n"
 
 -- the ranks of the events, where there is one
 abbrev pub order_text : List ℕ → List ℕ

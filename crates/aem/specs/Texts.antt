@@ -36,11 +36,16 @@ last_byte bytes = slice_get bytes (length bytes - 1)
 abbrev pub report_text : RunReport → List ℕ
 report_text r = r.out ++ feed_after (last_byte r.out) ++ ending_text r.ending
 
+-- what is written for an accepted program that is checked alone
+abbrev pub checked_text : List ℕ
+checked_text = codes "accepted\n"
+
 -- what is written for an answer
 abbrev pub output : What → List ℕ
 output (w.Usage kind) = usage_text
 output w.ReadFault = []
 output (w.Refused r) = refusal_text r
+output w.Checked = checked_text
 output (w.Graph text) = text
 output (w.Ran report) = report_text report
 output w.Memory = []
@@ -55,6 +60,7 @@ abbrev pub whole_status : What → ℕ
 whole_status (w.Usage kind) = 3
 whole_status w.ReadFault = 4
 whole_status (w.Refused r) = 2
+whole_status w.Checked = 0
 whole_status (w.Graph text) = 0
 whole_status (w.Ran report) = ending_status report.ending
 whole_status w.Memory = 6

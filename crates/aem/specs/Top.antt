@@ -6,7 +6,7 @@ use Rattle.ae_text.specs.declared.refusal.Spot.{Spot}
 use Rattle.ae_text.specs.declared.refusal.Rule.{Rule}
 use Rattle.ae_text.specs.declared.refusal.Rule.TheVariants.{NotText, BadChar, IntTooLarge, OpenText, TooLong}
 use Rattle.ae_text.specs.declared.refusal.Rule.TheVariants.{Unexpected, BlockTooLong, TooDeep, TooManyParams}
-use Rattle.ae_text.specs.declared.refusal.Rule.TheVariants.{NotBuilt, UnknownName, DuplicateLocal}
+use Rattle.ae_text.specs.declared.refusal.Rule.TheVariants.{NotBuilt}
 use Rattle.ae_text.specs.Whole.{most}
 use Rattle.ae_text.specs.declared.refusal.Deny.{Deny}
 use Rattle.ae_text.specs.declared.refusal.Deny.TheVariants as d
@@ -24,7 +24,7 @@ use Rattle.ae_text.specs.Tokens.{Lexes, LexFault, place, first_spot}
 use Rattle.aem.specs.Small.{IsSource}
 use Rattle.ae_graph.specs.Graphs.{graph_text}
 use Rattle.aem.specs.declared.answer.Command.{Command}
-use Rattle.aem.specs.declared.answer.Command.TheVariants.{Graph, Run}
+use Rattle.aem.specs.declared.answer.Command.TheVariants.{Check, Graph, Run}
 use Rattle.aem.specs.declared.answer.UsageKind.{UsageKind}
 use Rattle.aem.specs.Words.{command_of}
 
@@ -40,37 +40,47 @@ IsFaultAt rule at text = (offset : ℕ) × LexFault text rule offset × (at ≡ 
 abbrev pub IsTokenAt : Rule → Spot → List ℕ → Type 0
 IsTokenAt rule at text = (tokens : List Token) × Lexes text tokens × IsRefused tokens rule at
 
--- the text is a source of forms that run today, and this is the rule that it breaks first
-abbrev pub IsNameAt : Rule → Spot → List ℕ → Type 0
-IsNameAt rule at text = (program : Code) × IsSource text program × Built program × FirstBroken program rule at
+-- the program has only forms that this mode has today
+abbrev pub IsOfMode : Command → Code → Type 0
+IsOfMode Check program = Built program
+IsOfMode Graph program = Built program
+IsOfMode Run program = Built program
 
--- why a rule is the first that a whole text breaks, and where
-abbrev pub IsBroken : Rule → Spot → List ℕ → Type 0
-IsBroken NotText at text = IsFaultAt NotText at text
-IsBroken BadChar at text = IsFaultAt BadChar at text
-IsBroken IntTooLarge at text = IsFaultAt IntTooLarge at text
-IsBroken OpenText at text = IsFaultAt OpenText at text
-IsBroken Unexpected at text = IsTokenAt Unexpected at text
-IsBroken BlockTooLong at text = IsTokenAt BlockTooLong at text
-IsBroken TooDeep at text = IsTokenAt TooDeep at text
-IsBroken TooManyParams at text = IsTokenAt TooManyParams at text
-IsBroken NotBuilt at text = (at ≡ first_spot) × ((program : Code) × IsSource text program × (Built program → ⊥))
-IsBroken UnknownName at text = IsNameAt UnknownName at text
-IsBroken DuplicateLocal at text = IsNameAt DuplicateLocal at text
-IsBroken _ at text = ⊥
+-- the text is a source of a program with a form that the mode does not have yet
+abbrev pub IsNotOfMode : Command → List ℕ → Type 0
+IsNotOfMode command text = (program : Code) × IsSource text program × (IsOfMode command program → ⊥)
+
+-- the text is a source of forms that the mode has, and this is the rule that it breaks first
+abbrev pub IsProgramAt : Command → Rule → Spot → List ℕ → Type 0
+IsProgramAt command rule at text = (program : Code) × IsSource text program × IsOfMode command program
+    × FirstBroken program rule at
+
+-- why a rule is the first that a whole text breaks, and where; a text that was read to its end is not too long
+abbrev pub IsBroken : Command → Rule → Spot → List ℕ → Type 0
+IsBroken command NotText at text = IsFaultAt NotText at text
+IsBroken command BadChar at text = IsFaultAt BadChar at text
+IsBroken command IntTooLarge at text = IsFaultAt IntTooLarge at text
+IsBroken command OpenText at text = IsFaultAt OpenText at text
+IsBroken command Unexpected at text = IsTokenAt Unexpected at text
+IsBroken command BlockTooLong at text = IsTokenAt BlockTooLong at text
+IsBroken command TooDeep at text = IsTokenAt TooDeep at text
+IsBroken command TooManyParams at text = IsTokenAt TooManyParams at text
+IsBroken command NotBuilt at text = (at ≡ first_spot) × IsNotOfMode command text
+IsBroken command TooLong at text = ⊥
+IsBroken command rule at text = IsProgramAt command rule at text
 
 -- a source with a byte too many breaks no other rule, and otherwise it was read to its end
-abbrev pub IsFirstBroken : Rule → Spot → List ℕ → Option (List ℕ) → Type 0
-IsFirstBroken TooLong at taken left = (at ≡ first_spot) × (length taken ≡ most + 1)
-IsFirstBroken rule at taken left = IsWholeText taken left × IsBroken rule at taken
+abbrev pub IsFirstBroken : Command → Rule → Spot → List ℕ → Option (List ℕ) → Type 0
+IsFirstBroken command TooLong at taken left = (at ≡ first_spot) × (length taken ≡ most + 1)
+IsFirstBroken command rule at taken left = IsWholeText taken left × IsBroken command rule at taken
 
 -- the body of the one method
 abbrev pub HasBody : Code → Lines → Type 0
 HasBody program b = (m : Definition) × (program.methods ≡ m ∷ []) × (m.body ≡ b)
 
--- why a text gives no program
+-- why a text gives no program, whatever the mode
 abbrev pub IsUnread : List ℕ → Deny → Type 0
-IsUnread text (d.Refused r) = IsBroken r.rule r.at text
+IsUnread text (d.Refused r) = (command : Command) → IsBroken command r.rule r.at text
 IsUnread text d.Memory = Unit {0}
 
 -- The report has the ending and the bytes of the program's meaning, with no integers and a fuel of 100,000.
@@ -79,32 +89,37 @@ abbrev pub IsMeant : RunReport → Code → Type 0
 IsMeant report program = (Some (as_whole report.ending) ≡ (seq program [] 100000).ending)
     × (report.out ≡ bytes (seq program [] 100000) [])
 
--- what an accepted program comes to: the text of its graphs, or the report of its run
+-- what an accepted program comes to: that it is accepted, the text of its graphs, or the report of its run
 abbrev pub IsDoneFor : Command → Code → What → Type 0
 IsDoneFor command program (w.Usage kind) = ⊥
 IsDoneFor command program w.ReadFault = ⊥
 IsDoneFor command program (w.Refused r) = ⊥
+IsDoneFor command program w.Checked = command ≡ Check
 IsDoneFor command program (w.Graph graph) = (command ≡ Graph) × (graph ≡ graph_text program)
 IsDoneFor command program (w.Ran report) = (command ≡ Run) × IsMeant report program
 IsDoneFor command program w.Memory = Unit {0}
 
--- why this is the answer to a text: the text of the graph, or the report of a run
+-- the text is a source of an accepted program of forms that the mode has, which comes to this
+abbrev pub IsDoneForSource : Command → List ℕ → What → Type 0
+IsDoneForSource command text what = (program : Code) × IsSource text program × IsOfMode command program
+    × Accepts program × IsDoneFor command program what
+
+-- why this is the answer to a text: that it is accepted, the text of the graph, or the report of a run
 abbrev pub IsAnswer : Command → List ℕ → What → Type 0
 IsAnswer command text (w.Usage kind) = ⊥
 IsAnswer command text w.ReadFault = ⊥
-IsAnswer command text (w.Refused r) = IsBroken r.rule r.at text
-IsAnswer command text (w.Graph graph) = (command ≡ Graph)
-    × ((program : Code) × IsSource text program × Built program × Accepts program × (graph ≡ graph_text program))
-IsAnswer command text (w.Ran report) =
-    (command ≡ Run) × ((program : Code) × IsSource text program × Built program × Accepts program
-    × IsMeant report program)
+IsAnswer command text (w.Refused r) = IsBroken command r.rule r.at text
+IsAnswer command text w.Checked = IsDoneForSource command text w.Checked
+IsAnswer command text (w.Graph graph) = IsDoneForSource command text (w.Graph graph)
+IsAnswer command text (w.Ran report) = IsDoneForSource command text (w.Ran report)
 IsAnswer command text w.Memory = Unit {0}
 
 -- why this is the answer to a command, where these bytes were taken and this is left
 abbrev pub IsDone : Command → List ℕ → Option (List ℕ) → What → Type 0
 IsDone command taken left (w.Usage kind) = ⊥
 IsDone command taken left w.ReadFault = length taken ≤ most
-IsDone command taken left (w.Refused r) = IsFirstBroken r.rule r.at taken left
+IsDone command taken left (w.Refused r) = IsFirstBroken command r.rule r.at taken left
+IsDone command taken left w.Checked = IsWholeText taken left × IsAnswer command taken w.Checked
 IsDone command taken left (w.Graph graph) = IsWholeText taken left × IsAnswer command taken (w.Graph graph)
 IsDone command taken left (w.Ran report) = IsWholeText taken left × IsAnswer command taken (w.Ran report)
 IsDone command taken left w.Memory = Unit {0}
@@ -138,7 +153,7 @@ abbrev pub IsOnlyAnswer : List (List ℕ) → Option (List ℕ) → Option (List
 IsOnlyAnswer words before after what = IsSome before → IsTold what → (other : What) → IsTold other
     → HasItsCause words before after other → other ≡ what
 
--- the words ask for this command, and the source has a text of this program, which is accepted and of forms that run today
+-- the words ask for this command, and the source has a text of this program, which is accepted and of forms that the mode has
 pub record IsAsked (words : List (List ℕ)) (before : Option (List ℕ)) (command : Command) (program : Code) : Type
     0 where
   pub asked : command_of words ≡ Ok command
@@ -146,7 +161,7 @@ pub record IsAsked (words : List (List ℕ)) (before : Option (List ℕ)) (comma
   pub has : before ≡ Some text
   pub short : length text ≤ most
   pub source : IsSource text program
-  pub built : Built program
+  pub built : IsOfMode command program
   pub accepted : Accepts program
 
 -- an accepted program that is asked for has no other answer than that of its command, but for a failed read

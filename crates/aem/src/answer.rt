@@ -5,6 +5,7 @@ use ae_text::{Items, Refusal};
 /// What the words ask for.
 #[derive(Clone, Copy, Debug, PartialEq, Eq)]
 pub enum Command {
+    Check,
     Graph,
     Run,
 }
@@ -26,6 +27,7 @@ pub enum What {
     Usage(UsageKind),
     ReadFault,
     Refused(Refusal),
+    Checked,
     Graph(Items<u8>),
     Ran(RunReport),
     Memory,

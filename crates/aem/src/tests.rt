@@ -41,7 +41,19 @@ fn source_of(
     Ok(MemSource::new(bytes, most, Items::from_slice(alloc, fail)?))
 }
 
-const CASES: [Case; 60] = [
+const CASES: [Case; 62] = [
+    Case {
+        words: &["check"],
+        source: SUM,
+        text: "accepted\n",
+        status: 0,
+    },
+    Case {
+        words: &["check"],
+        source: "method void main() with exclusive io { print a; }",
+        text: "refused N5 UnknownName at 1:46\n",
+        status: 2,
+    },
     Case {
         words: &["graph"],
         source: SUM,

@@ -13,6 +13,8 @@ use std::alloc::{AllocError, Global};
 const USAGE: &[u8] =
     b"usage: aem check | aem graph | aem run [--workers N] [--fuel N] [--trace] [--] [INT]... | aem make N\n";
 
+const ACCEPTED: &[u8] = b"accepted\n";
+
 fn refused_line(alloc: Global, rule: &str, line: u32, col: u32) -> Result<String, AllocError>
     ensures { IfOk result (λ t. string_bytes t ≡ codes "refused " ++ rule.now ++ codes " at " ++ decimal line
         ++ codes ":" ++ decimal col ++ codes "\n") }
@@ -86,6 +88,7 @@ pub fn text_of(alloc: Global, what: &What) -> Result<Items<u8>, AllocError>
             let line = refusal_line(alloc, *refusal)?;
             Items::from_slice(alloc, line.as_bytes())
         }
+        What::Checked => Items::from_slice(alloc, ACCEPTED),
         What::Graph(text) => Items::from_slice(alloc, text.as_slice()),
         What::Ran(report) => run_text(alloc, report),
         What::ReadFault | What::Memory => Ok(Items::new(alloc)),
@@ -109,6 +112,7 @@ pub fn status(what: &What) -> u8
         What::Usage(_) => 3,
         What::ReadFault => 4,
         What::Refused(_) => 2,
+        What::Checked => 0,
         What::Graph(_) => 0,
         What::Ran(report) => status_at(report.ending),
         What::Memory => 6,

@@ -94,6 +94,7 @@ fn done<G: Gate>(
     today_is_a_case();
     derived_programs_are_well_shaped();
     match command {
+        Command::Check => What::Checked,
         Command::Graph => match graph_text(alloc, program) {
             Ok(text) => What::Graph(text),
             Err(_) => What::Memory,

@@ -22,7 +22,9 @@ pub fn command(words: &[String]) -> Result<Command, UsageKind>
     match words {
         [] => Err(UsageKind::NoMode),
         [mode, rest @ ..] => {
-            if mode.as_str() == "run" {
+            if mode.as_str() == "check" {
+                alone(Command::Check, rest)
+            } else if mode.as_str() == "run" {
                 alone(Command::Run, rest)
             } else if mode.as_str() == "graph" {
                 alone(Command::Graph, rest)

@@ -26,7 +26,7 @@ returns-in-Ok-None g c =
 
 pub returns-in-Ok-Some : goal.returns-in-Ok-Some
 returns-in-Ok-Some g c =
-    broken c.a_built_program_declares_one_method.ensures c.todays_judgement_is_a_case.ensures c.args.text.now
-    (code c.in-Ok.program) c.in-Ok.ensures.ok c.if-not-is_built.ensures
+    broken c.a_built_program_declares_one_method.ensures c.todays_judgement_is_a_case.ensures c.args.command
+    c.args.text.now (code c.in-Ok.program) c.in-Ok.ensures.ok c.if-not-is_built.ensures
     (lines_from c.body_of.result.now) c.body_of.ensures c.in-Ok-Some.refusal
     (subst (FoundIn (judge (lines_from c.body_of.result.now) nobody)) c.in-Ok-Some.field-0-is c.in-Ok-Some.ensures)
