@@ -14,7 +14,7 @@ use Rattle.aem.specs.declared.answer.Command.{Command}
 use Rattle.aem.specs.declared.answer.UsageKind.{UsageKind}
 use Rattle.aem.specs.Words.{command_of}
 use Rattle.aem.specs.Small.{IsSource}
-use Rattle.aem.specs.Top.{IsWholeText, IsFirstBroken, IsDoneFor, IsDoneForSource, IsDone, ByCommand, Caused}
+use Rattle.aem.specs.Top.{IsWholeText, IsFirstBroken, Long, Whole, IsDoneFor, IsDoneForSource, IsDone, ByCommand, Caused}
 use Rattle.aem.specs.Top.{IsAnswered}
 use Rattle.aem.proofs.OneAnswer.{Laws, IsAccepted, one_source, refused_alone}
 
@@ -33,8 +33,8 @@ no_more_taken text taken (Some ys) c = omega (arith, ap length c ∙ length-appe
 -- a rule that is broken first: the text was read to its end, or is too long
 whole_or_long : (command : Command) (rule : Rule) (at : Spot) (taken : List ℕ) (left : Option (List ℕ))
     → IsFirstBroken command rule at taken left → IsWholeText taken left ⊎ (length taken ≡ most + 1)
-whole_or_long command TooLong at taken left b = inr b.1
-whole_or_long command rule at taken left b = inl b.0
+whole_or_long command rule at taken left (Long r e l) = inr l
+whole_or_long command rule at taken left (Whole t b) = inl t
 
 -- the text of an accepted program is not refused
 never_refused : Laws → (command : Command) (text taken : List ℕ) (left : Option (List ℕ)) (r : Refusal) (p : Code)

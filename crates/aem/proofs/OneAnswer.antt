@@ -5,9 +5,7 @@ use Rattle.std.proofs.lemmas.List.{append_cancel_right}
 use Rattle.std.specs.Io.KnownBytes.{Consumes}
 use Rattle.ae_text.specs.declared.refusal.Spot.{Spot}
 use Rattle.ae_text.specs.declared.refusal.Rule.{Rule}
-use Rattle.ae_text.specs.declared.refusal.Rule.TheVariants.{NotText, BadChar, IntTooLarge, OpenText, TooLong}
-use Rattle.ae_text.specs.declared.refusal.Rule.TheVariants.{Unexpected, BlockTooLong, TooDeep, TooManyParams}
-use Rattle.ae_text.specs.declared.refusal.Rule.TheVariants.{NotBuilt}
+use Rattle.ae_text.specs.declared.refusal.Rule.TheVariants.{TooLong, NotBuilt}
 use Rattle.ae_text.specs.declared.refusal.Refusal.{Refusal}
 use Rattle.ae_text.specs.declared.token.Token.{Token}
 use Rattle.ae_text.specs.Tokens.{Lexes, LexFault, place, first_spot}
@@ -32,7 +30,8 @@ use Rattle.aem.specs.declared.answer.Command.{Command}
 use Rattle.aem.specs.declared.answer.UsageKind.{UsageKind}
 use Rattle.aem.specs.Words.{command_of}
 use Rattle.aem.specs.Small.{IsSource}
-use Rattle.aem.specs.Top.{IsWholeText, IsFaultAt, IsTokenAt, IsOfMode, IsBroken, IsFirstBroken, IsMeant}
+use Rattle.aem.specs.Top.{IsWholeText, IsFaultAt, IsTokenAt, IsOfMode, IsBroken, NoTokens, NoProgram, NoForm}
+use Rattle.aem.specs.Top.{NotAccepted, IsFirstBroken, Long, Whole, IsMeant}
 use Rattle.aem.specs.Top.{IsDoneFor, IsDoneForSource, IsDone}
 use Rattle.aem.specs.Top.{ByCommand, Caused, HasItsCause, IsTold, IsOneAnswer, IsOnlyAnswer}
 
@@ -64,17 +63,10 @@ data Cause (command : Command) (rule : Rule) (at : Spot) (text : List ℕ) : Typ
 
 cause : (command : Command) (rule : Rule) (at : Spot) (text : List ℕ) → IsBroken command rule at text
     → Cause command rule at text
-cause command NotText at text b = Fault b
-cause command BadChar at text b = Fault b
-cause command IntTooLarge at text b = Fault b
-cause command OpenText at text b = Fault b
-cause command Unexpected at text b = Refused b
-cause command BlockTooLong at text b = Refused b
-cause command TooDeep at text b = Refused b
-cause command TooManyParams at text b = Refused b
-cause command NotBuilt at text b = Program (b.1.0, b.1.1, inl (refl, b.0, b.1.2))
-cause command TooLong at text b = absurd b
-cause command rule at text b = Program (b.0, b.1, inr (b.2, b.3))
+cause command rule at text (NoTokens f) = Fault f
+cause command rule at text (NoProgram t) = Refused t
+cause command rule at text (NoForm r e n) = Program (n.0, n.1, inl (r, e, n.2))
+cause command rule at text (NotAccepted b) = Program (b.0, b.1, inr (b.2, b.3))
 
 -- a text is a source of one program
 pub one_source : Laws → (text : List ℕ) (p q : Code) → IsSource text p → IsSource text q → q ≡ p
@@ -152,8 +144,8 @@ IsLongOrBroken command rule at text = ((rule ≡ TooLong) × (at ≡ first_spot)
 
 long_or_broken : (command : Command) (rule : Rule) (at : Spot) (taken : List ℕ) (left : Option (List ℕ))
     → IsFirstBroken command rule at taken left → IsLongOrBroken command rule at taken
-long_or_broken command TooLong at taken left b = inl (refl, b.0, b.1)
-long_or_broken command rule at taken left b = inr (b.0.0, cause command rule at taken b.1)
+long_or_broken command rule at taken left (Long r e l) = inl (r, e, l)
+long_or_broken command rule at taken left (Whole t b) = inr (t.0, cause command rule at taken b)
 
 not_long : (text : List ℕ) → length text ≡ most + 1 → length text ≤ most → ⊥
 not_long text long short = omega (arith, long, short)

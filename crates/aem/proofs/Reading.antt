@@ -8,48 +8,32 @@ use Rattle.ae_tree.specs.declared.tree.Block.{out-Block}
 use Rattle.ae_tree.specs.Plain.{Definition}
 use Rattle.ae_tree.specs.Shown.{definition, lines_from, lines-out}
 use Rattle.ae_text.specs.declared.token.Token.{Token}
-use Rattle.ae_text.specs.Tokens.{Lexes, LexFault, place}
+use Rattle.ae_text.specs.Tokens.{Lexes}
 use Rattle.ae_text.specs.Tokens.{IsTextDenied}
-use Rattle.ae_tree.specs.Refused.{IsRefused, IsTokenDenied as ParserDenies}
+use Rattle.ae_tree.specs.Refused.{IsTokenDenied as ParserDenies}
 use Rattle.std.proofs.Common.{Option}
-use Rattle.ae_text.specs.declared.refusal.Spot.{Spot}
-use Rattle.ae_text.specs.declared.refusal.Rule.{Rule}
-use Rattle.ae_text.specs.declared.refusal.Rule.TheVariants.{NotText, BadChar, IntTooLarge, OpenText, TooLong}
-use Rattle.ae_text.specs.declared.refusal.Rule.TheVariants.{Unexpected, BlockTooLong, TooDeep, TooManyParams}
 use Rattle.aem.specs.declared.answer.What.{What}
 use Rattle.aem.specs.declared.answer.What.TheVariants as w
 use Rattle.std.proofs.Common.{Result, Ok}
 use Rattle.aem.specs.declared.answer.Command.{Command}
 use Rattle.aem.specs.declared.answer.UsageKind.{UsageKind}
 use Rattle.aem.specs.Words.{command_of}
-use Rattle.aem.specs.Top.{IsUnread, IsWholeText, IsBroken, IsFirstBroken, IsAnswer, IsDone, ByCommand, Caused}
-
--- a fault that stands there is that of a rule of texts
-fault_broken : (command : Command) (r : Rule) (at : Spot) (text : List ℕ) (offset : ℕ) → LexFault text r offset
-    → at ≡ place text offset → IsBroken command r at text
-fault_broken command NotText at text offset f e = (offset, f, e)
-fault_broken command BadChar at text offset f e = (offset, f, e)
-fault_broken command IntTooLarge at text offset f e = (offset, f, e)
-fault_broken command OpenText at text offset f e = (offset, f, e)
-fault_broken command r at text offset f e = absurd f.fault
+use Rattle.aem.specs.Top.{denial, IsUnread, IsWholeText, NoTokens, NoProgram, Whole, IsAnswer, IsDone, ByCommand, Caused}
 
 pub denied : (text : List ℕ) (e : Deny) → IsTextDenied text e → IsUnread text e
-denied text (d.Refused r) f = λ command. fault_broken command r.rule r.at text f.0 f.1 f.2
+denied text (d.Refused r) f = λ command. NoTokens (f.0, f.1, f.2)
 denied text d.Memory f = tt
 
 -- a token that is refused is so in each text with these tokens
 pub unparsed : (text : List ℕ) (tokens : List Token) (e : Deny) → Lexes text tokens → ParserDenies tokens e
     → IsUnread text e
-unparsed text tokens (d.Refused r) l u = λ command. token_broken command r.rule r.at text tokens l u
-  where
-    token_broken : (command : Command) (rule : Rule) (at : Spot) (text : List ℕ) (tokens : List Token)
-        → Lexes text tokens → IsRefused tokens rule at → IsBroken command rule at text
-    token_broken command Unexpected at text tokens l u = (tokens, l, u)
-    token_broken command BlockTooLong at text tokens l u = (tokens, l, u)
-    token_broken command TooDeep at text tokens l u = (tokens, l, u)
-    token_broken command TooManyParams at text tokens l u = (tokens, l, u)
-    token_broken command rule at text tokens l u = absurd u.4
+unparsed text tokens (d.Refused r) l u = λ command. NoProgram (tokens, l, u)
 unparsed text tokens d.Memory l u = tt
+
+-- a text that gives no program is answered so in each mode
+pub unread : (command : Command) (text : List ℕ) (e : Deny) → IsUnread text e → IsAnswer command text (denial e)
+unread command text (d.Refused r) u = u command
+unread command text d.Memory u = tt
 
 -- the body of the one method
 pub one_body : (ms : List Method) (m : Method) (ls : List Stmt) → length ms ≡ 1 → m ≡ get_or ms 0 m
@@ -64,18 +48,12 @@ one_body (x ∷ []) m ls n e b = (
 )
 one_body (x ∷ y ∷ ms) m ls n e b = absurd (omega arith)
 
--- a rule that a whole text breaks first
-first_broken : (command : Command) (r : Rule) (at : Spot) (taken : List ℕ) (left : Option (List ℕ))
-    → IsWholeText taken left → IsBroken command r at taken → IsFirstBroken command r at taken left
-first_broken command TooLong at taken left whole b = absurd b
-first_broken command r at taken left whole b = (whole, b)
-
 -- an answer to a whole text has its cause
 done_whole : (command : Command) (taken : List ℕ) (left : Option (List ℕ)) (what : What) → IsWholeText taken left
     → IsAnswer command taken what → IsDone command taken left what
 done_whole command taken left (w.Usage kind) t a = absurd a
 done_whole command taken left w.ReadFault t a = absurd a
-done_whole command taken left (w.Refused r) t a = first_broken command r.rule r.at taken left t a
+done_whole command taken left (w.Refused r) t a = Whole t a
 done_whole command taken left w.Checked t a = (t, a)
 done_whole command taken left (w.Graph graph) t a = (t, a)
 done_whole command taken left (w.Ran report) t a = (t, a)

@@ -1,9 +1,6 @@
 -- From today's definitions to those of the whole language.
 use Rattle.std.proofs.Common.{◌≡◌, ℕ, List, [], ◌++◌, None, Some, sym, ap, ◌∙◌, subst, append-nil}
 use Rattle.std.specs.Prelude.{option_map}
-use Rattle.ae_text.specs.declared.refusal.Spot.{Spot}
-use Rattle.ae_text.specs.declared.refusal.Rule.{Rule}
-use Rattle.ae_text.specs.declared.refusal.Rule.TheVariants.{UnknownName, DuplicateLocal}
 use Rattle.ae_tree.specs.Plain.{Code, Lines}
 use Rattle.ae_tree.specs.Built.{Built}
 use Rattle.ae_tree.specs.Judgement.{Accepted, Verdict, Holds, Broken, nobody, then_judge, judge, judge_methods, IsHeld}
@@ -21,9 +18,9 @@ use Rattle.aem.specs.declared.answer.Command.TheVariants.{Check, Graph, Run}
 use Rattle.aem.specs.declared.answer.What.{What}
 use Rattle.aem.specs.declared.answer.What.TheVariants as w
 use Rattle.ae_text.specs.declared.refusal.Refusal.{Refusal}
-use Rattle.aem.specs.Names.{IsOfNames, FoundIn}
+use Rattle.aem.specs.Names.{FoundIn}
 use Rattle.aem.specs.Small.{IsSource}
-use Rattle.aem.specs.Top.{HasBody, IsOfMode, IsProgramAt, IsBroken, IsMeant, IsDoneFor, IsAnswer}
+use Rattle.aem.specs.Top.{HasBody, IsOfMode, IsBroken, NotAccepted, IsMeant, IsDoneFor, IsAnswer}
 
 -- a source of forms that run today declares its one method alone
 pub declares : BuiltDeclaresOne → (text : List ℕ) (p : Code) → IsSource text p → Built p → DeclaresOne p
@@ -55,24 +52,17 @@ built_of_mode Check p b = b
 built_of_mode Graph p b = b
 built_of_mode Run p b = b
 
--- a rule that today's judgement gives is one of the two
-name_broken : (command : Command) (rule : Rule) (at : Spot) (text : List ℕ) → IsOfNames rule
-    → IsProgramAt command rule at text → IsBroken command rule at text
-name_broken command UnknownName at text n h = h
-name_broken command DuplicateLocal at text n h = h
-name_broken command rule at text n h = absurd n
-
 -- what today's judgement finds broken, the whole rules find broken first
 pub broken : BuiltDeclaresOne → TodaysJudgementIsACase → (command : Command) (text : List ℕ) (p : Code)
     → IsSource text p → Built p → (b : Lines) → HasBody p b → (r : Refusal)
     → FoundIn (judge b nobody) (Some r) → IsBroken command r.rule r.at text
 broken one alike command text p s built b h r e
-    = name_broken command r.rule r.at text e.1 (
+    = NotAccepted (
       p,
       s,
       of_mode command p built,
       (alike p built (declares one text p s built)).2 r.rule r.at
-          (one_judged p b h ∙ ap (λ v. then_judge v (λ _. Holds nobody)) e.0),
+          (one_judged p b h ∙ ap (λ v. then_judge v (λ _. Holds nobody)) e),
     )
 
 -- what is accepted by the whole rules is accepted by today's

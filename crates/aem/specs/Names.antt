@@ -2,26 +2,18 @@
 use Rattle.std.specs.Prelude.{◌≡◌, ℕ, nat_eq, Option, None, Some}
 use Rattle.std.specs.HashSet.{HashSet, contains}
 use Rattle.ae_text.specs.declared.refusal.Refusal.{Refusal}
-use Rattle.ae_text.specs.declared.refusal.Rule.{Rule}
-use Rattle.ae_text.specs.declared.refusal.Rule.TheVariants.{UnknownName, DuplicateLocal}
 use Rattle.ae_tree.specs.Judgement.{Scope, Verdict, Holds, Broken, IsHeld}
 
 -- the names of a set are visible
 abbrev pub scope : {S : Type 0} → HashSet ℕ S → Scope
 scope set x = contains nat_eq set x
 
--- the rules that the check of names finds broken
-abbrev pub IsOfNames : Rule → Type 0
-IsOfNames UnknownName = Unit {0}
-IsOfNames DuplicateLocal = Unit {0}
-IsOfNames _ = ⊥
-
 -- this rule is broken there, or none and this scope comes after
 abbrev pub FoundBroken : Verdict → Scope → Option Refusal → Type 0
 FoundBroken verdict after None = verdict ≡ Holds after
-FoundBroken verdict after (Some r) = (verdict ≡ Broken r.rule r.at) × IsOfNames r.rule
+FoundBroken verdict after (Some r) = verdict ≡ Broken r.rule r.at
 
 -- the first rule that is broken, or none
 abbrev pub FoundIn : Verdict → Option Refusal → Type 0
 FoundIn verdict None = IsHeld verdict
-FoundIn verdict (Some r) = (verdict ≡ Broken r.rule r.at) × IsOfNames r.rule
+FoundIn verdict (Some r) = verdict ≡ Broken r.rule r.at

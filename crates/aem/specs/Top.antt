@@ -4,9 +4,7 @@ use Rattle.std.specs.Prelude.{Err}
 use Rattle.std.specs.Io.KnownBytes.{Consumes, IsAtEnd, Appends}
 use Rattle.ae_text.specs.declared.refusal.Spot.{Spot}
 use Rattle.ae_text.specs.declared.refusal.Rule.{Rule}
-use Rattle.ae_text.specs.declared.refusal.Rule.TheVariants.{NotText, BadChar, IntTooLarge, OpenText, TooLong}
-use Rattle.ae_text.specs.declared.refusal.Rule.TheVariants.{Unexpected, BlockTooLong, TooDeep, TooManyParams}
-use Rattle.ae_text.specs.declared.refusal.Rule.TheVariants.{NotBuilt}
+use Rattle.ae_text.specs.declared.refusal.Rule.TheVariants.{TooLong, NotBuilt}
 use Rattle.ae_text.specs.Whole.{most}
 use Rattle.ae_text.specs.declared.refusal.Deny.{Deny}
 use Rattle.ae_text.specs.declared.refusal.Deny.TheVariants as d
@@ -55,28 +53,30 @@ abbrev pub IsProgramAt : Command → Rule → Spot → List ℕ → Type 0
 IsProgramAt command rule at text = (program : Code) × IsSource text program × IsOfMode command program
     × FirstBroken program rule at
 
--- why a rule is the first that a whole text breaks, and where; a text that was read to its end is not too long
-abbrev pub IsBroken : Command → Rule → Spot → List ℕ → Type 0
-IsBroken command NotText at text = IsFaultAt NotText at text
-IsBroken command BadChar at text = IsFaultAt BadChar at text
-IsBroken command IntTooLarge at text = IsFaultAt IntTooLarge at text
-IsBroken command OpenText at text = IsFaultAt OpenText at text
-IsBroken command Unexpected at text = IsTokenAt Unexpected at text
-IsBroken command BlockTooLong at text = IsTokenAt BlockTooLong at text
-IsBroken command TooDeep at text = IsTokenAt TooDeep at text
-IsBroken command TooManyParams at text = IsTokenAt TooManyParams at text
-IsBroken command NotBuilt at text = (at ≡ first_spot) × IsNotOfMode command text
-IsBroken command TooLong at text = ⊥
-IsBroken command rule at text = IsProgramAt command rule at text
+-- why a rule is the first that a whole text breaks, and where, by what finds it
+pub data IsBroken (command : Command) (rule : Rule) (at : Spot) (text : List ℕ) : Type 0 where
+  -- the text has no tokens
+  NoTokens : IsFaultAt rule at text → IsBroken command rule at text
+  -- its tokens are refused
+  NoProgram : IsTokenAt rule at text → IsBroken command rule at text
+  -- its program has a form that the mode does not have yet
+  NoForm : rule ≡ NotBuilt → at ≡ first_spot → IsNotOfMode command text → IsBroken command rule at text
+  -- its program is not accepted
+  NotAccepted : IsProgramAt command rule at text → IsBroken command rule at text
 
--- a source with a byte too many breaks no other rule, and otherwise it was read to its end
-abbrev pub IsFirstBroken : Command → Rule → Spot → List ℕ → Option (List ℕ) → Type 0
-IsFirstBroken command TooLong at taken left = (at ≡ first_spot) × (length taken ≡ most + 1)
-IsFirstBroken command rule at taken left = IsWholeText taken left × IsBroken command rule at taken
+-- why a rule is the first that is broken: the source has a byte too many, or it was read to its end
+pub data IsFirstBroken (c : Command) (rule : Rule) (at : Spot) (taken : List ℕ) (left : Option (List ℕ)) : Type 0 where
+  Long : rule ≡ TooLong → at ≡ first_spot → length taken ≡ most + 1 → IsFirstBroken c rule at taken left
+  Whole : IsWholeText taken left → IsBroken c rule at taken → IsFirstBroken c rule at taken left
 
 -- the body of the one method
 abbrev pub HasBody : Code → Lines → Type 0
 HasBody program b = (m : Definition) × (program.methods ≡ m ∷ []) × (m.body ≡ b)
+
+-- the answer where a layer refuses, or wants memory
+abbrev pub denial : Deny → What
+denial (d.Refused r) = w.Refused r
+denial d.Memory = w.Memory
 
 -- why a text gives no program, whatever the mode
 abbrev pub IsUnread : List ℕ → Deny → Type 0

@@ -8,7 +8,7 @@ ghost use Rattle.ae_rules.specs.Judges.{Accepts};
 ghost use Rattle.aem.specs.Small.{IsSource, HasSource};
 ghost use Rattle.aem.specs.Texts.{output, whole_status, status_of};
 ghost use Rattle.aem.specs.declared.answer.Command.{Command};
-ghost use Rattle.aem.specs.Top.{HasBody, IsUnread, IsDoneFor, IsAnswer, HasItsCause, IsTold, IsOneAnswer, IsOnlyAnswer};
+ghost use Rattle.aem.specs.Top.{HasBody, denial, IsUnread, IsDoneFor, IsAnswer, HasItsCause, IsTold, IsOneAnswer, IsOnlyAnswer};
 ghost use Rattle.aem.specs.Top.{IsAsked, IsAnswered, IsComplete, Wrote, IsUsage};
 
 use crate::answer::{Answer, Command, What};
@@ -55,6 +55,16 @@ pub fn body_of(program: &Program) -> &[Stmt]
     match program.methods.as_slice() {
         [main] => main.body.stmts.as_slice(),
         _ => unreachable!(),
+    }
+}
+
+// What is answered where a layer below refuses, or wants memory.
+fn denied(deny: Deny) -> What
+    ensures { result ≡ denial deny }
+{
+    match deny {
+        Deny::Refused(refusal) => What::Refused(refusal),
+        Deny::Memory => What::Memory,
     }
 }
 
@@ -121,8 +131,7 @@ fn answer_to<G: Gate>(
     todays_judgement_is_a_case();
     let program = match read_program(alloc, text) {
         Ok(program) => program,
-        Err(Deny::Refused(refusal)) => return What::Refused(refusal),
-        Err(Deny::Memory) => return What::Memory,
+        Err(deny) => return denied(deny),
     };
     if !is_built(&program) {
         return first_refused(Rule::NotBuilt);

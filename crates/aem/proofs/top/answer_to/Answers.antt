@@ -1,7 +1,9 @@
-use Rattle.std.proofs.Common.{subst}
+use Rattle.std.proofs.Common.{subst, sym}
 use Rattle.ae_tree.specs.Shown.{code, lines_from}
 use Rattle.ae_tree.specs.Judgement.{nobody, judge}
 use Rattle.aem.specs.Names.{FoundIn}
+use Rattle.aem.specs.Top.{IsAnswer}
+use Rattle.aem.proofs.Reading.{unread}
 use Rattle.aem.proofs.Whole.{accepts, broken, answered}
 use Rattle.aem.proofs.top.answer_to.Goals as goal
 
@@ -30,3 +32,8 @@ returns-in-Ok-Some g c =
     c.args.text.now (code c.in-Ok.program) c.in-Ok.ensures.ok c.if-not-is_built.ensures
     (lines_from c.body_of.result.now) c.body_of.ensures c.in-Ok-Some.refusal
     (subst (FoundIn (judge (lines_from c.body_of.result.now) nobody)) c.in-Ok-Some.field-0-is c.in-Ok-Some.ensures)
+
+pub returns-in-Err : goal.returns-in-Err
+returns-in-Err g c =
+    subst (IsAnswer c.args.command c.args.text.now) (sym c.denied.ensures)
+    (unread c.args.command c.args.text.now c.in-Err.deny c.in-Err.ensures.refused)
