@@ -1,6 +1,7 @@
 -- What one declaration, field or method more adds to the maps of a class table.
 use Rattle.std.proofs.Common.{◌≡◌, ◌<◌, ◌+◌, ℕ, zero, suc, false, not, cond, nat_eq, List, [], ◌∷◌, ◌++◌}
-use Rattle.std.proofs.Common.{length, take, drop, get_or, None, Some, Result, Err, IsErrAnd, refl, sym, ap, subst, ◌∙◌, arith}
+use Rattle.std.proofs.Common.{length, take, drop, get_or, None, Some, Result, Err, IsErrAnd, refl, sym, ap}
+use Rattle.std.proofs.Common.{subst, ◌∙◌, arith}
 use Rattle.std.proofs.Common.{slice_get, inl, inr}
 use Rattle.std.specs.Prelude.{find, filter_map, option_map, ⊤}
 use Rattle.std.specs.Option.{option_or}
@@ -31,7 +32,8 @@ use Rattle.ae_rules.specs.Table.{is_new, and_also, no_names, members_differ, dec
 use Rattle.ae_rules.specs.Table.{result_holds, me_holds, param_holds, need_holds, method_holds}
 use Rattle.ae_classes.specs.declared.tops.TopNames.{TopNames}
 use Rattle.ae_classes.specs.Named.{only_at, HasOneMore}
-use Rattle.ae_classes.specs.Classes.{GivesDeclared, GivesMembers, is_class_called, field_names, place_called, method_names}
+use Rattle.ae_classes.specs.Classes.{GivesDeclared, GivesMembers, is_class_called, field_names, place_called}
+use Rattle.ae_classes.specs.Classes.{method_names}
 use Rattle.ae_classes.proofs.PlaceLemmas.{found_with_last, nothing_is_behind, place_with_last, fields_with_last}
 use Rattle.ae_classes.proofs.PlaceLemmas.{methods_with_last}
 use Rattle.ae_classes.proofs.TurnLemmas.{turns_in_two_parts, first_part_breaks, what_comes_next_breaks}
@@ -115,7 +117,8 @@ pub new_name_joins : (r : Rule) (x : NameAt) (names later : Names) → require (
 new_name_joins r x names later holds joined = ap (λ v. v >> Holds (and_also x.name names)) holds ∙ ap Holds joined
 
 -- one field more, by its place
-pub place_of_one_more : {S : Type 0} (fields : List Field) (i : ℕ) (d : Field) (m n : IndexMap ℕ Member S) → i < length fields
+pub place_of_one_more : {S : Type 0} (fields : List Field) (i : ℕ) (d : Field) (m n : IndexMap ℕ Member S)
+    → i < length fields
     → d ≡ get_or fields i d → HasOneMore d.name.name (member.Field i) m n
     → ((x : ℕ) → get nat_eq m x ≡ option_map member.Field (place_called (take i fields) x))
     → (x : ℕ) → get nat_eq n x ≡ option_map member.Field (place_called (take (i + 1) fields) x)
@@ -123,16 +126,19 @@ place_of_one_more fields i d m n l is more before x =
     more.found x
     ∙ ap (λ o. option_or o (only_at d.name.name (member.Field i) x)) (before x)
     ∙ fields_with_last (place_called (take i fields) x) (nat_eq d.name.name x) i
-    ∙ ap (λ k. option_map member.Field (option_or (place_called (take i fields) x) (cond (nat_eq d.name.name x) (Some k) None)))
+    ∙ ap (λ k. option_map member.Field (option_or (place_called (take i fields) x) (cond (nat_eq d.name.name x)
+    (Some k) None)))
     (let e : i ≡ length (take i fields) = omega (arith, length-take i fields, l) in e)
     ∙ ap (option_map member.Field) (sym (place_with_last (λ (f : Field). nat_eq f.name.name x) (take i fields) d))
     ∙ ap (λ (ys : List Field). option_map member.Field (place_called ys x))
     (ap (λ y. take i fields ++ y ∷ []) is ∙ sym (take_more fields i d l))
 
 -- one method more, by its number
-pub number_of_one_more : {S : Type 0} (p : Code) (numbers : List ℕ) (i k : ℕ) (first m n : IndexMap ℕ Member S) → i < length numbers
+pub number_of_one_more : {S : Type 0} (p : Code) (numbers : List ℕ) (i k : ℕ) (first m n : IndexMap ℕ Member S)
+    → i < length numbers
     → k ≡ get_or numbers i 0
-    → ((x : ℕ) → get nat_eq n x ≡ option_or (get nat_eq m x) (option_map member.Method (find (is_called p x) (k ∷ []))))
+    → ((x : ℕ) → get nat_eq n x ≡ option_or (get nat_eq m x) (option_map member.Method (find (is_called p x)
+    (k ∷ []))))
     → ((x : ℕ) → get nat_eq m x
     ≡ option_or (get nat_eq first x) (option_map member.Method (find (is_called p x) (take i numbers))))
     → (x : ℕ) → get nat_eq n x
@@ -147,17 +153,22 @@ number_of_one_more p numbers i k first m n l is more before x =
     (ap (λ y. take i numbers ++ y ∷ []) is ∙ sym (take_more numbers i 0 l))
 
 -- the fields are judged first
-pub members_break_at_fields : {B : Type 0} (p : Code) (c : Class) (fs : List Field) (names : Names) (view : B → ⊤) (e : Deny)
-    (r : Result B Deny) → fs ≡ c.fields → Leaves (in_turn (is_new rule.DuplicateMember) (field_names fs) no_names) names (Err e)
+pub members_break_at_fields : {B : Type 0} (p : Code) (c : Class) (fs : List Field) (names : Names) (view : B
+    → ⊤) (e : Deny)
+    (r : Result B Deny) → fs ≡ c.fields → Leaves (in_turn (is_new rule.DuplicateMember)
+    (field_names fs) no_names) names (Err e)
     → IsErrAnd r (λ y. y ≡ e) → Answers (members_differ p c) view r
 members_break_at_fields p c fs names view e r same broken =
-    let P : List Field → Type 0 = λ ds. Leaves (in_turn (is_new rule.DuplicateMember) (field_names ds) no_names) names (Err e) in
+    let P : List Field → Type 0 = λ ds. Leaves (in_turn (is_new rule.DuplicateMember)
+    (field_names ds) no_names) names (Err e) in
     answered_by_that_error (members_differ p c) view tt e r
     (what_comes_next_breaks (in_turn (is_new rule.DuplicateMember) (member_names p c) no_names) (λ _. fine) names tt e
-    (first_part_breaks (is_new rule.DuplicateMember) (field_names c.fields) (method_names p c.methods) no_names names e
+    (first_part_breaks (is_new rule.DuplicateMember) (field_names c.fields)
+    (method_names p c.methods) no_names names e
     (subst P same broken)))
 
-both_are_asked : (p : Code) (c : Class) (fs : List Field) (ns : List ℕ) (names : Names) → fs ≡ c.fields → ns ≡ c.methods
+both_are_asked : (p : Code) (c : Class) (fs : List Field) (ns : List ℕ) (names : Names) → fs ≡ c.fields → ns
+    ≡ c.methods
     → in_turn (is_new rule.DuplicateMember) (field_names fs) no_names ≡ Holds names
     → in_turn (is_new rule.DuplicateMember) (member_names p c) no_names
     ≡ in_turn (is_new rule.DuplicateMember) (method_names p ns) names
@@ -168,7 +179,8 @@ both_are_asked p c fs ns names same also holds =
     ∙ ap (λ (ks : List ℕ). in_turn (is_new rule.DuplicateMember) (method_names p ks) names) (sym also)
 
 -- and then the methods
-pub members_break_at_methods : {B : Type 0} (p : Code) (c : Class) (fs : List Field) (ns : List ℕ) (names later : Names)
+pub members_break_at_methods : {B : Type 0} (p : Code) (c : Class) (fs : List Field) (ns : List ℕ)
+    (names later : Names)
     (view : B → ⊤) (e : Deny) (r : Result B Deny) → fs ≡ c.fields → ns ≡ c.methods
     → in_turn (is_new rule.DuplicateMember) (field_names fs) no_names ≡ Holds names
     → Leaves (in_turn (is_new rule.DuplicateMember) (method_names p ns) names) later (Err e)
@@ -198,12 +210,14 @@ one_method_more p numbers i k v s t l is before holds =
     (drop_more numbers i 0 l ∙ ap (λ y. y ∷ drop (i + 1) numbers) (sym is))
     ∙ ap (λ xs. in_turn (is_new rule.DuplicateMember) xs s)
     (filter_map-append (λ n. option_map (λ (m : Definition). m.name) (method_at p n)) (k ∷ []) (drop (i + 1) numbers))
-    ∙ turns_in_two_parts (is_new rule.DuplicateMember) (method_names p (k ∷ [])) (method_names p (drop (i + 1) numbers)) s
+    ∙ turns_in_two_parts (is_new rule.DuplicateMember) (method_names p (k ∷ [])) (method_names p (drop
+    (i + 1) numbers)) s
     ∙ ap (λ w. w >>= in_turn (is_new rule.DuplicateMember) (method_names p (drop (i + 1) numbers))) holds
 
 -- ---- all classes
 
-all_before_the_last : {A : Type 0} (xs : List A) (y : A) (n : ℕ) → n < length xs → slice_get (xs ++ y ∷ []) n ≡ slice_get xs n
+all_before_the_last : {A : Type 0} (xs : List A) (y : A) (n : ℕ) → n < length xs → slice_get (xs ++ y ∷ []) n
+    ≡ slice_get xs n
 all_before_the_last [] y n l = absurd (omega arith)
 all_before_the_last (x ∷ xs) y zero l = refl
 all_before_the_last (x ∷ xs) y (suc n) l = all_before_the_last xs y n (omega arith)
@@ -215,7 +229,8 @@ the_last_itself (x ∷ xs) y zero e = absurd (omega arith)
 the_last_itself (x ∷ xs) y (suc n) e = the_last_itself xs y n (omega arith)
 
 -- one class more has its members
-pub one_class_more_has_members : {S : Type 0} (p : Code) (ms later : List (IndexMap ℕ Member S)) (m : IndexMap ℕ Member S)
+pub one_class_more_has_members : {S : Type 0} (p : Code) (ms later : List (IndexMap ℕ Member S))
+    (m : IndexMap ℕ Member S)
     (i : ℕ) (k : Class) → length ms ≡ i → later ≡ ms ++ m ∷ [] → class_at p i ≡ Some k → GivesMembers m p k
     → ((n x : ℕ) (c : Class) → n < i → class_at p n ≡ Some c
     → option_map (λ w. get nat_eq w x) (slice_get ms n) ≡ Some (member_called p c x))
@@ -238,7 +253,8 @@ one_class_more_has_members p ms later m i k len is here gives before n x c l the
 -- ---- groups
 
 -- a group that is refused where there is room
-pub a_group_breaks : (room : ℕ) (g : NameAt) (gs xs : List NameAt) (v : Verdict Names) (known later : Names) (e : Deny)
+pub a_group_breaks : (room : ℕ) (g : NameAt) (gs xs : List NameAt) (v : Verdict Names) (known later : Names)
+    (e : Deny)
     → (room ≡ 0 → ⊥) → xs ≡ g ∷ gs → v ≡ declares_groups room xs known
     → Leaves (is_new rule.GroupTwice g known) later (Err e) → Leaves v later (Err e)
 a_group_breaks zero g gs xs v known later e some here before broken = absurd (some refl)
@@ -254,7 +270,8 @@ pub method_comes_to_its_needs : (p : Code) (outer known start names asked : Name
     → declares_groups most_groups gs outer ≡ Holds known → result_holds p known m.result ≡ fine
     → if_there m.me (me_holds known) ≡ fine → start ≡ known → in_turn (param_holds p known) xs start ≡ Holds names
     → asked ≡ no_names → method_holds p outer m ≡ in_turn (need_holds known) ns asked >> fine
-method_comes_to_its_needs p outer known start names asked m gs xs ns groups params needs declared result me same holds none =
+method_comes_to_its_needs p outer known start names asked m gs xs ns groups params needs declared result me same
+    holds none =
     let needs_of : Names → Verdict ⊤ = λ k. in_turn (need_holds k) m.needs no_names >> fine in
     let params_of : Names → Verdict ⊤ = λ k. in_turn (param_holds p k) m.params k >> needs_of k in
     let me_of : Names → Verdict ⊤ = λ k. if_there m.me (me_holds k) >> params_of k in

@@ -34,11 +34,13 @@ pub put_name_is_one_more : {V S : Type 0} (m n : IndexMap ℕ V S) (k : ℕ) (v 
     → get nat_eq m k ≡ None → n.entries ≡ insert_entry nat_eq m.entries k v → IsUnique nat_eq n → HasOneMore k v m n
 put_name_is_one_more m n k v updates none entries unique = record {
   found = λ x. updates.0 x ∙ one_put_behind_others k x v (get nat_eq m) none;
-  names = ap (map (λ e. e.0)) (entries ∙ insert_entry-new nat_eq m k v none) ∙ map-append (λ e. e.0) m.entries ((k, v) ∷ []);
+  names = ap (map (λ e. e.0)) (entries ∙ insert_entry-new nat_eq m k v none)
+      ∙ map-append (λ e. e.0) m.entries ((k, v) ∷ []);
   unique = unique;
 }
 
-one_more_is_there : {V : Type 0} (b : Bool) (v : V) (o : Option V) → is_some (option_or o (cond b (Some v) None)) ≡ (b || is_some o)
+one_more_is_there : {V : Type 0} (b : Bool) (v : V) (o : Option V) → is_some (option_or o (cond b (Some v) None))
+    ≡ (b || is_some o)
 one_more_is_there true v None = refl
 one_more_is_there false v None = refl
 one_more_is_there true v (Some y) = refl
@@ -51,7 +53,8 @@ one_more_name_is_there m n k v more =
     functions_agree (and_also k (named_in m)) (named_in n)
     (λ x. sym (ap is_some (more.found x) ∙ one_more_is_there (nat_eq k x) v (get nat_eq m x)))
 
-is_this_or_there : (q k : ℕ) (b : Bool) → (b || (nat_eq q k || false)) ≡ true → k < 2 ^ 32 → (b ≡ true → q < 2 ^ 32) → q < 2 ^ 32
+is_this_or_there : (q k : ℕ) (b : Bool) → (b || (nat_eq q k || false)) ≡ true → k < 2 ^ 32 → (b ≡ true
+    → q < 2 ^ 32) → q < 2 ^ 32
 is_this_or_there q k true h fits there = there refl
 is_this_or_there q k false h fits there = by (nat_eq q k) refl
   where
@@ -78,7 +81,8 @@ one_more_is_small m n k v more small fits q h = by (nat_eq k q) refl
   where
     by : (b : Bool) → nat_eq k q ≡ b → q < 2 ^ 32
     by true e = subst (λ y. y < 2 ^ 32) (eqb-true k q e) fits
-    by false e = small q (sym (one_more_is_there (nat_eq k q) v (get nat_eq m q) ∙ ap (λ b. b || is_some (get nat_eq m q)) e)
+    by false e = small q (sym (one_more_is_there (nat_eq k q) v (get nat_eq m q)
+        ∙ ap (λ b. b || is_some (get nat_eq m q)) e)
         ∙ sym (ap is_some (more.found q)) ∙ h)
 
 -- one name more is one more in number

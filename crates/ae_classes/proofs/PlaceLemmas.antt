@@ -26,10 +26,12 @@ place_one_further : (w : Bool) (k : ℕ) → cond w (Some (1 + k)) None ≡ opti
 place_one_further true k = ap Some (omega arith)
 place_one_further false k = refl
 
-place_at_the_head : (b : Bool) (k n : ℕ) → cond (nat_lt (cond (not b) (1 + k) 0) (suc n)) (Some (cond (not b) (1 + k) 0)) None
+place_at_the_head : (b : Bool) (k n : ℕ) → cond (nat_lt (cond (not b) (1 + k) 0) (suc n)) (Some (cond (not b)
+    (1 + k) 0)) None
     ≡ cond b (Some 0) (option_map (λ i. suc i) (cond (nat_lt k n) (Some k) None))
 place_at_the_head true k n = ap (λ w. cond w (Some 0) None) (lt-ltb 0 (suc n) (omega arith))
-place_at_the_head false k n = ap (λ w. cond w (Some (1 + k)) None) (next_is_less k n) ∙ place_one_further (nat_lt k n) k
+place_at_the_head false k n = ap (λ w. cond w (Some (1 + k)) None) (next_is_less k n)
+    ∙ place_one_further (nat_lt k n) k
 
 -- the head of a list decides first
 place_from_head : {A : Type 0} (t : A → Bool) (x : A) (xs : List A)

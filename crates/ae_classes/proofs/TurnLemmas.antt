@@ -1,5 +1,6 @@
 -- Premises asked one after the other, each told what those before it came to.
-use Rattle.std.proofs.Common.{◌≡◌, ◌<◌, ◌+◌, ℕ, List, [], ◌∷◌, ◌++◌, drop, get_or, length, Result, Ok, Err, IsErrAnd, refl, sym}
+use Rattle.std.proofs.Common.{◌≡◌, ◌<◌, ◌+◌, ℕ, List, [], ◌∷◌, ◌++◌, drop, get_or, length, Result, Ok, Err}
+use Rattle.std.proofs.Common.{IsErrAnd, refl, sym}
 use Rattle.std.proofs.Common.{ap, subst, ◌∙◌}
 use Rattle.std.specs.Prelude.{⊤}
 use Rattle.std.proofs.lemmas.List.{drop_more}
@@ -32,7 +33,8 @@ one_turn_more premise x xs ys v s t here before holds =
     before ∙ ap (λ zs. in_turn premise zs s) here ∙ ap (λ w. w >>= in_turn premise xs) holds
 
 -- a turn that breaks
-pub a_turn_breaks : {A S : Type 0} (premise : A → S → Verdict S) (x : A) (xs ys : List A) (v : Verdict S) (s t : S) (e : Deny)
+pub a_turn_breaks : {A S : Type 0} (premise : A → S
+    → Verdict S) (x : A) (xs ys : List A) (v : Verdict S) (s t : S) (e : Deny)
     → ys ≡ x ∷ xs → v ≡ in_turn premise ys s → Leaves (premise x s) t (Err e) → Leaves v t (Err e)
 a_turn_breaks premise x xs ys v s t deny.Memory here before broken = tt
 a_turn_breaks premise x xs ys v s t (deny.Refused r) here before broken =
@@ -47,7 +49,8 @@ both_parts_agree (Broken rule at) whole first second same = refl
 pub turns_in_two_parts : {A S : Type 0} (premise : A → S → Verdict S) (xs ys : List A) (s : S)
     → in_turn premise (xs ++ ys) s ≡ in_turn premise xs s >>= in_turn premise ys
 turns_in_two_parts premise [] ys s = refl
-turns_in_two_parts premise (x ∷ xs) ys s = both_parts_agree (premise x s) (in_turn premise (xs ++ ys)) (in_turn premise xs)
+turns_in_two_parts premise (x ∷ xs) ys s = both_parts_agree (premise x s) (in_turn premise (xs ++ ys))
+    (in_turn premise xs)
     (in_turn premise ys) (turns_in_two_parts premise xs ys)
 
 -- the first part breaks
@@ -58,13 +61,15 @@ first_part_breaks premise xs ys s t (deny.Refused r) broken =
     turns_in_two_parts premise xs ys s ∙ ap (λ v. v >>= in_turn premise ys) broken
 
 -- a function that hands on an error of one that changes a state
-pub left_by_that_error : {A : Type 0} (v : Verdict A) (x : A) (e : Deny) (r : Result (Unit {0}) Deny) → Leaves v x (Err e)
+pub left_by_that_error : {A : Type 0} (v : Verdict A) (x : A) (e : Deny) (r : Result (Unit {0}) Deny)
+    → Leaves v x (Err e)
     → IsErrAnd r (λ y. y ≡ e) → Leaves v x r
 left_by_that_error v x e (Ok y) broken same = absurd same
 left_by_that_error v x e (Err y) broken same =
     let P : Deny → Type 0 = λ z. Leaves v x (Err z) in subst P (sym same) broken
 
-answer_of_error : {A B : Type 0} (v : Verdict A) (view : B → A) (x : A) (e : Deny) → Leaves v x (Err e) → Answers v view (Err e)
+answer_of_error : {A B : Type 0} (v : Verdict A) (view : B → A) (x : A) (e : Deny) → Leaves v x (Err e)
+    → Answers v view (Err e)
 answer_of_error v view x deny.Memory broken = tt
 answer_of_error v view x (deny.Refused r) broken = broken
 

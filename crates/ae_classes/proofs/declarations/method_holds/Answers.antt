@@ -36,6 +36,7 @@ returns c =
     method_comes_to_its_needs p (has_name c.args.outer.now) known (has_name c.in_ok-names.names)
     (has_name c.params_hold.new.earlier) (has_name c.new-asked.result) m c.as_slice.result.now c.as_slice-3.result.now
     c.as_slice-4.result.now c.as_slice.ensures c.as_slice-3.ensures c.as_slice-4.ensures c.in_ok-known.ensures
-    c.in_ok-result_holds.ensures c.in_ok-receiver_holds.ensures (ap has_name (c.in_ok-names.ensures ∙ c.as_slice-2.ensures))
+    c.in_ok-result_holds.ensures c.in_ok-receiver_holds.ensures (ap has_name (c.in_ok-names.ensures
+    ∙ c.as_slice-2.ensures))
     c.in_ok-params_hold.ensures (ap has_name c.new-asked.ensures)
     ∙ ap (λ v. v >> fine) c.in_ok-needs_hold.ensures

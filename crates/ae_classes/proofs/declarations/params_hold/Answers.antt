@@ -14,8 +14,10 @@ returns-in_err-param_holds c =
     left_by_that_error (in_turn f params (has_name c.args.earlier.now)) (has_name c.param_holds.new.earlier)
     c.in_err-param_holds.field-0.0 c.from_residual.result
     (a_turn_breaks f c.param-item.result (drop (i + 1) params) (drop i params)
-    (in_turn f params (has_name c.args.earlier.now)) (has_name c.loop-param.earlier) (has_name c.param_holds.new.earlier)
-    c.in_err-param_holds.field-0.0 (from_this_place params i c.param-item.result c.loop-param-test.true c.param-item.is)
+    (in_turn f params (has_name c.args.earlier.now)) (has_name c.loop-param.earlier)
+    (has_name c.param_holds.new.earlier)
+    c.in_err-param_holds.field-0.0 (from_this_place params i c.param-item.result c.loop-param-test.true
+    c.param-item.is)
     c.loop-param.invariant c.in_err-param_holds.ensures)
     c.from_residual.ensures.1
 
@@ -25,6 +27,7 @@ loop-param-preserved c =
     let params = c.args.params.now in
     let i = c.loop-param.param-index in
     one_turn_more f c.param-item.result (drop (i + 1) params) (drop i params)
-    (in_turn f params (has_name c.args.earlier.now)) (has_name c.loop-param.earlier) (has_name c.param_holds.new.earlier)
+    (in_turn f params (has_name c.args.earlier.now)) (has_name c.loop-param.earlier)
+    (has_name c.param_holds.new.earlier)
     (from_this_place params i c.param-item.result c.loop-param-test.true c.param-item.is) c.loop-param.invariant
     c.in_ok-param_holds.ensures

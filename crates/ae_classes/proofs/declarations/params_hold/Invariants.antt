@@ -6,5 +6,6 @@ use Rattle.ae_rules.specs.Table.{param_holds}
 use Rattle.ae_classes.proofs.declarations.params_hold.Given as goal
 
 abbrev pub invariant-loop-param : goal.invariant-loop-param
-invariant-loop-param l = in_turn (param_holds (code l.program) (has_name l.known)) l.params (has_name l.initial.earlier)
+invariant-loop-param l = in_turn (param_holds (code l.program) (has_name l.known)) l.params
+    (has_name l.initial.earlier)
     ≡ in_turn (param_holds (code l.program) (has_name l.known)) (drop l.param-index l.params) (has_name l.earlier)

@@ -23,14 +23,16 @@ loop-place-preserved c =
     subst P c.field_number-number.ensures c.in_ok-put.ensures.put in
     record {
       rest = one_turn_more (is_new rule.DuplicateMember) d.name (field_names (drop (i + 1) fields))
-          (field_names (drop i fields)) (in_turn (is_new rule.DuplicateMember) (field_names fields) no_names) (named_in m)
+          (field_names (drop i fields)) (in_turn (is_new rule.DuplicateMember) (field_names fields) no_names)
+          (named_in m)
           (named_in n) (ap field_names (from_this_place fields i d c.loop-place-test.true c.index-fields-place.is))
           c.loop-place.invariant.rest
           (new_name_joins rule.DuplicateMember d.name (named_in m) (named_in n) c.in_ok-unless_named.ensures
           (one_more_name_is_there m n d.name.name (member.Field i) more));
       found = place_of_one_more fields i d m n c.loop-place-test.true c.index-fields-place.is more
           c.loop-place.invariant.found;
-      count = one_more_name_counts m n d.name.name (member.Field i) more ∙ ap (λ k. k + 1) c.loop-place.invariant.count;
+      count = one_more_name_counts m n d.name.name (member.Field i) more
+          ∙ ap (λ k. k + 1) c.loop-place.invariant.count;
       small = c.in_ok-put.ensures.small c.loop-place.invariant.small;
       unique = more.unique;
     }

@@ -18,11 +18,15 @@ loop-class-preserved c =
     let k : Class = c.class-item.result in
     let items : List Class = c.as_slice-class-items.result.now in
     let read : slice_get items i ≡ Some k =
-    slice_get_read items (length items) i k (let e : length items ≡ length items = omega arith in e) c.loop-class-test.true c.class-item.is in
-    let there : class_at p i ≡ Some k = ap (λ (xs : List Class). slice_get xs i) (sym c.as_slice-class-items.ensures) ∙ read in
+    slice_get_read items (length items) i k (let e : length items
+    ≡ length items = omega arith in e) c.loop-class-test.true c.class-item.is in
+    let there : class_at p i ≡ Some k = ap (λ (xs : List Class). slice_get xs i)
+    (sym c.as_slice-class-items.ensures) ∙ read in
     record {
-      rest = one_premise_more (members_differ p) k (drop (i + 1) classes) (drop i classes) (each (members_differ p) classes)
-          (ap (drop i) (sym c.as_slice-class-items.ensures) ∙ from_this_place items i k c.loop-class-test.true c.class-item.is
+      rest = one_premise_more (members_differ p) k (drop (i + 1) classes) (drop i classes) (each
+          (members_differ p) classes)
+          (ap (drop i) (sym c.as_slice-class-items.ensures)
+          ∙ from_this_place items i k c.loop-class-test.true c.class-item.is
           ∙ ap (λ (xs : List Class). k ∷ drop (i + 1) xs) c.as_slice-class-items.ensures)
           c.loop-class.invariant.rest c.in_ok-members_of.ensures.answer;
       count = ap length c.in_ok-push.ensures.ok ∙ length-append c.loop-class.members (c.in_ok-members_of.field-0 ∷ [])
@@ -35,9 +39,16 @@ loop-class-preserved c =
 pub returns-clause-gives : goal.returns-clause-gives
 returns-clause-gives c =
     let classes : List Class = c.args.program.now.classes in
-    let same : length c.as_slice-class-items.result.now ≡ length classes = ap (λ (xs : List Class). length xs) c.as_slice-class-items.ensures in
+    let same : length c.as_slice-class-items.result.now
+    ≡ length classes = ap (λ (xs : List Class). length xs) c.as_slice-class-items.ensures in
     record {
-      count = omega (arith, c.loop-class.invariant.count, c.loop-class-test.false, c.loop-class.auto.class-index-end, same);
+      count = omega (
+        arith,
+        c.loop-class.invariant.count,
+        c.loop-class-test.false,
+        c.loop-class.auto.class-index-end,
+        same,
+      );
       members = λ n x k is. c.loop-class.invariant.found n x k
           (let within = slice_get_within classes n k is in omega (arith, within, same, c.loop-class-test.false)) is;
     }

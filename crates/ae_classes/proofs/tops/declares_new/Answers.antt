@@ -29,5 +29,6 @@ returns-in-Some-method_at-clause-gives c =
     c.put_new-in-Some-method_at.ensures.put
 
 pub returns-in-None-method_at-clause-gives : goal.returns-in-None-method_at-clause-gives
-returns-in-None-method_at-clause-gives c = λ before given. gives_no_method_more (code c.args.program.now) c.args.names.now
+returns-in-None-method_at-clause-gives c = λ before given. gives_no_method_more
+    (code c.args.program.now) c.args.names.now
     c.args.names.now c.in-Method.number c.args.decl before c.in-Method.is c.in-None-method_at.ensures given

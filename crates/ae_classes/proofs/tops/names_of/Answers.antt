@@ -13,7 +13,8 @@ returns-in_err-declares_new-clause-answer c =
     let i = c.loop-decl.decl-index in
     answered_by_that_error (in_turn (declares_new p) decls nothing_declared) declared_in
     (declared_in c.declares_new.new.names) c.in_err-declares_new.field-0.0 c.from_residual.result
-    (a_turn_breaks (declares_new p) _ (drop (i + 1) decls) (drop i decls) (in_turn (declares_new p) decls nothing_declared)
+    (a_turn_breaks (declares_new p) _ (drop (i + 1) decls) (drop i decls) (in_turn
+    (declares_new p) decls nothing_declared)
     (declared_in c.loop-decl.names) (declared_in c.declares_new.new.names) c.in_err-declares_new.field-0.0
     (from_copied_place decls c.as_slice-decl-items.result.now i _ c.as_slice-decl-items.ensures c.loop-decl-test.true)
     c.loop-decl.invariant.rest c.in_err-declares_new.ensures.answer)
