@@ -9,6 +9,7 @@ use Rattle.ae_tree.specs.declared.tree.Decl.{Decl}
 use Rattle.ae_tree.specs.Plain.{Definition, Code}
 use Rattle.ae_tree.specs.WellShaped.{class_in}
 use Rattle.ae_rules.specs.declared.table.Member.{Member}
+use Rattle.ae_rules.specs.declared.table.Member.TheVariants as member
 use Rattle.ae_rules.specs.Verdict.{given}
 use Rattle.ae_rules.specs.Lookups.{class_at, method_at, class_number, top_number, top_in, is_called, member_called}
 use Rattle.ae_rules.specs.Lookups.{field_form}
@@ -53,6 +54,14 @@ field_names ds = map (λ (d : Field). d.name) ds
 -- the place of the first of these fields with this name
 abbrev pub place_called : List Field → ℕ → Option ℕ
 place_called ds x = position (λ (d : Field). nat_eq d.name.name x) ds
+
+-- the first of these fields with this name, as a member
+abbrev pub field_among : List Field → ℕ → Option Member
+field_among ds x = option_map member.Field (place_called ds x)
+
+-- the first of the methods with these numbers that has this name, as a member
+abbrev pub method_among : Code → List ℕ → ℕ → Option Member
+method_among p ns x = option_map member.Method (find (is_called p x) ns)
 
 -- the names of the methods with these numbers
 abbrev pub method_names : Code → List ℕ → List NameAt

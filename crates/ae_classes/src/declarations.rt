@@ -228,8 +228,8 @@ fn numbered_holds(
     number: u32,
 ) -> Result<(), Deny>
     requires { GivesClasses classes.now (code program.now) }
-    ensures { Answers (if_there (lookup.method_at (code program.now) number) (spec.method_holds
-        (code program.now) (has_name outer.now))) done result }
+    ensures { Answers (if_there (lookup.method_at (code program.now) number)
+        (spec.method_holds (code program.now) (has_name outer.now))) done result }
 {
     match method_at(program, number) {
         Some(method) => method_holds(alloc, program, classes, outer, method),
@@ -245,8 +245,8 @@ fn methods_hold(
     numbers: &[u32],
 ) -> Result<(), Deny>
     requires { GivesClasses classes.now (code program.now) }
-    ensures { Answers (each (λ n. if_there (lookup.method_at (code program.now) n) (spec.method_holds
-        (code program.now) (has_name outer.now))) numbers.now) done result }
+    ensures { Answers (each (λ n. if_there (lookup.method_at (code program.now) n)
+        (spec.method_holds (code program.now) (has_name outer.now))) numbers.now) done result }
 {
     for number in numbers {
         numbered_holds(alloc, program, classes, outer, *number)?;

@@ -9,16 +9,16 @@ use indexmap::IndexMap;
 
 // The class with this number.
 pub fn class_at(program: &Program, number: u32) -> Option<&Class>
-    ensures { MatchOption result (spec.class_at (code program.now) number ≡ None) (λ c. spec.class_at
-        (code program.now) number ≡ Some c.now) }
+    ensures { MatchOption result (spec.class_at (code program.now) number ≡ None)
+        (λ c. spec.class_at (code program.now) number ≡ Some c.now) }
 {
     program.classes.get(number as usize)
 }
 
 // The method with this number.
 pub fn method_at(program: &Program, number: u32) -> Option<&Method>
-    ensures { MatchOption result (spec.method_at (code program.now) number ≡ None) (λ m. spec.method_at
-        (code program.now) number ≡ Some (definition m.now)) }
+    ensures { MatchOption result (spec.method_at (code program.now) number ≡ None)
+        (λ m. spec.method_at (code program.now) number ≡ Some (definition m.now)) }
 {
     program.methods.get(number as usize)
 }
@@ -30,8 +30,8 @@ pub fn class_called<'a>(
     name: Name,
 ) -> Option<&'a Class>
     requires { GivesClasses classes.now (code program.now) }
-    ensures { MatchOption result (spec.class_called (code program.now) name ≡ None) (λ c. spec.class_called
-        (code program.now) name ≡ Some c.now) }
+    ensures { MatchOption result (spec.class_called (code program.now) name ≡ None)
+        (λ c. spec.class_called (code program.now) name ≡ Some c.now) }
 {
     match classes.get(&name) {
         Some(number) => class_at(program, *number),
@@ -46,8 +46,8 @@ pub fn top_called<'a>(
     name: Name,
 ) -> Option<&'a Method>
     requires { GivesTops tops.now (code program.now) }
-    ensures { MatchOption result (spec.top_called (code program.now) name ≡ None) (λ m. spec.top_called
-        (code program.now) name ≡ Some (definition m.now)) }
+    ensures { MatchOption result (spec.top_called (code program.now) name ≡ None)
+        (λ m. spec.top_called (code program.now) name ≡ Some (definition m.now)) }
 {
     match tops.get(&name) {
         Some(number) => method_at(program, *number),

@@ -1,17 +1,15 @@
 // The second clause: the fields and methods of a class have names of their own.
-ghost use Rattle.std.specs.Prelude.{◌≡◌, ◌∷◌, [], ℕ, nat_eq, option_map, find, length, None, OnOk, IfOk};
+ghost use Rattle.std.specs.Prelude.{◌≡◌, ◌∷◌, [], ℕ, nat_eq, length, None, OnOk, IfOk};
 ghost use Rattle.std.specs.Option.{option_or};
 ghost use Rattle.indexmap.specs.IndexMap.{get, keys, IsUnique};
 ghost use Rattle.ae_tree.specs.Shown.{code};
-ghost use Rattle.ae_rules.specs.declared.table.Member.TheVariants as member;
 ghost use Rattle.ae_text.specs.declared.refusal.Rule.TheVariants as rule;
 ghost use Rattle.ae_rules.specs.Verdict.{in_turn, each};
 ghost use Rattle.ae_rules.specs.Answers.{Answers, Leaves};
-ghost use Rattle.ae_rules.specs.Lookups.{is_called};
 ghost use Rattle.ae_rules.specs.Table as spec;
 ghost use Rattle.ae_classes.specs.Named.{named_in, AreSmall};
-ghost use Rattle.ae_classes.specs.Classes.{GivesMembers, GivesAllMembers, field_names, place_called};
-ghost use Rattle.ae_classes.specs.Classes.{method_names, passed};
+ghost use Rattle.ae_classes.specs.Classes.{GivesMembers, GivesAllMembers, field_names, field_among};
+ghost use Rattle.ae_classes.specs.Classes.{method_names, method_among, passed};
 
 use crate::lookups::method_at;
 use crate::names::{put, put_new, unless_named};
@@ -37,8 +35,7 @@ fn field_number(place: usize, name: Name, members: &IndexMap<Name, Member>) -> u
 fn fields_by_name(alloc: Global, fields: &[Field]) -> Result<IndexMap<Name, Member>, Deny>
     ensures answer { Answers (in_turn (spec.is_new rule.DuplicateMember)
         (field_names fields.now) spec.no_names) named_in result }
-    ensures gives { IfOk result (λ m. (x : ℕ) → get nat_eq m x ≡ option_map member.Field
-        (place_called fields.now x)) }
+    ensures gives { IfOk result (λ m. (x : ℕ) → get nat_eq m x ≡ field_among fields.now x) }
 {
     let mut members = IndexMap::new(alloc);
     for (place, field) in fields.iter().enumerate() {
@@ -56,11 +53,10 @@ fn put_method(
     number: u32,
     members: &mut IndexMap<Name, Member>,
 ) -> Result<(), Deny>
-    ensures answer { Leaves (in_turn (spec.is_new rule.DuplicateMember) (method_names (code program.now)
-        (number ∷ [])) (named_in members.old)) (named_in members.new) result }
+    ensures answer { Leaves (in_turn (spec.is_new rule.DuplicateMember)
+        (method_names (code program.now) (number ∷ [])) (named_in members.old)) (named_in members.new) result }
     ensures gives { OnOk result ((x : ℕ) → get nat_eq members.new x
-        ≡ option_or (get nat_eq members.old x) (option_map member.Method (find (is_called (code program.now) x)
-        (number ∷ [])))) }
+        ≡ option_or (get nat_eq members.old x) (method_among (code program.now) (number ∷ []) x)) }
 {
     match method_at(program, number) {
         Some(method) => put_new(
@@ -79,11 +75,10 @@ fn put_methods(
     numbers: &[u32],
     members: &mut IndexMap<Name, Member>,
 ) -> Result<(), Deny>
-    ensures answer { Leaves (in_turn (spec.is_new rule.DuplicateMember) (method_names
-        (code program.now) numbers.now) (named_in members.old)) (named_in members.new) result }
+    ensures answer { Leaves (in_turn (spec.is_new rule.DuplicateMember)
+        (method_names (code program.now) numbers.now) (named_in members.old)) (named_in members.new) result }
     ensures gives { OnOk result ((x : ℕ) → get nat_eq members.new x
-        ≡ option_or (get nat_eq members.old x) (option_map member.Method (find (is_called
-        (code program.now) x) numbers.now))) }
+        ≡ option_or (get nat_eq members.old x) (method_among (code program.now) numbers.now x)) }
 {
     for number in numbers {
         put_method(program, *number, members)?;

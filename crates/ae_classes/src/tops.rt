@@ -6,7 +6,6 @@ ghost use Rattle.ae_tree.specs.declared.tree.Decl.{Decl};
 ghost use Rattle.ae_rules.specs.Answers.{Answers, Leaves};
 ghost use Rattle.ae_rules.specs.Table as spec;
 ghost use Rattle.ae_classes.specs.Classes.{GivesClasses, GivesTops, GivesDeclared, declared_in, passed};
-ghost use Rattle.ae_rules.specs.Verdict.{in_turn};
 
 use crate::lookups::{class_at, method_at};
 use crate::names::put_new;
@@ -41,11 +40,12 @@ fn declares_new(program: &Program, decl: Decl, names: &mut TopNames) -> Result<(
     }
 }
 
-// The classes and the methods at the top by name, in the order of the declarations.
-fn names_of(alloc: Global, program: &Program) -> Result<TopNames, Deny>
-    ensures answer { Answers (in_turn (spec.declares_new
-        (code program.now)) program.now.decls spec.nothing_declared) declared_in result }
-    ensures gives { IfOk result (λ names. GivesDeclared names (code program.now) program.now.decls) }
+// The classes and the methods at the top by name, in the order of the declarations, where each has a name of its own.
+pub fn tops_differ(alloc: Global, program: &Program) -> Result<TopNames, Deny>
+    requires { WellShaped (code program.now) }
+    ensures answer { Answers (spec.tops_differ (code program.now)) passed result }
+    ensures classes { IfOk result (λ names. GivesClasses names.classes (code program.now)) }
+    ensures tops { IfOk result (λ names. GivesTops names.tops (code program.now)) }
 {
     let mut names = TopNames {
         classes: IndexMap::new(alloc),
@@ -54,16 +54,5 @@ fn names_of(alloc: Global, program: &Program) -> Result<TopNames, Deny>
     for decl in program.decls.as_slice() {
         declares_new(program, *decl, &mut names)?;
     }
-    Ok(names)
-}
-
-// The classes and the methods at the top by name, where each has a name of its own.
-pub fn tops_differ(alloc: Global, program: &Program) -> Result<TopNames, Deny>
-    requires { WellShaped (code program.now) }
-    ensures answer { Answers (spec.tops_differ (code program.now)) passed result }
-    ensures classes { IfOk result (λ names. GivesClasses names.classes (code program.now)) }
-    ensures tops { IfOk result (λ names. GivesTops names.tops (code program.now)) }
-{
-    let names = names_of(alloc, program)?;
     Ok(names)
 }

@@ -3,7 +3,7 @@ use Rattle.ae_tree.specs.Shown.{code}
 use Rattle.ae_rules.specs.Verdict.{in_turn}
 use Rattle.ae_rules.specs.Table.{declares_new, nothing_declared}
 use Rattle.ae_classes.specs.Classes.{GivesDeclared, declared_in}
-use Rattle.ae_classes.proofs.tops.names_of.Given as goal
+use Rattle.ae_classes.proofs.tops.tops_differ.Given as goal
 
 abbrev pub invariant-loop-decl : goal.invariant-loop-decl
 invariant-loop-decl l = record {
