@@ -16,21 +16,51 @@ const TABLES: [(&str, &str); 36] = [
     ("class f { } method void f() { } method void main() { }", ""),
     ("method void main(unique Ints x) with exclusive io { }", ""),
     ("class A { } class A { }", "N1 DuplicateClass 1:19"),
-    ("class C { int x; int x; } class C { }", "N1 DuplicateClass 1:33"),
-    ("method void f() { } method void f() { }", "N2 DuplicateMember 1:33"),
+    (
+        "class C { int x; int x; } class C { }",
+        "N1 DuplicateClass 1:33",
+    ),
+    (
+        "method void f() { } method void f() { }",
+        "N2 DuplicateMember 1:33",
+    ),
     ("class C { int x; bool x; }", "N2 DuplicateMember 1:23"),
-    ("class C { int f; method void f(lent this) { } }", "N2 DuplicateMember 1:30"),
-    ("class C { unique D d; } class D { int x; int x; }", "N2 DuplicateMember 1:46"),
+    (
+        "class C { int f; method void f(lent this) { } }",
+        "N2 DuplicateMember 1:30",
+    ),
+    (
+        "class C { unique D d; } class D { int x; int x; }",
+        "N2 DuplicateMember 1:46",
+    ),
     ("class C { lent Ints a; }", "P5 LentEscapes 1:11"),
-    ("method lent Ints f() { return null; }", "P5 LentEscapes 1:8"),
+    (
+        "method lent Ints f() { return null; }",
+        "P5 LentEscapes 1:8",
+    ),
     ("method void f(unique D d) { }", "N3 UnknownClass 1:22"),
-    ("class C<g> { } method void f(unique C c) { }", "G2 GroupCount 1:37"),
-    ("class C<g> { } method void f(unique C<h> c) { }", "G1 UnknownGroup 1:39"),
-    ("class C<g> { } method void f(shared<k> C<h, h> c) { }", "G1 UnknownGroup 1:37"),
-    ("method void f(shared<io> Ints p) { }", "G1 UnknownGroup 1:22"),
+    (
+        "class C<g> { } method void f(unique C c) { }",
+        "G2 GroupCount 1:37",
+    ),
+    (
+        "class C<g> { } method void f(unique C<h> c) { }",
+        "G1 UnknownGroup 1:39",
+    ),
+    (
+        "class C<g> { } method void f(shared<k> C<h, h> c) { }",
+        "G1 UnknownGroup 1:37",
+    ),
+    (
+        "method void f(shared<io> Ints p) { }",
+        "G1 UnknownGroup 1:22",
+    ),
     ("method void f<io>() { }", "G6 GroupTwice 1:15"),
     ("method void f<g, g>() { }", "G6 GroupTwice 1:18"),
-    ("class C<g> { method void f<g>(lent this) { } }", "G6 GroupTwice 1:28"),
+    (
+        "class C<g> { method void f<g>(lent this) { } }",
+        "G6 GroupTwice 1:28",
+    ),
     (
         "method void f<a, b, c, d, e, h, i, j, k, l, m, n, o, p, q, r, s>() { }",
         "K5 TooManyGroups 1:63",
@@ -39,21 +69,36 @@ const TABLES: [(&str, &str); 36] = [
         "method void f<a, b, c, d, e, h, i, j, k, l, m, n, o, p, q, r, a>() { }",
         "K5 TooManyGroups 1:63",
     ),
-    ("method void f(lent Ints p >> none) { }", "P5 LentEscapes 1:27"),
-    ("class C { method void f(lent this >> none) { } }", "P5 LentEscapes 1:35"),
+    (
+        "method void f(lent Ints p >> none) { }",
+        "P5 LentEscapes 1:27",
+    ),
+    (
+        "class C { method void f(lent this >> none) { } }",
+        "P5 LentEscapes 1:35",
+    ),
     ("method void f(int x >> none) { }", "N9 TypeMismatch 1:21"),
     ("method void f(int io) { }", "N6 DuplicateLocal 1:19"),
     ("method void f<g>(int g) { }", "N6 DuplicateLocal 1:22"),
     ("method void f(int x, bool x) { }", "N6 DuplicateLocal 1:27"),
     ("method void f() with shared g { }", "G1 UnknownGroup 1:29"),
-    ("method void f<g>() with shared g, exclusive g { }", "G6 GroupTwice 1:45"),
+    (
+        "method void f<g>() with shared g, exclusive g { }",
+        "G6 GroupTwice 1:45",
+    ),
     ("method void f() with shared io { }", "N7 NoMain 1:1"),
     ("method int main() { return 1; }", "N7 NoMain 1:12"),
     ("method void main<g>() { }", "N7 NoMain 1:13"),
     ("method void main(int x) { }", "N7 NoMain 1:13"),
-    ("method void main(unique Ints x >> none) { }", "N7 NoMain 1:13"),
+    (
+        "method void main(unique Ints x >> none) { }",
+        "N7 NoMain 1:13",
+    ),
     ("method void main() with shared io { }", "N7 NoMain 1:13"),
-    ("class C { method void main(lent this) { } }", "N7 NoMain 1:1"),
+    (
+        "class C { method void main(lent this) { } }",
+        "N7 NoMain 1:1",
+    ),
 ];
 
 // A program that was read, and its class table.
@@ -164,7 +209,10 @@ fn names_in_the_table(rt: HostRuntime) -> Result<(), Fail> {
         let name = method.name.name;
         if method.class.is_some() {
             assert_eq!(rt; table.top(name), None);
-            assert_eq!(rt; table.members.as_slice()[0].get(&name).copied(), Some(Member::Method(number as u32)));
+            assert_eq!(rt;
+                table.members.as_slice()[0].get(&name).copied(),
+                Some(Member::Method(number as u32))
+            );
         } else {
             assert_eq!(rt; table.top(name), Some(number as u32));
         }
