@@ -20,3 +20,4 @@ mod Flowing
 mod Reading
 mod Walked
 mod FixedLemmas
+mod FreshRows

@@ -18,7 +18,13 @@ pub mod Moments
 pub mod Entries
 pub mod Regions
 pub mod BlockTrees
-pub mod Stamps
 pub mod Trails
 pub mod Unfolding
+pub mod Stacks
+pub mod BlockRows
+pub mod StageClaims
+pub mod Reached
+pub mod RowTrees
+pub mod Stamps
+pub mod RowLaws
 pub mod Laws

@@ -5,6 +5,7 @@ ghost use Rattle.ae_semantics.specs.Laws.{AtomAsksNothing, CellsAreFixed, Contex
 ghost use Rattle.ae_semantics.specs.Laws.{FreshStandsFor, MoreChangesNothing};
 ghost use Rattle.ae_semantics.specs.Laws.{NothingBegunIsAfter};
 ghost use Rattle.ae_semantics.specs.PastStops.{RunsGoPast, StatementsGoPast};
+ghost use Rattle.ae_semantics.specs.RowLaws.{FreshIsReached, FreshRowsAreStamped, FreshRowsStandFor};
 ghost use Rattle.ae_semantics.specs.Stamps.{FreshIsStamped};
 ghost use Rattle.ae_semantics.specs.Standing.{AsksAreLocated};
 ghost use Rattle.ae_semantics.specs.Trails.{WatchingChangesNothing};
@@ -59,7 +60,8 @@ pub fn atom_asks_nothing()
     ensures { AtomAsksNothing }
 {}
 
-/// A run past what stopped is the run up to the first ending where that goes through, and stops first where that ends or stops.
+/// A run past what stopped is the run up to the first ending where that goes through, and stops first where that ends
+/// or stops.
 pub fn runs_go_past_what_stopped()
     ensures { RunsGoPast }
 {}
@@ -69,7 +71,8 @@ pub fn statements_go_past_what_stopped()
     ensures { StatementsGoPast }
 {}
 
-/// What an atomic statement of the text asks is located again, with its group and with its statements in the context in which they begin.
+/// What an atomic statement of the text asks is located again, with its group and with its statements in the context in
+/// which they begin.
 pub fn asks_are_located()
     ensures { AsksAreLocated }
 {}
@@ -77,6 +80,22 @@ pub fn asks_are_located()
 /// The tree before anything ran is stamped: nothing in it has a stamp yet.
 pub fn fresh_is_stamped()
     ensures { FreshIsStamped }
+{}
+
+/// Where a program begins, the rows in which all waits are reached: each is right by what its statements do alone.
+pub fn fresh_rows_are_reached()
+    ensures { FreshIsReached }
+{}
+
+/// In every program with a `main` these rows are there, their tree is the one before anything ran, and they stand for
+/// the meaning.
+pub fn fresh_rows_stand_for()
+    ensures { FreshRowsStandFor }
+{}
+
+/// They are stamped: nothing in them has a stamp yet.
+pub fn fresh_rows_are_stamped()
+    ensures { FreshRowsAreStamped }
 {}
 
 /// The cells that an explained report has, and their order, are fixed by what else it tells.
