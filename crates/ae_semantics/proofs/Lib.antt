@@ -21,3 +21,4 @@ mod Reading
 mod Walked
 mod FixedLemmas
 mod FreshRows
+mod LockNumbers

@@ -1,5 +1,5 @@
 -- The tree of a list of rows, what its rows have gained, and when rows are reached.
-use Rattle.std.specs.Prelude.{◌≡◌, ℕ, zero, suc, ℤ, not, filter, if◌then◌else◌, List, [], ◌∷◌, ◌++◌, length, Option}
+use Rattle.std.specs.Prelude.{ℕ, zero, suc, ℤ, not, filter, List, [], ◌∷◌, ◌++◌, length, Option}
 use Rattle.std.specs.Prelude.{None, option_map}
 use Rattle.std.specs.List.{flat_map, list_any}
 use Rattle.ae_tree.specs.Plain.{Code}

@@ -1,5 +1,5 @@
 -- What the stages of rows say: each is what its statement does from what it finds.
-use Rattle.std.specs.Prelude.{◌≡◌, ◌≢◌, ◌⊎◌, ℕ, true, is_some, List, [], ◌∷◌, ◌++◌, map, take, Option, Some}
+use Rattle.std.specs.Prelude.{◌≡◌, ◌⊎◌, ℕ, true, is_some, List, [], ◌∷◌, map, take, Option, Some}
 use Rattle.std.specs.Prelude.{Contains, ⊤}
 use Rattle.ae_tree.specs.Plain.{Expression, Lines, Code}
 use Rattle.ae_tree.specs.Plain.{Action, Repeats, Splits}

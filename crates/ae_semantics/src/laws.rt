@@ -71,8 +71,8 @@ pub fn statements_go_past_what_stopped()
     ensures { StatementsGoPast }
 {}
 
-/// What an atomic statement of the text asks is located again, with its group and with its statements in the context in
-/// which they begin.
+/// In a well-shaped program what an atomic statement of the text asks is located again, with its group and with its
+/// statements in the context in which they begin.
 pub fn asks_are_located()
     ensures { AsksAreLocated }
 {}
