@@ -22,3 +22,6 @@ mod Walked
 mod FixedLemmas
 mod FreshRows
 mod LockNumbers
+mod StagesStill
+mod StepLemmas
+mod RowsKept

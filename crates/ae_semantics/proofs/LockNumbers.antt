@@ -162,7 +162,7 @@ other_number n x h = by_test (nat_eq x n) refl
     by_test false e = e
 
 -- what is found in a list is in it
-contained : {A : Type 0} (xs : List A) (n : ℕ) (x : A) → slice_get xs n ≡ Some x → Contains xs x
+pub contained : {A : Type 0} (xs : List A) (n : ℕ) (x : A) → slice_get xs n ≡ Some x → Contains xs x
 contained [] n x e = absurd (cc)
 contained (y ∷ ys) zero x e = (0, omega arith, same_Some y x e)
 contained (y ∷ ys) (suc n) x e = let c = contained ys n x e in (suc c.0, omega (arith, c.1), c.2)

@@ -27,4 +27,5 @@ pub mod Reached
 pub mod RowTrees
 pub mod Stamps
 pub mod RowLaws
+pub mod RowSteps
 pub mod Laws

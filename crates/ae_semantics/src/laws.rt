@@ -6,6 +6,7 @@ ghost use Rattle.ae_semantics.specs.Laws.{FreshStandsFor, MoreChangesNothing};
 ghost use Rattle.ae_semantics.specs.Laws.{NothingBegunIsAfter};
 ghost use Rattle.ae_semantics.specs.PastStops.{RunsGoPast, StatementsGoPast};
 ghost use Rattle.ae_semantics.specs.RowLaws.{FreshIsReached, FreshRowsAreStamped, FreshRowsStandFor};
+ghost use Rattle.ae_semantics.specs.RowSteps.{LeavingOutKeeps, LoopingKeeps, StageKeeps, StartingKeeps};
 ghost use Rattle.ae_semantics.specs.Stamps.{FreshIsStamped};
 ghost use Rattle.ae_semantics.specs.Standing.{AsksAreLocated};
 ghost use Rattle.ae_semantics.specs.Trails.{WatchingChangesNothing};
@@ -96,6 +97,27 @@ pub fn fresh_rows_stand_for()
 /// They are stamped: nothing in them has a stamp yet.
 pub fn fresh_rows_are_stamped()
     ensures { FreshRowsAreStamped }
+{}
+
+/// Another stage for a statement that is not done, right for it and not that of one that went through, keeps all rows
+/// right.
+pub fn stage_keeps_rows_right()
+    ensures { StageKeeps }
+{}
+
+/// Rows stay reached where a statement is left out that is in conflict with one before it that ended or is left out.
+pub fn leaving_out_keeps_reached()
+    ensures { LeavingOutKeeps }
+{}
+
+/// Rows stay reached where a statement is begun as a body with values as it finds them.
+pub fn starting_keeps_reached()
+    ensures { StartingKeeps }
+{}
+
+/// Rows stay reached where a loop comes before its first turn with values as it finds them.
+pub fn looping_keeps_reached()
+    ensures { LoopingKeeps }
 {}
 
 /// The cells that an explained report has, and their order, are fixed by what else it tells.

@@ -1,0 +1,77 @@
+-- Steps of a run under way, one statement at a time, which leave what was found as it was.
+use Rattle.std.specs.Prelude.{◌≡◌, ℕ, zero, suc, ℤ, List, [], ◌∷◌, Option, Some, slice_get}
+use Rattle.ae_tree.specs.Plain.{Expression, Lines, Code}
+use Rattle.ae_tree.specs.Plain.{Repeats}
+use Rattle.ae_semantics.specs.Observations.{Seen, Query}
+use Rattle.ae_semantics.specs.Moments.{Moment}
+use Rattle.ae_semantics.specs.Stacks.{TheStatement}
+use Rattle.ae_semantics.specs.BlockRows.{RowStage, Waiting, Finished, LeftOut, Inside, Loop, InTurn, Paused}
+use Rattle.ae_semantics.specs.BlockRows.{BlockRow, RowStatement, row_statements}
+use Rattle.ae_semantics.specs.StageClaims.{IsFree, IsBehindBarred, AreFound}
+use Rattle.ae_semantics.specs.Reached.{IsRight, AreRowsRight}
+use Rattle.ae_semantics.specs.RowTrees.{nothing_gained, Reached}
+
+-- ---- another stage
+
+-- another thing at this place of a list
+abbrev pub changed_at : {A : Type 0} → ℕ → (A → A) → List A → List A
+changed_at n f [] = []
+changed_at zero f (x ∷ xs) = f x ∷ xs
+changed_at (suc n) f (x ∷ xs) = x ∷ changed_at n f xs
+
+-- the row with another stage of its statement of this number
+abbrev pub with_stage : ℕ → RowStage → BlockRow → BlockRow
+with_stage n y r = record r { stages = changed_at n (λ x. y) r.stages }
+
+-- the rows with another stage of statement n of row k
+abbrev pub staged : ℕ → ℕ → RowStage → List BlockRow → List BlockRow
+staged k n y rows = changed_at k (with_stage n y) rows
+
+-- this is statement n of row k, and this its stage
+abbrev pub IsAt : Code → List BlockRow → ℕ → ℕ → RowStatement → RowStage → Type 0
+IsAt p rows k n x stage = (r : BlockRow) × (slice_get rows k ≡ Some r)
+    × (slice_get (row_statements p r) n ≡ Some (x, stage))
+
+-- the statement is not done, and no block in it is a row
+abbrev pub IsUndone : RowStage → Type 0
+IsUndone Waiting = Unit {0}
+IsUndone (Loop t fuel now gained) = Unit {0}
+IsUndone (Paused start stack now gained) = Unit {0}
+IsUndone _ = ⊥
+
+-- the statement did not go through, and no block in it is a row
+abbrev pub IsNotThrough : RowStage → Type 0
+IsNotThrough (Finished m gained) = ⊥
+IsNotThrough (Inside inner cells) = ⊥
+IsNotThrough (InTurn t fuel gained) = ⊥
+IsNotThrough _ = Unit {0}
+
+-- ---- steps
+
+-- A statement that is not done gets another stage that is right for it by these answers: then all rows are right as
+-- before. How a statement goes through, and how blocks in it become rows, is not among these steps.
+abbrev pub StageKeeps : Type 0
+StageKeeps = (p : Code) (ints : List ℤ) (fuel : ℕ) (table : Query → Option Seen) (rows : List BlockRow) (k n : ℕ)
+    (x : RowStatement) (old new : RowStage) → AreRowsRight p ints fuel table rows → IsAt p rows k n x old
+    → IsUndone old → IsNotThrough new → IsRight p table rows x new
+    → AreRowsRight p ints fuel table (staged k n new rows)
+
+-- a statement that waits is left out, where one that ended or is left out is in conflict with it
+abbrev pub LeavingOutKeeps : Type 0
+LeavingOutKeeps = (p : Code) (ints : List ℤ) (fuel : ℕ) (rows : List BlockRow) (k n : ℕ) (x : RowStatement)
+    → Reached p ints fuel rows → IsAt p rows k n x Waiting → IsBehindBarred p x
+    → Reached p ints fuel (staged k n LeftOut rows)
+
+-- a statement that waits is begun as a body, with values as it finds them
+abbrev pub StartingKeeps : Type 0
+StartingKeeps = (p : Code) (ints : List ℤ) (fuel : ℕ) (rows : List BlockRow) (k n : ℕ) (x : RowStatement) (m : Moment)
+    → Reached p ints fuel rows → IsAt p rows k n x Waiting → IsFree p x → AreFound p x m
+    → Reached p ints fuel
+    (staged k n (Paused m (TheStatement x.fuel x.passage.here x.at x.action ∷ []) m nothing_gained) rows)
+
+-- a loop that waits comes before its first turn, with values as it finds them
+abbrev pub LoopingKeeps : Type 0
+LoopingKeeps = (p : Code) (ints : List ℤ) (fuel : ℕ) (rows : List BlockRow) (k n : ℕ) (x : RowStatement) (m : Moment)
+    (e : Expression) (number : ℕ) (b : Lines) → x.action ≡ Repeats e number b
+    → Reached p ints fuel rows → IsAt p rows k n x Waiting → IsFree p x → AreFound p x m
+    → Reached p ints fuel (staged k n (Loop 0 x.fuel m nothing_gained) rows)
