@@ -22,6 +22,8 @@ mod Walked
 mod FixedLemmas
 mod FreshRows
 mod LockNumbers
+mod Answering
 mod StagesStill
+mod RowsAnswered
 mod StepLemmas
 mod RowsKept

@@ -17,7 +17,7 @@ use Rattle.ae_semantics.specs.Runs.{Run, Went, Ends, Stops, and_then, Where, who
 use Rattle.ae_semantics.specs.Meaning.{again, one, many, below}
 use Rattle.ae_semantics.specs.Means.{stops_at}
 use Rattle.ae_semantics.specs.Atom.{by_query, flow_machine}
-use Rattle.ae_semantics.specs.Gathering.{doing}
+use Rattle.ae_semantics.specs.Gathering.{doing, Extends}
 use Rattle.ae_semantics.specs.Moments.{notes_from}
 use Rattle.ae_semantics.specs.Entries.{Inner}
 use Rattle.ae_semantics.specs.BlockTrees.{Happened, answered_in}
@@ -25,14 +25,15 @@ use Rattle.ae_semantics.specs.Stacks.{TheStatement, TheTurns, done_all, cells_en
 use Rattle.ae_semantics.specs.BlockRows.{RowStage, Waiting, LeftOut, Loop, Paused, BlockRow, row_path, row_at, inner_of}
 use Rattle.ae_semantics.specs.BlockRows.{RowStatement, row_statements, inner_path}
 use Rattle.ae_semantics.specs.StageClaims.{IsTold}
-use Rattle.ae_semantics.specs.Reached.{IsRight, IsRowRight, IsOfStatement, AreRowsRight}
+use Rattle.ae_semantics.specs.Reached.{IsRight, IsRowRight, IsOfStatement}
 use Rattle.ae_semantics.specs.RowTrees.{nothing_gained, gained_in, cells_left_by, all_stages, row_events, seen_in}
 use Rattle.ae_semantics.specs.RowTrees.{Reached}
 use Rattle.ae_semantics.specs.RowSteps.{changed_at, with_stage, staged, IsAt, IsNotThrough, StageKeeps}
-use Rattle.ae_semantics.specs.RowSteps.{LeavingOutKeeps, StartingKeeps, LoopingKeeps}
+use Rattle.ae_semantics.specs.RowSteps.{StepKeeps, LeavingOutKeeps, StartingKeeps, LoopingKeeps}
 use Rattle.ae_semantics.proofs.LockNumbers.{contained}
 use Rattle.ae_semantics.proofs.StagesStill.{in_changed, changed_counted, changed_else, IsStill, there_still}
 use Rattle.ae_semantics.proofs.StepLemmas.{stage_put, stage_listed, undone_flat, all_still}
+use Rattle.ae_semantics.proofs.RowsAnswered.{answering_keeps}
 use mathlib.Core.Path.{fun_ext}
 
 -- ---- rows inside statements
@@ -204,6 +205,12 @@ at_has_stage p rows k n x s (z, i, j) r e =
     (stage_listed p z.fuel z.entry.here (whole_block z.entry.lines z.entry.here) 0 z.entry.lines z.stages z.entry.values
     [] [] n x s j)
 
+pub step_keeps : StepKeeps
+step_keeps p ints fuel rows k n x old new h a u w more right =
+    let news : List BlockRow = staged k n new rows in
+    stage_keeps p ints fuel (seen_in news) rows k n x old new
+    (answering_keeps p ints fuel (seen_in rows) (seen_in news) rows more h) a u w right
+
 -- a stage in which nothing is gained is taken by a statement that waits
 quiet_keeps : (p : Code) (ints : List ℤ) (fuel : ℕ) (rows : List BlockRow) (k n : ℕ) (x : RowStatement)
     (new : RowStage) → [] ≡ (gained_in new).events → [] ≡ cells_left_by new → Reached p ints fuel rows
@@ -212,11 +219,12 @@ quiet_keeps : (p : Code) (ints : List ℤ) (fuel : ℕ) (rows : List BlockRow) (
 quiet_keeps p ints fuel rows k n x new e f h a w right =
     let news : List BlockRow = staged k n new rows in
     let at = at_has_stage p rows k n x Waiting a in
-    subst (λ (table : Query → Option Seen). AreRowsRight p ints fuel table news)
-    (fun_ext (same_seen rows news
+    let same : seen_in rows ≡ seen_in news = fun_ext (same_seen rows news
     (staged_gives (λ (y : RowStage). (gained_in y).events) Waiting new e rows k n at)
-    (staged_gives cells_left_by Waiting new f rows k n at)))
-    (stage_keeps p ints fuel (seen_in rows) rows k n x Waiting new h a tt w right)
+    (staged_gives cells_left_by Waiting new f rows k n at)) in
+    step_keeps p ints fuel rows k n x Waiting new h a tt w
+    (subst (Extends (seen_in rows)) same (λ q y i. i))
+    (subst (λ (table : Query → Option Seen). IsRight p table rows x new) same right)
 
 -- ---- the steps
 

@@ -9,7 +9,8 @@ use Rattle.ae_semantics.specs.BlockRows.{RowStage, Waiting, Finished, LeftOut, I
 use Rattle.ae_semantics.specs.BlockRows.{BlockRow, RowStatement, row_statements}
 use Rattle.ae_semantics.specs.StageClaims.{IsFree, IsBehindBarred, AreFound}
 use Rattle.ae_semantics.specs.Reached.{IsRight, AreRowsRight}
-use Rattle.ae_semantics.specs.RowTrees.{nothing_gained, Reached}
+use Rattle.ae_semantics.specs.Gathering.{Extends}
+use Rattle.ae_semantics.specs.RowTrees.{nothing_gained, seen_in, Reached}
 
 -- ---- another stage
 
@@ -55,6 +56,19 @@ StageKeeps = (p : Code) (ints : List ℤ) (fuel : ℕ) (table : Query → Option
     (x : RowStatement) (old new : RowStage) → AreRowsRight p ints fuel table rows → IsAt p rows k n x old
     → IsUndone old → IsNotThrough new → IsRight p table rows x new
     → AreRowsRight p ints fuel table (staged k n new rows)
+
+-- rows that are right by some answers are right by more
+abbrev pub AnsweringKeeps : Type 0
+AnsweringKeeps = (p : Code) (ints : List ℤ) (fuel : ℕ) (table more : Query → Option Seen) (rows : List BlockRow)
+    → Extends table more → AreRowsRight p ints fuel table rows → AreRowsRight p ints fuel more rows
+
+-- The same of rows that are reached. With what the new stage has gained more is answered: so a body goes on, and so a
+-- statement ends.
+abbrev pub StepKeeps : Type 0
+StepKeeps = (p : Code) (ints : List ℤ) (fuel : ℕ) (rows : List BlockRow) (k n : ℕ) (x : RowStatement)
+    (old new : RowStage) → Reached p ints fuel rows → IsAt p rows k n x old → IsUndone old → IsNotThrough new
+    → Extends (seen_in rows) (seen_in (staged k n new rows)) → IsRight p (seen_in (staged k n new rows)) rows x new
+    → Reached p ints fuel (staged k n new rows)
 
 -- a statement that waits is left out, where one that ended or is left out is in conflict with it
 abbrev pub LeavingOutKeeps : Type 0

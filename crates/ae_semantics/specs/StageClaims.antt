@@ -17,7 +17,7 @@ use Rattle.ae_semantics.specs.Blocks.{all_go_away}
 use Rattle.ae_semantics.specs.Means.{notes_of, stops_at, First, firsts_in, asks_in}
 use Rattle.ae_semantics.specs.Atom.{by_query, flow_machine}
 use Rattle.ae_semantics.specs.Report.{CellReport, first_of}
-use Rattle.ae_semantics.specs.Gathering.{doing}
+use Rattle.ae_semantics.specs.Gathering.{doing, Extends}
 use Rattle.ae_semantics.specs.Moments.{Moment, moment_of, notes_from, AgreesOnUsed, AgreesOnChanged}
 use Rattle.ae_semantics.specs.Entries.{Inner, OfTurn, OfSplit, entry}
 use Rattle.ae_semantics.specs.BlockTrees.{Happened, Gained}
@@ -41,10 +41,6 @@ abbrev pub IsBehindBarred : Code → RowStatement → Type 0
 IsBehindBarred p x = (i : ℕ) × Contains x.barred i × AreInConflict p x.passage.block i x.passage.number
 
 -- ---- answers
-
--- the second table has all answers of the first
-abbrev pub Extends : (Query → Option Seen) → (Query → Option Seen) → Type 0
-Extends table more = (q : Query) (x : Seen) → table q ≡ Some x → more q ≡ Some x
 
 -- the block is answered so
 abbrev pub IsAnsweredSo : (Query → Option Seen) → Happened → Type 0
@@ -90,7 +86,8 @@ pub record IsAskedPast (marks : List Mark) (gained : Gained) : Type 0 where
   pub entered : (c : CellReport) → Contains gained.cells c → Contains (firsts_in marks) (first_of c)
 
 -- From some such values the statement ends so, and asks and enters the first of this up to there. All of it is asked
--- and entered on the way past what stopped, since blocks inside may have run on behind the ending.
+-- and entered on the way past what stopped, by every table with at least these answers: blocks inside may have run on
+-- behind the ending.
 pub record EndsSo (p : Code) (table : Query → Option Seen) (x : RowStatement) (e : EndedAs) (gained : Gained)
     : Type 0 where
   pub values : Moment
@@ -102,7 +99,8 @@ pub record EndsSo (p : Code) (table : Query → Option Seen) (x : RowStatement) 
   pub asked : asks_in notes.marks ≡ take e.events (map (λ (h : Happened). h.asking) gained.events)
   pub entered : firsts_in notes.marks ≡ take e.cells (map first_of gained.cells)
   pub answers : (h : Happened) → Contains gained.events h → IsAnsweredSo table h
-  pub past : IsAskedPast (notes_of (run_from (flow_machine p table) x values)).marks gained
+  pub past : (more : Query → Option Seen) → Extends table more
+      → IsAskedPast (notes_of (run_from (flow_machine p more) x values)).marks gained
 
 -- what the stack does from this moment, where these marks were made before
 abbrev pub rest_from : Machine ⊤ → List ToDo → Moment → List Mark → Run ⊤

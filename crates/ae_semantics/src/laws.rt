@@ -1,12 +1,13 @@
 // Laws over the meaning alone.
 ghost use Rattle.ae_semantics.specs.Gathering.{GoesByItsAnswers, MoreGoesFurther, StatementGoesByItsAnswers};
-ghost use Rattle.ae_semantics.specs.Gathering.{StatementGoesFurther};
+ghost use Rattle.ae_semantics.specs.Gathering.{MoreAnswersKeep, StatementGoesFurther};
 ghost use Rattle.ae_semantics.specs.Laws.{AtomAsksNothing, CellsAreFixed, ContextsAreJudged, FittingIsLow};
 ghost use Rattle.ae_semantics.specs.Laws.{FreshStandsFor, MoreChangesNothing};
 ghost use Rattle.ae_semantics.specs.Laws.{NothingBegunIsAfter};
 ghost use Rattle.ae_semantics.specs.PastStops.{RunsGoPast, StatementsGoPast};
 ghost use Rattle.ae_semantics.specs.RowLaws.{FreshIsReached, FreshRowsAreStamped, FreshRowsStandFor};
-ghost use Rattle.ae_semantics.specs.RowSteps.{LeavingOutKeeps, LoopingKeeps, StageKeeps, StartingKeeps};
+ghost use Rattle.ae_semantics.specs.RowSteps.{AnsweringKeeps, LeavingOutKeeps, LoopingKeeps, StageKeeps};
+ghost use Rattle.ae_semantics.specs.RowSteps.{StartingKeeps, StepKeeps};
 ghost use Rattle.ae_semantics.specs.Stamps.{FreshIsStamped};
 ghost use Rattle.ae_semantics.specs.Standing.{AsksAreLocated};
 ghost use Rattle.ae_semantics.specs.Trails.{WatchingChangesNothing};
@@ -39,6 +40,11 @@ pub fn run_goes_by_its_answers()
 /// So is what a single statement does.
 pub fn statement_goes_by_its_answers()
     ensures { StatementGoesByItsAnswers }
+{}
+
+/// A statement that does not stop for want of an answer does the same by a table with more answers.
+pub fn statement_stays_with_more_answers()
+    ensures { MoreAnswersKeep }
 {}
 
 /// The run that notes what each statement finds and leaves comes to what the meaning past what stopped comes to.
@@ -103,6 +109,16 @@ pub fn fresh_rows_are_stamped()
 /// right.
 pub fn stage_keeps_rows_right()
     ensures { StageKeeps }
+{}
+
+/// Rows that are right by some answers are right by more.
+pub fn answering_keeps_rows_right()
+    ensures { AnsweringKeeps }
+{}
+
+/// Rows stay reached where such a stage comes with more answers: where a body goes on, and where a statement ends.
+pub fn step_keeps_reached()
+    ensures { StepKeeps }
 {}
 
 /// Rows stay reached where a statement is left out that is in conflict with one before it that ended or is left out.
