@@ -52,7 +52,7 @@ counted (Next at a rest) = let e : statement_count rest ≡ how_many (all_wait r
 
 -- ---- paths
 
-begins_with_itself : (q : Instance) → is_prefix_of q q ≡ true
+pub begins_with_itself : (q : Instance) → is_prefix_of q q ≡ true
 begins_with_itself [] = refl
 begins_with_itself (i ∷ q) = ap (λ b. b && is_prefix_of q q) (eq-eqb i i refl) ∙ begins_with_itself q
 

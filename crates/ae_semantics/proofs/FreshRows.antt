@@ -30,13 +30,13 @@ use Rattle.ae_semantics.proofs.Fresh.{start_there, fresh_stands_for, nothing_sta
 
 -- ---- a row all of whose statements wait
 
-all_counted : (b : Lines) → length (all_waiting b) ≡ statement_count b
+pub all_counted : (b : Lines) → length (all_waiting b) ≡ statement_count b
 all_counted End = refl
 all_counted (Next at a rest) =
     let e : length (all_waiting rest) ≡ statement_count rest = all_counted rest in omega arith
 
 -- what waits is right
-all_right : (p : Code) (table : Query → Option Seen) (rows : List BlockRow) (fuel : ℕ) (here : Where) (all : Scene)
+pub all_right : (p : Code) (table : Query → Option Seen) (rows : List BlockRow) (fuel : ℕ) (here : Where) (all : Scene)
     (j : ℕ) (b : Lines) (found : Moment) (unfinished barred : List ℕ)
     → AreRight p table rows (statements_from p fuel here all j b (all_waiting b) found unfinished barred)
 all_right p table rows fuel here all j End found unfinished barred = tt
@@ -124,7 +124,7 @@ fresh_rows_stand_for p m ints fuel e =
 
 -- ---- their stamps
 
-waiting_give_none : {A : Type 0} (give : RowStage → List A) → give Waiting ≡ [] → (b : Lines)
+pub waiting_give_none : {A : Type 0} (give : RowStage → List A) → give Waiting ≡ [] → (b : Lines)
     → flat_map give (all_waiting b) ≡ []
 waiting_give_none give w End = refl
 waiting_give_none give w (Next at a rest) = ap (λ xs. xs ++ flat_map give (all_waiting rest)) w

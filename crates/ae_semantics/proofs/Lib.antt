@@ -27,3 +27,7 @@ mod StagesStill
 mod RowsAnswered
 mod StepLemmas
 mod RowsKept
+mod StepsKeep
+mod RowsOpened
+mod EntryPaths
+mod OpeningSteps

@@ -57,9 +57,9 @@ not_through u found j unfinished barred Waiting h = (refl, refl, λ i c. c)
 not_through u found j unfinished barred (Finished m gained) h = absurd h
 not_through u found j unfinished barred (Halted e gained) h = (refl, refl, in_more j barred)
 not_through u found j unfinished barred LeftOut h = (refl, refl, in_more j barred)
-not_through u found j unfinished barred (Inside inner cells) h = absurd h
+not_through u found j unfinished barred (Inside inner cells) h = (refl, refl, λ i c. c)
 not_through u found j unfinished barred (Loop t fuel now gained) h = (refl, refl, λ i c. c)
-not_through u found j unfinished barred (InTurn t fuel gained) h = absurd h
+not_through u found j unfinished barred (InTurn t fuel gained) h = (refl, refl, λ i c. c)
 not_through u found j unfinished barred (Paused start stack now gained) h = (refl, refl, λ i c. c)
 
 undone_follows : (u : Uses) (found : Moment) (j : ℕ) (unfinished barred : List ℕ) (old new : RowStage) → IsUndone old
@@ -139,7 +139,7 @@ pub stage_put : (p : Code) (table : Query → Option Seen) (rows news : List Blo
     (here : Where) (all : Scene) (j : ℕ) (b : Lines) (xs : List RowStage) (found : Moment)
     (unfinished barred : List ℕ) (n : ℕ) (x : RowStatement) (old new : RowStage)
     → slice_get (statements_from p fuel here all j b xs found unfinished barred) n ≡ Some (x, old)
-    → IsUndone old → IsNotThrough new → IsRight p table rows x new
+    → IsUndone old → IsNotThrough new → IsRight p table news x new
     → AreRight p table rows (statements_from p fuel here all j b xs found unfinished barred)
     → AreRight p table news
     (statements_from p fuel here all j b (changed_at n (λ z. new) xs) found unfinished barred)
@@ -150,9 +150,7 @@ stage_put p table rows news still fuel here all j (Next at a rest) (y ∷ ys) fo
     u w r h =
     let i = same_Some _ (x, old) e in
     let g : IsUndone y = subst IsUndone (sym (ap (λ (z : RowStatement × RowStage). z.1) i)) u in (
-      right_still p table rows news still _ barred (λ k c. c) new
-          (subst (λ (z : RowStatement). IsRight p table rows z new)
-          (sym (ap (λ (z : RowStatement × RowStage). z.0) i)) r),
+      subst (λ (z : RowStatement). IsRight p table news z new) (sym (ap (λ (z : RowStatement × RowStage). z.0) i)) r,
       all_follow p table rows news still fuel (knowing (after p here.method at a here.context) here) all (suc j) j rest
           ys found unfinished barred y new
           (undone_follows (scene_uses p all j) found j unfinished barred y new g

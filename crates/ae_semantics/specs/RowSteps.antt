@@ -1,13 +1,17 @@
 -- Steps of a run under way, one statement at a time, which leave what was found as it was.
-use Rattle.std.specs.Prelude.{◌≡◌, ℕ, zero, suc, ℤ, List, [], ◌∷◌, Option, Some, slice_get}
+use Rattle.std.specs.Prelude.{◌≡◌, ◌≢◌, ℕ, zero, suc, ℤ, List, [], ◌∷◌, ◌++◌, Option, None, Some, slice_get}
 use Rattle.ae_tree.specs.Plain.{Expression, Lines, Code}
 use Rattle.ae_tree.specs.Plain.{Repeats}
 use Rattle.ae_semantics.specs.Observations.{Seen, Query}
 use Rattle.ae_semantics.specs.Moments.{Moment}
+use Rattle.ae_semantics.specs.Entries.{Inner, OfTurn, Entry}
+use Rattle.ae_semantics.specs.Report.{CellReport}
+use Rattle.ae_semantics.specs.BlockTrees.{Gained}
 use Rattle.ae_semantics.specs.Stacks.{TheStatement}
 use Rattle.ae_semantics.specs.BlockRows.{RowStage, Waiting, Finished, LeftOut, Inside, Loop, InTurn, Paused}
-use Rattle.ae_semantics.specs.BlockRows.{BlockRow, RowStatement, row_statements}
-use Rattle.ae_semantics.specs.StageClaims.{IsFree, IsBehindBarred, AreFound}
+use Rattle.ae_semantics.specs.BlockRows.{BlockRow, row_at, inner_of, inner_path, fresh_row, RowStatement}
+use Rattle.ae_semantics.specs.BlockRows.{row_statements}
+use Rattle.ae_semantics.specs.StageClaims.{IsFree, IsBehindBarred, AreFound, IsRowInside, IsEnteredWith}
 use Rattle.ae_semantics.specs.Reached.{IsRight, AreRowsRight}
 use Rattle.ae_semantics.specs.Gathering.{Extends}
 use Rattle.ae_semantics.specs.RowTrees.{nothing_gained, seen_in, Reached}
@@ -40,21 +44,23 @@ IsUndone (Loop t fuel now gained) = Unit {0}
 IsUndone (Paused start stack now gained) = Unit {0}
 IsUndone _ = ⊥
 
--- the statement did not go through, and no block in it is a row
+-- the statement did not go through
 abbrev pub IsNotThrough : RowStage → Type 0
 IsNotThrough (Finished m gained) = ⊥
-IsNotThrough (Inside inner cells) = ⊥
-IsNotThrough (InTurn t fuel gained) = ⊥
 IsNotThrough _ = Unit {0}
+
+-- the rows with another stage of statement n of row k, and with one row more
+abbrev pub opened : ℕ → ℕ → RowStage → BlockRow → List BlockRow → List BlockRow
+opened k n y r rows = staged k n y rows ++ (r ∷ [])
 
 -- ---- steps
 
 -- A statement that is not done gets another stage that is right for it by these answers: then all rows are right as
--- before. How a statement goes through, and how blocks in it become rows, is not among these steps.
+-- before. How a statement goes through is not among these steps.
 abbrev pub StageKeeps : Type 0
 StageKeeps = (p : Code) (ints : List ℤ) (fuel : ℕ) (table : Query → Option Seen) (rows : List BlockRow) (k n : ℕ)
     (x : RowStatement) (old new : RowStage) → AreRowsRight p ints fuel table rows → IsAt p rows k n x old
-    → IsUndone old → IsNotThrough new → IsRight p table rows x new
+    → IsUndone old → IsNotThrough new → inner_of new ≡ None → IsRight p table rows x new
     → AreRowsRight p ints fuel table (staged k n new rows)
 
 -- rows that are right by some answers are right by more
@@ -67,7 +73,8 @@ AnsweringKeeps = (p : Code) (ints : List ℤ) (fuel : ℕ) (table more : Query �
 abbrev pub StepKeeps : Type 0
 StepKeeps = (p : Code) (ints : List ℤ) (fuel : ℕ) (rows : List BlockRow) (k n : ℕ) (x : RowStatement)
     (old new : RowStage) → Reached p ints fuel rows → IsAt p rows k n x old → IsUndone old → IsNotThrough new
-    → Extends (seen_in rows) (seen_in (staged k n new rows)) → IsRight p (seen_in (staged k n new rows)) rows x new
+    → inner_of new ≡ None → Extends (seen_in rows) (seen_in (staged k n new rows))
+    → IsRight p (seen_in (staged k n new rows)) rows x new
     → Reached p ints fuel (staged k n new rows)
 
 -- a statement that waits is left out, where one that ended or is left out is in conflict with it
@@ -89,3 +96,21 @@ LoopingKeeps = (p : Code) (ints : List ℤ) (fuel : ℕ) (rows : List BlockRow) 
     (e : Expression) (number : ℕ) (b : Lines) → x.action ≡ Repeats e number b
     → Reached p ints fuel rows → IsAt p rows k n x Waiting → IsFree p x → AreFound p x m
     → Reached p ints fuel (staged k n (Loop 0 x.fuel m nothing_gained) rows)
+
+-- A block of a statement that waits, and that is no loop, becomes a row, entered with values as the statement finds
+-- them.
+abbrev pub EnteringKeeps : Type 0
+EnteringKeeps = (p : Code) (ints : List ℤ) (fuel : ℕ) (rows : List BlockRow) (k n : ℕ) (x : RowStatement)
+    (inner : Inner) (cells : List CellReport) (f : ℕ) (e : Entry)
+    → Reached p ints fuel rows → IsAt p rows k n x Waiting → IsFree p x → ((t : ℕ) → inner ≢ OfTurn t)
+    → IsRowInside p x inner cells (fresh_row f e) → row_at rows (inner_path x.passage.here.path inner) ≡ None
+    → Reached p ints fuel (opened k n (Inside inner cells) (fresh_row f e) rows)
+
+-- the next turn of a loop becomes a row, entered with what the turns before it left
+abbrev pub TurningKeeps : Type 0
+TurningKeeps = (p : Code) (ints : List ℤ) (fuel : ℕ) (rows : List BlockRow) (k n : ℕ) (x : RowStatement) (t g : ℕ)
+    (now : Moment) (gained : Gained) (f : ℕ) (e : Entry)
+    → Reached p ints fuel rows → IsAt p rows k n x (Loop t g now gained)
+    → IsEnteredWith p x g now (OfTurn t) (fresh_row f e)
+    → row_at rows (x.passage.here.path ++ (t ∷ [])) ≡ None
+    → Reached p ints fuel (opened k n (InTurn t g gained) (fresh_row f e) rows)

@@ -6,8 +6,8 @@ ghost use Rattle.ae_semantics.specs.Laws.{FreshStandsFor, MoreChangesNothing};
 ghost use Rattle.ae_semantics.specs.Laws.{NothingBegunIsAfter};
 ghost use Rattle.ae_semantics.specs.PastStops.{RunsGoPast, StatementsGoPast};
 ghost use Rattle.ae_semantics.specs.RowLaws.{FreshIsReached, FreshRowsAreStamped, FreshRowsStandFor};
-ghost use Rattle.ae_semantics.specs.RowSteps.{AnsweringKeeps, LeavingOutKeeps, LoopingKeeps, StageKeeps};
-ghost use Rattle.ae_semantics.specs.RowSteps.{StartingKeeps, StepKeeps};
+ghost use Rattle.ae_semantics.specs.RowSteps.{AnsweringKeeps, EnteringKeeps, LeavingOutKeeps, LoopingKeeps};
+ghost use Rattle.ae_semantics.specs.RowSteps.{StageKeeps, StartingKeeps, StepKeeps, TurningKeeps};
 ghost use Rattle.ae_semantics.specs.Stamps.{FreshIsStamped};
 ghost use Rattle.ae_semantics.specs.Standing.{AsksAreLocated};
 ghost use Rattle.ae_semantics.specs.Trails.{WatchingChangesNothing};
@@ -134,6 +134,16 @@ pub fn starting_keeps_reached()
 /// Rows stay reached where a loop comes before its first turn with values as it finds them.
 pub fn looping_keeps_reached()
     ensures { LoopingKeeps }
+{}
+
+/// Rows stay reached where the body of a call, a branch or the block of a split becomes a row, in which all waits.
+pub fn entering_keeps_reached()
+    ensures { EnteringKeeps }
+{}
+
+/// Rows stay reached where the next turn of a loop becomes a row.
+pub fn turning_keeps_reached()
+    ensures { TurningKeeps }
 {}
 
 /// The cells that an explained report has, and their order, are fixed by what else it tells.

@@ -1,4 +1,4 @@
-use Rattle.ae_semantics.proofs.RowsKept.{looping_keeps}
+use Rattle.ae_semantics.proofs.StepsKeep.{looping_keeps}
 use Rattle.ae_semantics.proofs.laws.looping_keeps_reached.Goals as goal
 
 pub returns : goal.returns

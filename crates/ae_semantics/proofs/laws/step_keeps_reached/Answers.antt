@@ -1,4 +1,4 @@
-use Rattle.ae_semantics.proofs.RowsKept.{step_keeps}
+use Rattle.ae_semantics.proofs.StepsKeep.{step_keeps}
 use Rattle.ae_semantics.proofs.laws.step_keeps_reached.Goals as goal
 
 pub returns : goal.returns
