@@ -15,7 +15,7 @@ use Rattle.ae_semantics.specs.Contexts.{after}
 use Rattle.ae_semantics.specs.Observations.{Seen, Query}
 use Rattle.ae_semantics.specs.Runs.{Where, knowing, whole_block}
 use Rattle.ae_semantics.specs.Means.{Start, run_start, start_at, main_here, main_state}
-use Rattle.ae_semantics.specs.Report.{same_instance}
+use Rattle.ae_semantics.specs.Regions.{same_instance}
 use Rattle.ae_semantics.specs.Moments.{Moment}
 use Rattle.ae_semantics.specs.BlockTrees.{BlockTree, Begun, Stages, Then, all_wait, main_entry, fresh}
 use Rattle.ae_semantics.specs.BlockTrees as tree

@@ -10,7 +10,8 @@ use Rattle.ae_tree.specs.Plain.{Action, Code}
 use Rattle.ae_rules.specs.Instances.{Instance}
 use Rattle.ae_semantics.specs.Places.{Fine}
 use Rattle.ae_semantics.specs.Observations.{Seen, Query}
-use Rattle.ae_semantics.specs.Report.{CellReport, same_instance}
+use Rattle.ae_semantics.specs.Report.{CellReport}
+use Rattle.ae_semantics.specs.Regions.{same_instance}
 use Rattle.ae_semantics.specs.Moments.{Moment}
 use Rattle.ae_semantics.specs.Entries.{Inner, OfCall, OfBranch, OfTurn, OfSplit, Entry, entry}
 use Rattle.ae_semantics.specs.BlockRows.{RowStage, Waiting, Inside, Loop, InTurn, BlockRow, row_at}

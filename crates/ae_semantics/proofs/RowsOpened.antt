@@ -11,7 +11,8 @@ use Rattle.ae_rules.specs.Instances.{Instance}
 use Rattle.ae_rules.specs.Paths.{is_prefix_of}
 use Rattle.ae_semantics.specs.Contexts.{after}
 use Rattle.ae_semantics.specs.Observations.{Seen, Query}
-use Rattle.ae_semantics.specs.Report.{AllPairs, same_instance}
+use Rattle.ae_semantics.specs.Report.{AllPairs}
+use Rattle.ae_semantics.specs.Regions.{same_instance}
 use Rattle.ae_semantics.specs.Runs.{Where, knowing, whole_block}
 use Rattle.ae_semantics.specs.Moments.{Moment}
 use Rattle.ae_semantics.specs.Entries.{Inner, Entry}

@@ -15,7 +15,8 @@ use Rattle.ae_semantics.specs.declared.report.Piece.{Piece}
 use Rattle.ae_semantics.specs.Runs.{Where, deeper, knowing, whole_block}
 use Rattle.ae_semantics.specs.Moments.{Moment}
 use Rattle.ae_semantics.specs.Entries.{Inner, OfCall, OfBranch, OfTurn, OfSplit, Entry}
-use Rattle.ae_semantics.specs.Report.{CellReport, same_instance}
+use Rattle.ae_semantics.specs.Report.{CellReport}
+use Rattle.ae_semantics.specs.Regions.{same_instance}
 use Rattle.ae_semantics.specs.BlockTrees.{Gained}
 use Rattle.ae_semantics.specs.Trails.{Passage}
 use Rattle.ae_semantics.specs.Stacks.{ToDo}

@@ -10,13 +10,13 @@ pub mod Meaning
 pub mod Equations
 pub mod Means
 pub mod Atom
+pub mod Regions
 pub mod Report
 pub mod Standing
 pub mod Gathering
 pub mod PastStops
 pub mod Moments
 pub mod Entries
-pub mod Regions
 pub mod BlockTrees
 pub mod Trails
 pub mod Unfolding

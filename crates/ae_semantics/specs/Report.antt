@@ -15,6 +15,7 @@ use Rattle.ae_semantics.specs.Observations.{Image, OfLog, Ask, Answer, Seen, OfB
 use Rattle.ae_semantics.specs.Observations.{FromCell, Query, AtBlock, AtEnd}
 use Rattle.ae_semantics.specs.Means.{At, Turn, First, Asking, Meant, mean, bytes}
 use Rattle.ae_semantics.specs.Atom.{atom, part}
+use Rattle.ae_semantics.specs.Regions.{same_instance, Within, FromTurn, lies_in, path_of}
 
 -- ---- a report
 
@@ -105,10 +106,6 @@ abbrev pub observations : Report → List Seen
 observations r = map (λ (x : Item). x.seen) (items r)
 
 -- ---- observations by what is asked
-
--- the paths are the same
-abbrev pub same_instance : Instance → Instance → Bool
-same_instance q r = is_prefix_of q r && is_prefix_of r q
 
 -- the answer of the event at this path
 abbrev pub answer_in : List Event → Instance → Option Seen
@@ -203,7 +200,7 @@ pub record Legal (p : Code) (r : Report) : Type 0 where
 
 -- the path of a loop from a turn on
 abbrev pub turn_path : Turn → Instance
-turn_path x = x.path ++ (x.turn ∷ [])
+turn_path x = path_of (FromTurn x.path x.turn)
 
 -- the last of these paths, if there is one
 abbrev pub last_path : List Instance → Instance
@@ -320,14 +317,10 @@ pub record Explained (p : Code) (ints : List ℤ) (fuel : ℕ) (r : Report) : Ty
 abbrev pub traced_part : Code → List ℤ → ℕ → Report → Meant
 traced_part p ints fuel r = part p ints fuel (by_report_or_first r)
 
--- the instance lies in a turn of the loop that is this one or a later one
-abbrev pub InTurnsFrom : Turn → Instance → Type 0
-InTurnsFrom x q = (u : ℕ) × (rest : Instance) × (q ≡ x.path ++ (u ∷ rest)) × (x.turn < suc u)
-
 -- a line covers what lies at its path or below it, and a loop from a turn on also what lies in later turns
 abbrev pub Covers : Meant → TraceLine → Instance → Type 0
-Covers m l q = (is_prefix_of l.path q ≡ true)
-    ⊎ ((x : Turn) × Contains m.turns x × (l.path ≡ turn_path x) × InTurnsFrom x q)
+Covers m l q = (lies_in (Within l.path) q ≡ true)
+    ⊎ ((x : Turn) × Contains m.turns x × (l.path ≡ turn_path x) × (lies_in (FromTurn x.path x.turn) q ≡ true))
 
 -- the run ran the line's instance, or evaluated the condition of its turn
 abbrev pub IsLineOf : Meant → TraceLine → Type 0

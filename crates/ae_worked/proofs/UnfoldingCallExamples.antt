@@ -14,7 +14,8 @@ use Rattle.ae_semantics.specs.Entries.{OfCall, Entry}
 use Rattle.ae_semantics.specs.BlockTrees.{BlockTree, Begun, NoMore, Then, Waiting, Finished, InCall, Running}
 use Rattle.ae_semantics.specs.Trails.{Passage, Trail, trail}
 use Rattle.ae_semantics.specs.Unfolding.{IsAsEntered, IsFrameEntered, StandsFor, entry_at, uses_of}
-use Rattle.ae_worked.proofs.UnfoldingExamples.{no_values, nothing_gained}
+use Rattle.ae_semantics.specs.RowTrees.{nothing_gained}
+use Rattle.ae_worked.proofs.UnfoldingExamples.{no_values}
 use Rattle.ae_worked.proofs.UnfoldingGroupExamples.{moment_at}
 use Rattle.ae_worked.proofs.RunRowExamples.{parameter_comes_back}
 
