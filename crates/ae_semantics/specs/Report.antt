@@ -4,6 +4,7 @@ use Rattle.std.specs.Prelude.{if◌then◌else◌, List, [], ◌∷◌, ◌++◌
 use Rattle.std.specs.Prelude.{Some, Contains}
 use Rattle.ae_tree.specs.Plain.{Code}
 use Rattle.ae_rules.specs.Verdict.{given}
+use Rattle.ae_rules.specs.Edges.{IsRising}
 use Rattle.ae_rules.specs.Instances.{Instance, Ordered, Conflict}
 use Rattle.ae_rules.specs.Paths.{comes_before, is_prefix_of, later_of, is_simple_at}
 use Rattle.ae_semantics.specs.Places.{CellName}
@@ -154,13 +155,6 @@ stamps es = map (λ (e : Event). e.stamp) es
 abbrev pub AllDiffer : List ℕ → Type 0
 AllDiffer xs = AllPairs (λ m n. m ≢ n) xs
 
--- the stamps of the events at these places rise
-abbrev pub Rises : List Event → List ℕ → Type 0
-Rises es [] = Unit {0}
-Rises es (i ∷ []) = Unit {0}
-Rises es (i ∷ j ∷ is) = ((d e : Event) → slice_get es i ≡ Some d → slice_get es j ≡ Some e → d.stamp < e.stamp)
-    × Rises es (j ∷ is)
-
 -- a block leads from an image to the next, and its answer is what it gives
 pub record LeadsTo (p : Code) (e : Event) (before after : Image) : Type 0 where
   pub image : (atom p e.ask before []).image ≡ after
@@ -191,7 +185,7 @@ pub record Legal (p : Code) (r : Report) : Type 0 where
   pub differ : AllDiffer (stamps r.events)
   pub places : (i : ℕ) → i < length r.events ↔ Contains r.order i
   pub once : AllDiffer r.order
-  pub rises : Rises r.events r.order
+  pub rises : IsRising (stamps (picked r.events r.order))
   pub leads : (i : ℕ) (c : CellReport) → slice_get r.cells i ≡ Some c
       → Leads p (of_cell i (picked r.events r.order)) c.first c.last
   pub ordered : (d e : Event) → Contains r.events d → Contains r.events e → Ordered p d.path e.path → d.stamp < e.stamp

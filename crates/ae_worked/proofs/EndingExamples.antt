@@ -21,7 +21,7 @@ use Rattle.std.proofs.lemmas.Bool.Decides.{nat_tests}
 use Rattle.ae_semantics.specs.Report.{KeepInTime}
 use Rattle.ae_semantics.specs.Report.{traced_part, Traced}
 use Rattle.ae_worked.proofs.ReportWords.{by_test, of_two, pair_of_two, two_differ, carried_same}
-use Rattle.ae_worked.proofs.ReportWords.{asking_same, two_same, not_both, unparted, fork_of, part_so, rises_two}
+use Rattle.ae_worked.proofs.ReportWords.{asking_same, two_same, not_both, unparted, fork_of, part_so}
 use Rattle.ae_worked.proofs.ReportWords.{one_cell, nothing_given, all_differ-so, and_false}
 use Rattle.ae_worked.proofs.UnfoldingExamples.{every}
 use Rattle.ae_worked.proofs.ProgramWords.{at}
@@ -122,7 +122,7 @@ spent-legal = record {
     )
   ];
   once = two_differ 0 1 (λ (e : 0 ≡ 1). omega (arith, e));
-  rises = rises_two spent.events 0 1 (event_in 0 1 1) (event_in 1 0 2) refl refl (omega arith);
+  rises = (omega arith, tt);
   leads = one_cell prints_forever spent.events printed_twice (
     OfLog (piece_in 0 ∷ []),
     leads_one 0 1 1 [],
