@@ -13,7 +13,7 @@ use Rattle.ae_rounds.specs.Flow.{IsInput}
 use Rattle.ae_rounds.specs.Flow.{IsEnd, IsOutput, HasBegun, entering, AreRising, AreCarries, IsGiven}
 use Rattle.ae_rounds.specs.Flow.{HasDrawn}
 use Rattle.ae_rounds.specs.Flow.{IsNewTo, entries_in, stamps_in, GoesOn, Flow}
-use Rattle.ae_rounds.specs.Works.{AreEarlier, IsLaterThan, MayGive, MayCarry, NoEdge, Along, Gives, IsPlan}
+use Rattle.ae_rounds.specs.Works.{AreStampsBefore, IsLaterThan, MayGive, MayCarry, NoEdge, Along, Gives, IsPlan}
 use Rattle.ae_rounds.specs.FlowLaws.{EntriesAreDrawn, HistoriesRise, BegunWereReady}
 use Rattle.ae_rounds.proofs.from_text.Basics.{option_holds_one}
 
@@ -81,7 +81,7 @@ entries_are_drawn {I} {C} {O} {B} {E} w h p r t k es e f (x, end, i, j, q) c = b
 -- ---- histories
 
 -- two lists of rising numbers, those of the first below a number and those of the second not
-rising_join : (n : ℕ) (xs ys : List ℕ) → AreRising xs → AreRising ys → AreEarlier xs n
+rising_join : (n : ℕ) (xs ys : List ℕ) → AreRising xs → AreRising ys → AreStampsBefore xs n
     → ((s : ℕ) → Contains ys s → n ≤ s)
     → AreRising (xs ++ ys)
 rising_join n [] ys h k b a = k
@@ -94,11 +94,12 @@ rising_join n (x ∷ z ∷ xs) ys h k b a = (
 )
 
 -- what a mapped list has is the image of what the list has
-in_map : {A B : Type 0} (f : A → B) (xs : List A) (y : B) → Contains (map f xs) y → (x : A) × Contains xs x × (f x ≡ y)
-in_map f [] y c = absurd (omega (arith, c.1))
-in_map f (x ∷ xs) y (zero, l, e) = (x, (0, omega arith, refl), e)
-in_map f (x ∷ xs) y (suc k, l, e) =
-    let r = in_map f xs y (k, omega (arith, l), e) in
+contained_in_map : {A B : Type 0} (f : A → B) (xs : List A) (y : B) → Contains (map f xs) y
+    → (x : A) × Contains xs x × (f x ≡ y)
+contained_in_map f [] y c = absurd (omega (arith, c.1))
+contained_in_map f (x ∷ xs) y (zero, l, e) = (x, (0, omega arith, refl), e)
+contained_in_map f (x ∷ xs) y (suc k, l, e) =
+    let r = contained_in_map f xs y (k, omega (arith, l), e) in
     (r.0, (suc r.1.0, omega (arith, r.1.1), r.1.2), r.2)
 
 pub histories_rise : {I C O B E : Type 0} (w : Work I C O B E) → HistoriesRise w
@@ -109,11 +110,12 @@ histories_rise {I} {C} {O} {B} {E} w h p r k old new q f i j rises =
     (rising_join p.clock (map w.stamp old) (map w.stamp g.added) rises g.rising before (later g)))
   where
     before : (s : ℕ) → Contains (map w.stamp old) s → s < p.clock
-    before s c = let x = in_map w.stamp old s c in subst (λ n. n < p.clock) x.2 (q.cells_before k old x.0 i x.1)
+    before s c = let x = contained_in_map w.stamp old s c in subst (λ n. n < p.clock) x.2
+        (q.cells_before k old x.0 i x.1)
 
     later : (g : GoesOn w p r k old new) (s : ℕ) → Contains (map w.stamp g.added) s → p.clock ≤ s
     later g s c =
-        let x = in_map w.stamp g.added s c in
+        let x = contained_in_map w.stamp g.added s c in
         let a = (g.exact x.0).0 x.1 in
         subst (λ n. p.clock ≤ n) x.2
         (f.in_time a.0 (w.stamp x.0) (entries_are_drawn w h p r a.0 k a.1 x.0 f a.2 a.3)).0
@@ -166,9 +168,10 @@ may_give w p r h f (suc n) t o l i =
     (omega (arith, l, (h from t (entering_edge 0 p.edges t edge from c)).0)) (inl j)) g.2.1)
     g.3
 
-may_come : {I C O B E : Type 0} (w : Work I C O B E) (p : Plan I E) (r : Result I O B E) (t : ℕ) (x : I) (cs : List C)
+carries_may_come : {I C O B E : Type 0} (w : Work I C O B E) (p : Plan I E) (r : Result I O B E) (t : ℕ) (x : I)
+    (cs : List C)
     → IsPlan w p → Flow w p r → IsGiven w p r t x cs → MayCarry w p (entering 0 p.edges t) cs
-may_come w p r t x cs q f g = may_carry w p r f (entering 0 p.edges t) cs
+carries_may_come w p r t x cs q f g = may_carry w p r f (entering 0 p.edges t) cs
     (λ edge from o c j. may_give w p r q.shape f (suc from) from o (omega arith) (inl j)) g.1
 
 pub begun_were_ready : {I C O B E : Type 0} (w : Work I C O B E) → BegunWereReady w
@@ -176,7 +179,7 @@ begun_were_ready {I} {C} {O} {B} {E} w p r t e q f i b = by_end e i b
   where
     was_ready : (x : I) (cs : List C) → MayRun (round_of p) t → IsGiven w p r t x cs
         → (y : I) × (ds : List C) × IsGiven w p r t y ds × w.ready y ds
-    was_ready x cs m g = (x, cs, g, q.ready t x cs m g.0 (may_come w p r t x cs q f g))
+    was_ready x cs m g = (x, cs, g, q.ready t x cs m g.0 (carries_may_come w p r t x cs q f g))
 
     by_end : (e : TaskEnd I O B) → IsEnd r t e → HasBegun e
         → (x : I) × (cs : List C) × IsGiven w p r t x cs × w.ready x cs

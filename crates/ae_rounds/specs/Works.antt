@@ -15,8 +15,8 @@ abbrev pub AreAmong : List ℕ → List ℕ → Type 0
 AreAmong xs ys = (s : ℕ) → Contains xs s → Contains ys s
 
 -- each stamp of the first list is below that stamp
-abbrev pub AreEarlier : List ℕ → ℕ → Type 0
-AreEarlier xs s = (z : ℕ) → Contains xs z → z < s
+abbrev pub AreStampsBefore : List ℕ → ℕ → Type 0
+AreStampsBefore xs s = (z : ℕ) → Contains xs z → z < s
 
 -- the stamps of these entries are among those
 abbrev pub AreStampsOf : {E : Type 0} → (E → ℕ) → List E → List ℕ → Type 0
@@ -24,8 +24,8 @@ AreStampsOf {E} stamp es ss = (e : E) → Contains es e → Contains ss (stamp e
 
 -- the stamp is later than all that the task was given
 abbrev pub IsLaterThan : {I C O B E : Type 0} → Work I C O B E → I → List C → ℕ → Type 0
-IsLaterThan {I} {C} {O} {B} {E} w x cs s = AreEarlier (w.input_stamps x) s
-    × ((c : C) → Contains cs c → AreEarlier (w.carry_stamps c) s)
+IsLaterThan {I} {C} {O} {B} {E} w x cs s = AreStampsBefore (w.input_stamps x) s
+    × ((c : C) → Contains cs c → AreStampsBefore (w.carry_stamps c) s)
 
 -- A task only adds: entries behind those of its input, with stamps that are later than all that it was given. The
 -- stamps of entries stand among the stamps, and so do began and ended of an output; those of a carry stand in the
@@ -71,6 +71,6 @@ pub record IsPlan {I C O B E : Type 0} (w : Work I C O B E) (p : Plan I E) : Typ
       → MayCarry w p (entering 0 p.edges t) cs → w.ready x cs
   pub cells : (t : ℕ) (x : I) (cs : List C) (b : B) (k : ℕ) → IsInput p t x → w.pauses x cs b → w.names b k
       → k < length p.cells
-  pub inputs_before : (t : ℕ) (x : I) → IsInput p t x → AreEarlier (w.input_stamps x) p.clock
+  pub inputs_before : (t : ℕ) (x : I) → IsInput p t x → AreStampsBefore (w.input_stamps x) p.clock
   pub cells_before : (k : ℕ) (es : List E) (e : E) → slice_get p.cells k ≡ Some es → Contains es e
       → w.stamp e < p.clock

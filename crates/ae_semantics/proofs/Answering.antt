@@ -12,8 +12,8 @@ use Rattle.ae_semantics.proofs.Related.{Stretch}
 use Rattle.ae_semantics.proofs.Alongside.{Noted, IsNoted, Keeps, along_one}
 
 -- the same notes at first, and the same run unless it stopped
-abbrev stays : Noted ⊤ ⊤
-stays = record {
+abbrev stays_alike : Noted ⊤ ⊤
+stays_alike = record {
   Start = λ n m. m ≡ n;
   Rel = λ a n m r q. StaysAs r q;
   Ok = λ q. Unit {0};
@@ -27,14 +27,14 @@ stays_then (Ends e n) q h f g k = ap (λ (x : Run ⊤). and_then x g) h
 stays_then (Stops n) q h f g k = tt
 
 stays_noted : (a : Stretch) (from : Origin) (v w : ⊤) (n m : Notes ⊤) (r q : Run ⊤)
-    → IsNoted stays a from v w n m r q → StaysAs r q
+    → IsNoted stays_alike a from v w n m r q → StaysAs r q
 stays_noted a from v w n m r q (inl e) = subst (λ (x : Run ⊤). StaysAs x q) (sym e.0) tt
 stays_noted a from v w n m r q (inr h) = h
 
 -- what is asked of the one table, the other answers alike, where the one does
 stays_observed : (a : Stretch) (from : Origin) (n m : Notes ⊤) → m ≡ n → (o u : Option Seen)
     → ((x : Seen) → o ≡ Some x → u ≡ Some x) → (f g : Seen × ⊤ → Run ⊤)
-    → ((x : Seen) (v w : ⊤) → used from w m ≡ used from v n → IsNoted stays a from v w n m (f (x, v)) (g (x, w)))
+    → ((x : Seen) (v w : ⊤) → used from w m ≡ used from v n → IsNoted stays_alike a from v w n m (f (x, v)) (g (x, w)))
     → StaysAs (rules.given (option_map (λ (x : Seen). (x, n.watch)) o) (Stops n) f)
     (rules.given (option_map (λ (x : Seen). (x, m.watch)) u) (Stops m) g)
 stays_observed a from n m e None u h f g k = tt
@@ -45,7 +45,7 @@ stays_observed a from n m e (Some x) u h f g k =
     (k x n.watch m.watch (ap (λ (l : Notes ⊤). used from l.watch l) e)))
 
 stays_kept : (table more : Query → Option Seen) → Extends table more
-    → Keeps stays (by_query table) (by_query more) stopping stopping
+    → Keeps stays_alike (by_query table) (by_query more) stopping stopping
 stays_kept table more h = record {
   inner = λ q i e. tt;
   went = λ s n m e. ap (λ (k : Notes ⊤). Went s k) e;
@@ -68,5 +68,5 @@ stays_kept table more h = record {
 }
 
 pub more_answers_keep : MoreAnswersKeep
-more_answers_keep p fuel table more h here at a s n = along_one stays p (by_query table) (by_query more) stopping
+more_answers_keep p fuel table more h here at a s n = along_one stays_alike p (by_query table) (by_query more) stopping
     stopping (stays_kept table more h) fuel here at a tt s n n refl

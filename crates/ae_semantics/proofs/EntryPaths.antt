@@ -17,9 +17,9 @@ use Rattle.ae_semantics.specs.BlockRows.{inner_path}
 use Rattle.ae_semantics.proofs.Alongside.{fine_same, entered_at}
 use Rattle.std.specs.Prelude.{map}
 
-call_path : (p : Code) (here : Where) (m : Moment) (i : Invocation) (e : Entry) → call_entry p here m i ≡ Fine e
+call_stands_there : (p : Code) (here : Where) (m : Moment) (i : Invocation) (e : Entry) → call_entry p here m i ≡ Fine e
     → e.here.path ≡ here.path
-call_path p here m i e h = by_frame (enter p here i m.state) refl h
+call_stands_there p here m i e h = by_frame (enter p here i m.state) refl h
   where
     made : CallFrame → Entry
     made f = record { here = f.here; lines = f.callee.method.body; values = record m { state = f.state }; cells = [] }
@@ -69,11 +69,11 @@ split_path here m gs b e h = by_moment (then_moment m (all_go_away here gs)) h
 -- a block stands where its statement does, a branch and a turn under their number
 pub entry_path : (p : Code) (here : Where) (m : Moment) (a : Action) (inner : Inner) (e : Entry)
     → entry p here m a inner ≡ Fine e → e.here.path ≡ inner_path here.path inner
-entry_path p here m (Calls i) OfCall e h = call_path p here m i e h
+entry_path p here m (Calls i) OfCall e h = call_stands_there p here m i e h
 entry_path p here m (Calls i) (OfBranch n) e h = absurd (cc h)
 entry_path p here m (Calls i) (OfTurn t) e h = absurd (cc h)
 entry_path p here m (Calls i) OfSplit e h = absurd (cc h)
-entry_path p here m (Declares t x (Returned i)) OfCall e h = call_path p here m i e h
+entry_path p here m (Declares t x (Returned i)) OfCall e h = call_stands_there p here m i e h
 entry_path p here m (Declares t x (Returned i)) (OfBranch n) e h = absurd (cc h)
 entry_path p here m (Declares t x (Returned i)) (OfTurn k) e h = absurd (cc h)
 entry_path p here m (Declares t x (Returned i)) OfSplit e h = absurd (cc h)
@@ -81,7 +81,7 @@ entry_path p here m (Declares t x (Value c)) inner e h = absurd (cc h)
 entry_path p here m (Declares t x (Taken path at)) inner e h = absurd (cc h)
 entry_path p here m (Declares t x (Zeros c at)) inner e h = absurd (cc h)
 entry_path p here m (Declares t x (Made c gs args at)) inner e h = absurd (cc h)
-entry_path p here m (Assigns x (Returned i)) OfCall e h = call_path p here m i e h
+entry_path p here m (Assigns x (Returned i)) OfCall e h = call_stands_there p here m i e h
 entry_path p here m (Assigns x (Returned i)) (OfBranch n) e h = absurd (cc h)
 entry_path p here m (Assigns x (Returned i)) (OfTurn k) e h = absurd (cc h)
 entry_path p here m (Assigns x (Returned i)) OfSplit e h = absurd (cc h)

@@ -21,9 +21,10 @@ use Rattle.ae_semantics.specs.BlockTrees.{BlockTree, Begun, Stages, Then, all_wa
 use Rattle.ae_semantics.specs.BlockTrees as tree
 use Rattle.ae_semantics.specs.Unfolding.{StandsFor}
 use Rattle.ae_semantics.specs.Stamps.{AreStamped}
-use Rattle.ae_semantics.specs.BlockRows.{BlockRow, RowStage, Waiting, all_waiting, fresh_row, row_at, statements_from}
+use Rattle.ae_semantics.specs.BlockRows.{BlockRow, RowStage, Waiting, all_waiting, fresh_row, row_at_path}
+use Rattle.ae_semantics.specs.BlockRows.{statements_from}
 use Rattle.ae_semantics.specs.Reached.{AreRight, IsRowRight}
-use Rattle.ae_semantics.specs.RowTrees.{stages_as, block_tree, tree_of, seen_in, gained_in, cells_of_row}
+use Rattle.ae_semantics.specs.RowTrees.{stages_as, block_tree, tree_of_rows, seen_in, gained_in, cells_of_row}
 use Rattle.ae_semantics.specs.RowTrees.{row_cells, row_lines, all_stages}
 use Rattle.ae_semantics.specs.RowLaws.{first_rows, FreshIsReached, FreshRowsStandFor, FreshRowsAreStamped}
 use Rattle.ae_semantics.proofs.Fresh.{start_there, fresh_stands_for, nothing_stamped}
@@ -36,35 +37,36 @@ all_counted (Next at a rest) =
     let e : length (all_waiting rest) ≡ statement_count rest = all_counted rest in omega arith
 
 -- what waits is right
-pub all_right : (p : Code) (table : Query → Option Seen) (rows : List BlockRow) (fuel : ℕ) (here : Where) (all : Scene)
+pub waiting_all_right : (p : Code) (table : Query
+    → Option Seen) (rows : List BlockRow) (fuel : ℕ) (here : Where) (all : Scene)
     (j : ℕ) (b : Lines) (found : Moment) (unfinished barred : List ℕ)
     → AreRight p table rows (statements_from p fuel here all j b (all_waiting b) found unfinished barred)
-all_right p table rows fuel here all j End found unfinished barred = tt
-all_right p table rows fuel here all j (Next at a rest) found unfinished barred = (
+waiting_all_right p table rows fuel here all j End found unfinished barred = tt
+waiting_all_right p table rows fuel here all j (Next at a rest) found unfinished barred = (
   tt,
-  all_right p table rows fuel (knowing (after p here.method at a here.context) here) all (suc j) rest found
+  waiting_all_right p table rows fuel (knowing (after p here.method at a here.context) here) all (suc j) rest found
       (j ∷ unfinished) barred,
 )
 
 -- ---- the first rows
 
 -- a program begins at the first path
-begins_first : (p : Code) (ints : List ℤ) (x : Start) (n : ℕ) (o : Option Definition)
+main_begins_first : (p : Code) (ints : List ℤ) (x : Start) (n : ℕ) (o : Option Definition)
     → given o None (λ (m : Definition).
     Some (record { here = main_here p n m; method = m; state = main_state p m ints })) ≡ Some x
     → x.here.path ≡ []
-begins_first p ints x n None e = absurd (cc e)
-begins_first p ints x n (Some m) e = sym (ap (λ (y : Start). y.here.path)
+main_begins_first p ints x n None e = absurd (cc e)
+main_begins_first p ints x n (Some m) e = sym (ap (λ (y : Start). y.here.path)
     (same_Some (record { here = main_here p n m; method = m; state = main_state p m ints }) x e))
 
 first_path : (p : Code) (ints : List ℤ) (x : Start) (o : Option ℕ) → given o None (start_at p ints) ≡ Some x
     → x.here.path ≡ []
 first_path p ints x None e = absurd (cc e)
-first_path p ints x (Some n) e = begins_first p ints x n (method_at p n) e
+first_path p ints x (Some n) e = main_begins_first p ints x n (method_at p n) e
 
 -- the row of the first path
 first_there : (fuel : ℕ) (x : Start) → x.here.path ≡ []
-    → row_at (first_rows fuel x) [] ≡ Some (fresh_row fuel (main_entry x))
+    → row_at_path (first_rows fuel x) [] ≡ Some (fresh_row fuel (main_entry x))
 first_there fuel x e =
     ap (λ (q : Instance). if same_instance q [] then Some (fresh_row fuel (main_entry x)) else None) e
 
@@ -88,7 +90,7 @@ fresh_is_reached p ints fuel x e =
       entered = (refl, refl);
       each = λ r c. subst (IsRowRight p (seen_in rows) rows) (only_first fuel x r c) (record {
         counted = all_counted x.method.body;
-        each = all_right p (seen_in rows) rows fuel x.here (whole_block x.method.body x.here) 0 x.method.body
+        each = waiting_all_right p (seen_in rows) rows fuel x.here (whole_block x.method.body x.here) 0 x.method.body
             (main_entry x).values [] [];
       });
       differ = (λ r c. absurd (none_after r c), tt);
@@ -104,7 +106,7 @@ waiting_stages blocks q j (Next at a rest) = ap (Then tree.Waiting) (waiting_sta
 
 -- it is the tree before anything ran
 tree_is_fresh : (p : Code) (ints : List ℤ) (fuel : ℕ) (x : Start) → run_start p ints ≡ Some x
-    → tree_of (first_rows fuel x) ≡ fresh p ints
+    → tree_of_rows (first_rows fuel x) ≡ fresh p ints
 tree_is_fresh p ints fuel x e =
     ap (option_map
     (λ (r : BlockRow). Begun r.entry.values (stages_as (block_tree (first_rows fuel x) 0) [] 0 r.stages)))
@@ -119,7 +121,7 @@ fresh_rows_stand_for p m ints fuel e =
     let x : (x : Start) × (run_start p ints ≡ Some x) = start_there p m ints e in
     let t : (tree : BlockTree) × (fresh p ints ≡ Some tree) × StandsFor p ints fuel tree =
     fresh_stands_for p m ints fuel e in
-    let f : tree_of (first_rows fuel x.0) ≡ fresh p ints = tree_is_fresh p ints fuel x.0 x.1 in
+    let f : tree_of_rows (first_rows fuel x.0) ≡ fresh p ints = tree_is_fresh p ints fuel x.0 x.1 in
     (x.0, x.1, f, (t.0, f ∙ t.1, t.2))
 
 -- ---- their stamps

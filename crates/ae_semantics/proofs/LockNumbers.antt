@@ -32,10 +32,10 @@ LocksDiffer p m = AllPairs (λ (x y : ℕ × Located). x.0 ≢ y.0) (all_locks p
 times_append : (n : ℕ) (xs ys : List ℕ) → times n (xs ++ ys) ≡ times n xs + times n ys
 times_append n xs ys = sum_by-append (λ (x : ℕ). cond (nat_eq x n) 1 0) xs ys
 
-abbrev one_if : Bool → ℕ
-one_if b = cond b 1 0
+abbrev counts_if : Bool → ℕ
+counts_if b = cond b 1 0
 
-times_cons : (n x : ℕ) (xs : List ℕ) → times n (x ∷ xs) ≡ one_if (nat_eq x n) + times n xs
+times_cons : (n x : ℕ) (xs : List ℕ) → times n (x ∷ xs) ≡ counts_if (nat_eq x n) + times n xs
 times_cons n x xs = sum_by-cons (λ (y : ℕ). cond (nat_eq y n) 1 0) x xs
 
 -- how often a number is that of one of these atomic blocks
@@ -154,8 +154,8 @@ mutual
 -- ---- distinct numbers
 
 -- equality the other way round
-other_number : (n x : ℕ) → nat_eq n x ≡ false → nat_eq x n ≡ false
-other_number n x h = by_test (nat_eq x n) refl
+unequal_both_ways : (n x : ℕ) → nat_eq n x ≡ false → nat_eq x n ≡ false
+unequal_both_ways n x h = by_test (nat_eq x n) refl
   where
     by_test : (b : Bool) → nat_eq x n ≡ b → nat_eq x n ≡ false
     by_test true e = absurd (let f : nat_eq n x ≡ true = eq-eqb n x (sym (eqb-true x n e)) in cc)
@@ -171,7 +171,7 @@ contained (y ∷ ys) (suc n) x e = let c = contained ys n x e in (suc c.0, omega
 times_none : (n : ℕ) (xs : List ℕ) → AllByRecursion (λ y. nat_eq n y ≡ false) xs → times n xs ≡ 0
 times_none n [] h = refl
 times_none n (x ∷ xs) h =
-    omega (arith, times_cons n x xs, ap one_if (other_number n x h.0), times_none n xs h.1)
+    omega (arith, times_cons n x xs, ap counts_if (unequal_both_ways n x h.0), times_none n xs h.1)
 
 -- whose number is first, and is none of those behind
 distinct_once : (n : ℕ) (xs : List ℕ) → IsDistinct nat_eq xs → times n xs ≤ 1
@@ -183,10 +183,10 @@ distinct_once n (x ∷ xs) h = by_test (distinct_once n xs h.1) (nat_eq x n) ref
     by_test l true e = omega (
       arith,
       times_cons n x xs,
-      ap one_if e,
+      ap counts_if e,
       times_none n xs (subst (λ k. AllByRecursion (λ y. nat_eq k y ≡ false) xs) (eqb-true x n e) h.0),
     )
-    by_test l false e = omega (arith, l, times_cons n x xs, ap one_if e)
+    by_test l false e = omega (arith, l, times_cons n x xs, ap counts_if e)
 
 -- the number of one of these stands among their numbers
 times_some : (xs : List (ℕ × Located)) (y : ℕ × Located) → Contains xs y → 1 ≤ lock_times y.0 xs
@@ -194,7 +194,7 @@ times_some [] y c = absurd (omega (arith, c.1))
 times_some (x ∷ xs) y (zero, l, e) = omega (
   arith,
   times_cons y.0 x.0 (map (λ (z : ℕ × Located). z.0) xs),
-  ap one_if (eq-eqb x.0 y.0 (ap (λ (z : ℕ × Located). z.0) e)),
+  ap counts_if (eq-eqb x.0 y.0 (ap (λ (z : ℕ × Located). z.0) e)),
 )
 times_some (x ∷ xs) y (suc k, l, e) = omega (
   arith,
@@ -211,7 +211,7 @@ once_differ (x ∷ xs) h = (
     arith,
     h y.0,
     times_cons y.0 x.0 (map (λ (z : ℕ × Located). z.0) xs),
-    ap one_if (eq-eqb x.0 y.0 e),
+    ap counts_if (eq-eqb x.0 y.0 e),
     times_some xs y c,
   ),
   once_differ xs (λ n. omega (arith, h n, times_cons n x.0 (map (λ (z : ℕ × Located). z.0) xs))),

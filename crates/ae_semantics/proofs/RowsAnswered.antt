@@ -14,8 +14,9 @@ use Rattle.ae_semantics.specs.BlockTrees.{Gained}
 use Rattle.ae_semantics.specs.Stacks.{ToDo}
 use Rattle.ae_semantics.specs.BlockRows.{EndedAs, RowStage, Waiting, Finished, Halted, LeftOut, Inside, Loop, InTurn}
 use Rattle.ae_semantics.specs.BlockRows.{Paused, BlockRow, RowStatement, row_statements}
-use Rattle.ae_semantics.specs.StageClaims.{IsOpenOrSeen, IsTold, run_from, GoesThrough, EndsSo, RestsAt, IsBeforeTurn}
-use Rattle.ae_semantics.specs.Reached.{IsRight, AreRight}
+use Rattle.ae_semantics.specs.StageClaims.{IsOpenOrSeen, TellsGained, run_from, GoesThrough, EndsSo, RestsAt}
+use Rattle.ae_semantics.specs.StageClaims.{IsBeforeTurn}
+use Rattle.ae_semantics.specs.Reached.{IsStageRight, AreRight}
 use Rattle.ae_semantics.specs.RowSteps.{AnsweringKeeps}
 use Rattle.ae_semantics.proofs.Answering.{more_answers_keep}
 
@@ -29,7 +30,7 @@ seen_still table more h still c (inl e) = inl e
 seen_still table more h still c (inr e) = inr (h _ _ e)
 
 told_still : (table more : Query → Option Seen) → Extends table more → (still : List CellName) (marks : List Mark)
-    (gained : Gained) → IsTold table still marks gained → IsTold more still marks gained
+    (gained : Gained) → TellsGained table still marks gained → TellsGained more still marks gained
 told_still table more h still marks gained t = record {
   asked = t.asked;
   entered = t.entered;
@@ -89,7 +90,7 @@ before_turn_answered p table more h x t fuel now gained (e, n, b, values, i, g) 
     (e, n, b, values, i, rests_answered p table more h x values _ now gained g)
 
 right_answered : (p : Code) (table more : Query → Option Seen) → Extends table more → (rows : List BlockRow)
-    (x : RowStatement) (s : RowStage) → IsRight p table rows x s → IsRight p more rows x s
+    (x : RowStatement) (s : RowStage) → IsStageRight p table rows x s → IsStageRight p more rows x s
 right_answered p table more h rows x Waiting g = tt
 right_answered p table more h rows x (Finished m gained) g =
     (g.0, through_answered p table more h x m gained g.1)

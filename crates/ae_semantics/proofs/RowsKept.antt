@@ -9,12 +9,12 @@ use Rattle.ae_semantics.specs.Observations.{Seen, Query}
 use Rattle.ae_semantics.specs.Report.{AllPairs}
 use Rattle.ae_semantics.specs.Runs.{whole_block}
 use Rattle.ae_semantics.specs.Entries.{Inner}
-use Rattle.ae_semantics.specs.BlockRows.{RowStage, BlockRow, row_path, row_at, inner_of}
+use Rattle.ae_semantics.specs.BlockRows.{RowStage, BlockRow, row_path, row_at_path, inner_of}
 use Rattle.ae_semantics.specs.BlockRows.{RowStatement, row_statements, inner_path}
-use Rattle.ae_semantics.specs.Reached.{IsRight, IsRowRight, IsOfStatement}
+use Rattle.ae_semantics.specs.Reached.{IsStageRight, IsRowRight, IsOfStatement}
 use Rattle.ae_semantics.specs.RowSteps.{with_stage, staged, IsAt, IsNotThrough, StageKeeps}
 use Rattle.ae_semantics.proofs.LockNumbers.{contained}
-use Rattle.ae_semantics.proofs.StagesStill.{in_changed, changed_counted, changed_else, IsStill, there_still}
+use Rattle.ae_semantics.proofs.StagesStill.{holds_in_changed, changed_counted, changed_else, IsStill, there_still}
 use Rattle.ae_semantics.proofs.StepLemmas.{stage_put, stage_listed, undone_flat, all_still}
 use Rattle.ae_semantics.proofs.StagesStill.{AreStill, right_still}
 use Rattle.ae_semantics.specs.RowSteps.{IsUndone, IsNotThrough}
@@ -88,7 +88,8 @@ pub paths_differ_still : (rows : List BlockRow) (k n : ℕ) (y : RowStage)
 paths_differ_still [] k n y h = tt
 paths_differ_still (x ∷ xs) zero n y h = h
 paths_differ_still (x ∷ xs) (suc k) n y h = (
-  in_changed (λ (z : BlockRow). row_path x ≢ row_path z) (λ (z : BlockRow). row_path x ≢ row_path z) k (with_stage n y)
+  holds_in_changed (λ (z : BlockRow). row_path x ≢ row_path z) (λ (z : BlockRow). row_path x ≢ row_path z) k
+      (with_stage n y)
       xs h.0 (λ z q. q) (λ z e. h.0 z (contained xs k z e)),
   paths_differ_still xs k n y h.1,
 )
@@ -106,10 +107,10 @@ at_has_stage p rows k n x s (z, i, j) r e =
 -- the rows are right among others that have all of them still
 pub staged_right : (p : Code) (table : Query → Option Seen) (rows news : List BlockRow) (k n : ℕ) (x : RowStatement)
     (old new : RowStage) → AreStill rows news → ((r : BlockRow) → Contains rows r → IsRowRight p table rows r)
-    → IsAt p rows k n x old → IsUndone old → IsNotThrough new → IsRight p table news x new
+    → IsAt p rows k n x old → IsUndone old → IsNotThrough new → IsStageRight p table news x new
     → (z : BlockRow) → Contains (staged k n new rows) z → IsRowRight p table news z
 staged_right p table rows news k n x old new still h (r, i, j) u w right =
-    in_changed (IsRowRight p table rows) (IsRowRight p table news) k (with_stage n new) rows h
+    holds_in_changed (IsRowRight p table rows) (IsRowRight p table news) k (with_stage n new) rows h
     (λ z a. record {
       counted = a.counted;
       each = all_still p table rows news still z.fuel z.entry.here (whole_block z.entry.lines z.entry.here) 0
@@ -135,7 +136,7 @@ pub staged_inside : (p : Code) (rows : List BlockRow) (k n : ℕ) (x : RowStatem
     → (z : BlockRow) → Contains (staged k n new rows) z
     → (row_path z ≡ []) ⊎ IsOfStatement (staged k n new rows) z
 staged_inside p rows k n x old new a u h =
-    in_changed (λ (z : BlockRow). (row_path z ≡ []) ⊎ IsOfStatement rows z)
+    holds_in_changed (λ (z : BlockRow). (row_path z ≡ []) ⊎ IsOfStatement rows z)
     (λ (z : BlockRow). (row_path z ≡ []) ⊎ IsOfStatement (staged k n new rows) z) k (with_stage n new) rows h
     (λ z b. inside_still z z refl b)
     (λ z e. inside_still z (with_stage n new z) refl (h z (contained rows k z e)))
@@ -152,7 +153,7 @@ staged_inside p rows k n x old new a u h =
 pub stage_keeps : StageKeeps
 stage_keeps p ints fuel table rows k n x old new h a u w none right =
     let news : List BlockRow = staged k n new rows in
-    let still = λ (q : Instance) (z : BlockRow) (e : row_at rows q ≡ Some z). there_still rows k n new q z e in
+    let still = λ (q : Instance) (z : BlockRow) (e : row_at_path rows q ≡ Some z). there_still rows k n new q z e in
     let b : IsStill news [] h.body = still [] h.body h.first in
     record {
       begins = h.begins;

@@ -16,55 +16,58 @@ use Rattle.ae_semantics.specs.Regions.{same_instance}
 use Rattle.ae_semantics.specs.Runs.{Where, knowing, whole_block}
 use Rattle.ae_semantics.specs.Moments.{Moment}
 use Rattle.ae_semantics.specs.Entries.{Inner, Entry}
-use Rattle.ae_semantics.specs.BlockRows.{RowStage, BlockRow, row_path, row_at, inner_of, inner_path, fresh_row}
+use Rattle.ae_semantics.specs.BlockRows.{RowStage, BlockRow, row_path, row_at_path, inner_of, inner_path, fresh_row}
 use Rattle.ae_semantics.specs.BlockRows.{found_after, unfinished_after, barred_after, RowStatement, statements_from}
-use Rattle.ae_semantics.specs.Reached.{IsRight, IsRowRight, IsOfStatement, AreRowsRight}
-use Rattle.ae_semantics.specs.RowSteps.{changed_at, with_stage, staged, opened, IsAt, IsUndone, IsNotThrough}
+use Rattle.ae_semantics.specs.Reached.{IsStageRight, IsRowRight, IsOfStatement, AreRowsRight}
+use Rattle.ae_semantics.specs.RowSteps.{changed_at, with_stage, staged, with_row_opened, IsAt, IsUndone, IsNotThrough}
 use Rattle.ae_semantics.proofs.Fresh.{begins_with_itself}
-use Rattle.ae_semantics.proofs.FreshRows.{all_counted, all_right}
+use Rattle.ae_semantics.proofs.FreshRows.{all_counted, waiting_all_right}
 use Rattle.ae_semantics.proofs.StagesStill.{IsStill, there_still}
 use Rattle.ae_semantics.proofs.RowsKept.{at_has_stage, staged_right, staged_inside, paths_differ_still}
 
 -- ---- one row more
 
 -- what is there is there still
-there_before : (rows more : List BlockRow) (q : Instance) (r : BlockRow) → row_at rows q ≡ Some r
-    → row_at (rows ++ more) q ≡ Some r
+there_before : (rows more : List BlockRow) (q : Instance) (r : BlockRow) → row_at_path rows q ≡ Some r
+    → row_at_path (rows ++ more) q ≡ Some r
 there_before [] more q r e = absurd (cc)
 there_before (x ∷ xs) more q r e =
     by_test (λ d. there_before xs more q r d) (same_instance (row_path x) q) e
   where
-    by_test : (row_at xs q ≡ Some r → row_at (xs ++ more) q ≡ Some r) → (b : Bool)
-        → (if b then Some x else row_at xs q) ≡ Some r → (if b then Some x else row_at (xs ++ more) q) ≡ Some r
+    by_test : (row_at_path xs q ≡ Some r → row_at_path (xs ++ more) q ≡ Some r) → (b : Bool)
+        → (if b then Some x else row_at_path xs q) ≡ Some r
+        → (if b then Some x else row_at_path (xs ++ more) q) ≡ Some r
     by_test h true d = d
     by_test h false d = h d
 
 -- a row of another path behind them is found
-pub there_last : (rows : List BlockRow) (r : BlockRow) (q : Instance) → row_at rows q ≡ None
-    → same_instance (row_path r) q ≡ true → row_at (rows ++ (r ∷ [])) q ≡ Some r
+pub there_last : (rows : List BlockRow) (r : BlockRow) (q : Instance) → row_at_path rows q ≡ None
+    → same_instance (row_path r) q ≡ true → row_at_path (rows ++ (r ∷ [])) q ≡ Some r
 there_last [] r q e i = ap (λ (b : Bool). if b then Some r else None) i
 there_last (x ∷ xs) r q e i = by_test (λ d. there_last xs r q d i) (same_instance (row_path x) q) e
   where
-    by_test : (row_at xs q ≡ None → row_at (xs ++ (r ∷ [])) q ≡ Some r) → (b : Bool)
-        → (if b then Some x else row_at xs q) ≡ None → (if b then Some x else row_at (xs ++ (r ∷ [])) q) ≡ Some r
+    by_test : (row_at_path xs q ≡ None → row_at_path (xs ++ (r ∷ [])) q ≡ Some r) → (b : Bool)
+        → (if b then Some x else row_at_path xs q) ≡ None
+        → (if b then Some x else row_at_path (xs ++ (r ∷ [])) q) ≡ Some r
     by_test h true d = absurd (cc)
     by_test h false d = h d
 
 -- what is not there is not there with another stage
-pub absent_still : (rows : List BlockRow) (k n : ℕ) (y : RowStage) (q : Instance) → row_at rows q ≡ None
-    → row_at (staged k n y rows) q ≡ None
+pub absent_still : (rows : List BlockRow) (k n : ℕ) (y : RowStage) (q : Instance) → row_at_path rows q ≡ None
+    → row_at_path (staged k n y rows) q ≡ None
 absent_still [] k n y q e = e
 absent_still (x ∷ xs) zero n y q e = by_test (same_instance (row_path x) q) e
   where
-    by_test : (b : Bool) → (if b then Some x else row_at xs q) ≡ None
-        → (if b then Some (with_stage n y x) else row_at xs q) ≡ None
+    by_test : (b : Bool) → (if b then Some x else row_at_path xs q) ≡ None
+        → (if b then Some (with_stage n y x) else row_at_path xs q) ≡ None
     by_test true d = absurd (cc)
     by_test false d = d
 absent_still (x ∷ xs) (suc k) n y q e =
     by_test (λ d. absent_still xs k n y q d) (same_instance (row_path x) q) e
   where
-    by_test : (row_at xs q ≡ None → row_at (staged k n y xs) q ≡ None) → (b : Bool)
-        → (if b then Some x else row_at xs q) ≡ None → (if b then Some x else row_at (staged k n y xs) q) ≡ None
+    by_test : (row_at_path xs q ≡ None → row_at_path (staged k n y xs) q ≡ None) → (b : Bool)
+        → (if b then Some x else row_at_path xs q) ≡ None
+        → (if b then Some x else row_at_path (staged k n y xs) q) ≡ None
     by_test h true d = absurd (cc)
     by_test h false d = h d
 
@@ -73,13 +76,13 @@ pub same_itself : (q : Instance) → same_instance q q ≡ true
 same_itself q = ap (λ (b : Bool). b && is_prefix_of q q) (begins_with_itself q) ∙ begins_with_itself q
 
 -- no row has a path that is not there
-absent_differs : (rows : List BlockRow) (q : Instance) → row_at rows q ≡ None → (x : BlockRow) → Contains rows x
+absent_differs : (rows : List BlockRow) (q : Instance) → row_at_path rows q ≡ None → (x : BlockRow) → Contains rows x
     → row_path x ≢ q
 absent_differs [] q e x c i = omega (arith, c.1)
 absent_differs (y ∷ ys) q e x c i = by_test (λ d. absent_differs ys q d) (same_instance (row_path y) q) refl e c
   where
-    by_test : (row_at ys q ≡ None → (x : BlockRow) → Contains ys x → row_path x ≢ q) → (b : Bool)
-        → same_instance (row_path y) q ≡ b → (if b then Some y else row_at ys q) ≡ None → Contains (y ∷ ys) x → ⊥
+    by_test : (row_at_path ys q ≡ None → (x : BlockRow) → Contains ys x → row_path x ≢ q) → (b : Bool)
+        → same_instance (row_path y) q ≡ b → (if b then Some y else row_at_path ys q) ≡ None → Contains (y ∷ ys) x → ⊥
     by_test h true f d c = absurd (cc)
     by_test h false f d (zero, l, j) =
         let t : same_instance (row_path y) q ≡ true =
@@ -100,7 +103,7 @@ pairs_push rel (x ∷ xs) y h k = (
     by_cases z (inl c) = h.0 z c
     by_cases z (inr e) = subst (rel x) e (k x (0, omega arith, refl))
 
--- ---- the statement that was opened
+-- ---- the statement that was with_row_opened
 
 -- what is listed at a number stands there
 path_listed : (p : Code) (fuel : ℕ) (here : Where) (all : Scene) (j : ℕ) (b : Lines) (xs : List RowStage)
@@ -153,12 +156,12 @@ pub opening_keeps : (p : Code) (ints : List ℤ) (fuel : ℕ) (table : Query →
     (k n : ℕ) (x : RowStatement) (old new : RowStage) (inner : Inner) (f : ℕ) (e : Entry)
     → AreRowsRight p ints fuel table rows → IsAt p rows k n x old → IsUndone old → IsNotThrough new
     → inner_of new ≡ Some inner → e.here.path ≡ inner_path x.passage.here.path inner
-    → row_at rows (inner_path x.passage.here.path inner) ≡ None
-    → IsRight p table (opened k n new (fresh_row f e) rows) x new
-    → AreRowsRight p ints fuel table (opened k n new (fresh_row f e) rows)
+    → row_at_path rows (inner_path x.passage.here.path inner) ≡ None
+    → IsStageRight p table (with_row_opened k n new (fresh_row f e) rows) x new
+    → AreRowsRight p ints fuel table (with_row_opened k n new (fresh_row f e) rows)
 opening_keeps p ints fuel table rows k n x old new inner f e h a u w has path none right =
     let r : BlockRow = fresh_row f e in
-    let news : List BlockRow = opened k n new r rows in
+    let news : List BlockRow = with_row_opened k n new r rows in
     let b : IsStill news [] h.body = still [] h.body h.first in
     record {
       begins = h.begins;
@@ -172,7 +175,8 @@ opening_keeps p ints fuel table rows k n x old new inner f e h a u w has path no
       inside = λ z c. each_inside z (Contains-push_cases (staged k n new rows) r z c);
     }
   where
-    still : (q : Instance) (z : BlockRow) → row_at rows q ≡ Some z → IsStill (opened k n new (fresh_row f e) rows) q z
+    still : (q : Instance) (z : BlockRow) → row_at_path rows q ≡ Some z
+        → IsStill (with_row_opened k n new (fresh_row f e) rows) q z
     still q z i =
         let s : IsStill (staged k n new rows) q z = there_still rows k n new q z i in
         record {
@@ -187,24 +191,26 @@ opening_keeps p ints fuel table rows k n x old new inner f e h a u w has path no
         (absent_still rows k n new (inner_path x.passage.here.path inner) none)
 
     each_right : (z : BlockRow) → Contains (staged k n new rows) z ⊎ (fresh_row f e ≡ z)
-        → IsRowRight p table (opened k n new (fresh_row f e) rows) z
-    each_right z (inl c) = staged_right p table rows (opened k n new (fresh_row f e) rows) k n x old new still h.each a
+        → IsRowRight p table (with_row_opened k n new (fresh_row f e) rows) z
+    each_right z (inl c) = staged_right p table rows (with_row_opened k n new
+        (fresh_row f e) rows) k n x old new still h.each a
         u w right z c
-    each_right z (inr i) = subst (IsRowRight p table (opened k n new (fresh_row f e) rows)) i (record {
+    each_right z (inr i) = subst (IsRowRight p table (with_row_opened k n new (fresh_row f e) rows)) i (record {
       counted = all_counted e.lines;
-      each = all_right p table (opened k n new (fresh_row f e) rows) f e.here (whole_block e.lines e.here) 0 e.lines
+      each = waiting_all_right p table (with_row_opened k n new (fresh_row f e) rows) f e.here
+          (whole_block e.lines e.here) 0 e.lines
           e.values [] [];
     })
 
     each_inside : (z : BlockRow) → Contains (staged k n new rows) z ⊎ (fresh_row f e ≡ z)
-        → (row_path z ≡ []) ⊎ IsOfStatement (opened k n new (fresh_row f e) rows) z
+        → (row_path z ≡ []) ⊎ IsOfStatement (with_row_opened k n new (fresh_row f e) rows) z
     each_inside z (inl c) = further (staged_inside p rows k n x old new a u h.inside z c)
       where
         further : (row_path z ≡ []) ⊎ IsOfStatement (staged k n new rows) z
-            → (row_path z ≡ []) ⊎ IsOfStatement (opened k n new (fresh_row f e) rows) z
+            → (row_path z ≡ []) ⊎ IsOfStatement (with_row_opened k n new (fresh_row f e) rows) z
         further (inl i) = inl i
         further (inr o) = inr (inside_more (staged k n new rows) (fresh_row f e) z o)
-    each_inside z (inr i) = inr (subst (IsOfStatement (opened k n new (fresh_row f e) rows)) i (record {
+    each_inside z (inr i) = inr (subst (IsOfStatement (with_row_opened k n new (fresh_row f e) rows)) i (record {
       outer = with_stage n new a.0;
       there = Contains-append_left (staged k n new rows) (fresh_row f e ∷ []) (with_stage n new a.0)
           (row_there rows k n new a.0 a.1);

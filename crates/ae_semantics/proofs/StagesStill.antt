@@ -14,25 +14,26 @@ use Rattle.ae_semantics.specs.Entries.{Inner, OfCall, OfBranch, OfTurn, OfSplit,
 use Rattle.ae_semantics.specs.BlockTrees.{Gained}
 use Rattle.ae_semantics.specs.Stacks.{ToDo}
 use Rattle.ae_semantics.specs.BlockRows.{EndedAs, RowStage, Waiting, Finished, Halted, LeftOut, Inside, Loop, InTurn}
-use Rattle.ae_semantics.specs.BlockRows.{Paused, BlockRow, row_path, row_at, inner_path}
+use Rattle.ae_semantics.specs.BlockRows.{Paused, BlockRow, row_path, row_at_path, inner_path}
 use Rattle.ae_semantics.specs.BlockRows.{RowStatement}
 use Rattle.ae_semantics.specs.StageClaims.{GoesThrough, EndsSo, RestsAt, IsBeforeTurn, IsRowInside}
 use Rattle.ae_semantics.specs.StageClaims.{IsRowThere, IsInBlock, IsRowOfTurn}
-use Rattle.ae_semantics.specs.Reached.{IsRight}
+use Rattle.ae_semantics.specs.Reached.{IsStageRight}
 use Rattle.ae_semantics.specs.RowSteps.{changed_at, with_stage, staged}
 
 -- ---- a list with another thing in it
 
 -- what holds of all but the new thing, and of the new thing
-pub in_changed : {A : Type 0} (P Q : A → Type 0) (k : ℕ) (f : A → A) (xs : List A) → ((x : A) → Contains xs x → P x)
+pub holds_in_changed : {A : Type 0} (P Q : A → Type 0) (k : ℕ) (f : A → A) (xs : List A) → ((x : A) → Contains xs x
+    → P x)
     → ((x : A) → P x → Q x) → ((x : A) → slice_get xs k ≡ Some x → Q (f x))
     → (y : A) → Contains (changed_at k f xs) y → Q y
-in_changed P Q k f [] h keep new y c = absurd (omega (arith, c.1))
-in_changed P Q zero f (x ∷ xs) h keep new y (zero, l, e) = subst Q e (new x refl)
-in_changed P Q zero f (x ∷ xs) h keep new y (suc i, l, e) = keep y (h y (suc i, omega (arith, l), e))
-in_changed P Q (suc k) f (x ∷ xs) h keep new y (zero, l, e) = keep y (h y (0, omega arith, e))
-in_changed P Q (suc k) f (x ∷ xs) h keep new y (suc i, l, e) =
-    in_changed P Q k f xs (λ z c. h z (suc c.0, omega (arith, c.1), c.2)) keep new y (i, omega (arith, l), e)
+holds_in_changed P Q k f [] h keep new y c = absurd (omega (arith, c.1))
+holds_in_changed P Q zero f (x ∷ xs) h keep new y (zero, l, e) = subst Q e (new x refl)
+holds_in_changed P Q zero f (x ∷ xs) h keep new y (suc i, l, e) = keep y (h y (suc i, omega (arith, l), e))
+holds_in_changed P Q (suc k) f (x ∷ xs) h keep new y (zero, l, e) = keep y (h y (0, omega arith, e))
+holds_in_changed P Q (suc k) f (x ∷ xs) h keep new y (suc i, l, e) =
+    holds_in_changed P Q k f xs (λ z c. h z (suc c.0, omega (arith, c.1), c.2)) keep new y (i, omega (arith, l), e)
 
 pub changed_counted : {A : Type 0} (n : ℕ) (f : A → A) (xs : List A) → length (changed_at n f xs) ≡ length xs
 changed_counted n f [] = refl
@@ -54,37 +55,39 @@ changed_else (suc n) (suc m) f (y ∷ ys) x o e = changed_else n m f ys x (λ i.
 -- a row is still there, entered as it was
 pub record IsStill (rows : List BlockRow) (q : Instance) (r : BlockRow) : Type 0 where
   pub row : BlockRow
-  pub there : row_at rows q ≡ Some row
+  pub there : row_at_path rows q ≡ Some row
   pub fuel : row.fuel ≡ r.fuel
   pub entered : row.entry ≡ r.entry
 
-pub there_still : (rows : List BlockRow) (k n : ℕ) (y : RowStage) (q : Instance) (r : BlockRow) → row_at rows q ≡ Some r
+pub there_still : (rows : List BlockRow) (k n : ℕ) (y : RowStage) (q : Instance) (r : BlockRow)
+    → row_at_path rows q ≡ Some r
     → IsStill (staged k n y rows) q r
 there_still [] k n y q r e = absurd (cc)
 there_still (x ∷ xs) zero n y q r e = by_test (same_instance (row_path x) q) refl e
   where
-    by_test : (b : Bool) → same_instance (row_path x) q ≡ b → (if b then Some x else row_at xs q) ≡ Some r
+    by_test : (b : Bool) → same_instance (row_path x) q ≡ b → (if b then Some x else row_at_path xs q) ≡ Some r
         → IsStill (with_stage n y x ∷ xs) q r
     by_test true i e = record {
       row = with_stage n y x;
-      there = ap (λ (b : Bool). if b then Some (with_stage n y x) else row_at xs q) i;
+      there = ap (λ (b : Bool). if b then Some (with_stage n y x) else row_at_path xs q) i;
       fuel = ap (λ (z : BlockRow). z.fuel) (same_Some x r e);
       entered = ap (λ (z : BlockRow). z.entry) (same_Some x r e);
     }
     by_test false i e = record {
       row = r;
-      there = ap (λ (b : Bool). if b then Some (with_stage n y x) else row_at xs q) i ∙ e;
+      there = ap (λ (b : Bool). if b then Some (with_stage n y x) else row_at_path xs q) i ∙ e;
       fuel = refl;
       entered = refl;
     }
 there_still (x ∷ xs) (suc k) n y q r e =
     by_test (λ d. there_still xs k n y q r d) (same_instance (row_path x) q) refl e
   where
-    by_test : (row_at xs q ≡ Some r → IsStill (staged k n y xs) q r) → (b : Bool) → same_instance (row_path x) q ≡ b
-        → (if b then Some x else row_at xs q) ≡ Some r → IsStill (x ∷ staged k n y xs) q r
+    by_test : (row_at_path xs q ≡ Some r → IsStill (staged k n y xs) q r) → (b : Bool)
+        → same_instance (row_path x) q ≡ b
+        → (if b then Some x else row_at_path xs q) ≡ Some r → IsStill (x ∷ staged k n y xs) q r
     by_test h true i e = record {
       row = r;
-      there = ap (λ (b : Bool). if b then Some x else row_at (staged k n y xs) q) i ∙ e;
+      there = ap (λ (b : Bool). if b then Some x else row_at_path (staged k n y xs) q) i ∙ e;
       fuel = refl;
       entered = refl;
     }
@@ -92,7 +95,7 @@ there_still (x ∷ xs) (suc k) n y q r e =
         let s : IsStill (staged k n y xs) q r = h e in
         record {
           row = s.row;
-          there = ap (λ (b : Bool). if b then Some x else row_at (staged k n y xs) q) i ∙ s.there;
+          there = ap (λ (b : Bool). if b then Some x else row_at_path (staged k n y xs) q) i ∙ s.there;
           fuel = s.fuel;
           entered = s.entered;
         }
@@ -101,11 +104,11 @@ there_still (x ∷ xs) (suc k) n y q r e =
 
 -- the rows that are there are there still, entered as they were
 abbrev pub AreStill : List BlockRow → List BlockRow → Type 0
-AreStill rows news = (q : Instance) (r : BlockRow) → row_at rows q ≡ Some r → IsStill news q r
+AreStill rows news = (q : Instance) (r : BlockRow) → row_at_path rows q ≡ Some r → IsStill news q r
 
 -- what the one list of numbers has, the other has
-abbrev pub AreIn : List ℕ → List ℕ → Type 0
-AreIn small large = (i : ℕ) → Contains small i → Contains large i
+abbrev pub AreNumbersIn : List ℕ → List ℕ → Type 0
+AreNumbersIn small large = (i : ℕ) → Contains small i → Contains large i
 
 -- the statement with more that is barred
 abbrev pub with_barred : List ℕ → RowStatement → RowStatement
@@ -202,8 +205,8 @@ in_turn_still p table x more t fuel gained rows news q still (r, e, h) =
 
 -- a stage that was right is right
 pub right_still : (p : Code) (table : Query → Option Seen) (rows news : List BlockRow) → AreStill rows news
-    → (x : RowStatement) (more : List ℕ) → AreIn x.barred more → (s : RowStage) → IsRight p table rows x s
-    → IsRight p table news (with_barred more x) s
+    → (x : RowStatement) (more : List ℕ) → AreNumbersIn x.barred more → (s : RowStage) → IsStageRight p table rows x s
+    → IsStageRight p table news (with_barred more x) s
 right_still p table rows news still x more sub Waiting h = tt
 right_still p table rows news still x more sub (Finished m gained) h =
     (h.0, through_still p table x more m gained h.1)

@@ -13,27 +13,27 @@ use Rattle.ae_semantics.specs.Moments.{Moment}
 use Rattle.ae_semantics.specs.BlockRows.{RowStage, Waiting, Finished, Halted, LeftOut, Inside, Loop, InTurn, Paused}
 use Rattle.ae_semantics.specs.BlockRows.{BlockRow, inner_of, found_after, unfinished_after, barred_after}
 use Rattle.ae_semantics.specs.BlockRows.{RowStatement, statements_from}
-use Rattle.ae_semantics.specs.Reached.{IsRight, AreRight}
+use Rattle.ae_semantics.specs.Reached.{IsStageRight, AreRight}
 use Rattle.ae_semantics.specs.RowSteps.{changed_at, IsUndone, IsNotThrough}
 use Rattle.ae_semantics.proofs.StagesStill.{AreStill}
-use Rattle.ae_semantics.proofs.StagesStill.{AreIn, right_still}
+use Rattle.ae_semantics.proofs.StagesStill.{AreNumbersIn, right_still}
 
 -- ---- what follows a statement by its stage
 
-in_both : (j : ℕ) (small large : List ℕ) → AreIn small large → AreIn (j ∷ small) (j ∷ large)
-in_both j small large h i (zero, l, e) = (0, omega arith, e)
-in_both j small large h i (suc k, l, e) =
+in_both_with_more : (j : ℕ) (small large : List ℕ) → AreNumbersIn small large → AreNumbersIn (j ∷ small) (j ∷ large)
+in_both_with_more j small large h i (zero, l, e) = (0, omega arith, e)
+in_both_with_more j small large h i (suc k, l, e) =
     let c : Contains large i = h i (k, omega (arith, l), e) in (suc c.0, omega (arith, c.1), c.2)
 
-in_more : (j : ℕ) (xs : List ℕ) → AreIn xs (j ∷ xs)
-in_more j xs i c = (suc c.0, omega (arith, c.1), c.2)
+in_with_one_more : (j : ℕ) (xs : List ℕ) → AreNumbersIn xs (j ∷ xs)
+in_with_one_more j xs i c = (suc c.0, omega (arith, c.1), c.2)
 
-barred_still : (j : ℕ) (small large : List ℕ) (x : RowStage) → AreIn small large
-    → AreIn (barred_after j small x) (barred_after j large x)
+barred_still : (j : ℕ) (small large : List ℕ) (x : RowStage) → AreNumbersIn small large
+    → AreNumbersIn (barred_after j small x) (barred_after j large x)
 barred_still j small large Waiting h = h
 barred_still j small large (Finished m gained) h = h
-barred_still j small large (Halted e gained) h = in_both j small large h
-barred_still j small large LeftOut h = in_both j small large h
+barred_still j small large (Halted e gained) h = in_both_with_more j small large h
+barred_still j small large LeftOut h = in_both_with_more j small large h
 barred_still j small large (Inside inner cells) h = h
 barred_still j small large (Loop t fuel now gained) h = h
 barred_still j small large (InTurn t fuel gained) h = h
@@ -43,20 +43,20 @@ barred_still j small large (Paused start stack now gained) h = h
 record FollowsAs (u : Uses) (found : Moment) (j : ℕ) (unfinished barred : List ℕ) (old new : RowStage) : Type 0 where
   finds : found_after u found old ≡ found_after u found new
   waits : unfinished_after j unfinished old ≡ unfinished_after j unfinished new
-  bars : AreIn (barred_after j barred old) (barred_after j barred new)
+  bars : AreNumbersIn (barred_after j barred old) (barred_after j barred new)
 
 -- a stage before which nothing went through
 abbrev IsAsWaiting : Uses → Moment → ℕ → List ℕ → List ℕ → RowStage → Type 0
 IsAsWaiting u found j unfinished barred x = (found_after u found x ≡ found)
     × (unfinished_after j unfinished x ≡ j ∷ unfinished)
-    × AreIn barred (barred_after j barred x)
+    × AreNumbersIn barred (barred_after j barred x)
 
 not_through : (u : Uses) (found : Moment) (j : ℕ) (unfinished barred : List ℕ) (x : RowStage) → IsNotThrough x
     → IsAsWaiting u found j unfinished barred x
 not_through u found j unfinished barred Waiting h = (refl, refl, λ i c. c)
 not_through u found j unfinished barred (Finished m gained) h = absurd h
-not_through u found j unfinished barred (Halted e gained) h = (refl, refl, in_more j barred)
-not_through u found j unfinished barred LeftOut h = (refl, refl, in_more j barred)
+not_through u found j unfinished barred (Halted e gained) h = (refl, refl, in_with_one_more j barred)
+not_through u found j unfinished barred LeftOut h = (refl, refl, in_with_one_more j barred)
 not_through u found j unfinished barred (Inside inner cells) h = (refl, refl, λ i c. c)
 not_through u found j unfinished barred (Loop t fuel now gained) h = (refl, refl, λ i c. c)
 not_through u found j unfinished barred (InTurn t fuel gained) h = (refl, refl, λ i c. c)
@@ -92,7 +92,7 @@ undone_flat (Paused start stack now gained) h = refl
 -- with more that is barred, and other rows that are there, all stay right
 pub all_still : (p : Code) (table : Query → Option Seen) (rows news : List BlockRow) → AreStill rows news → (fuel : ℕ)
     (here : Where) (all : Scene) (j : ℕ) (b : Lines) (xs : List RowStage) (found : Moment)
-    (unfinished barred more : List ℕ) → AreIn barred more
+    (unfinished barred more : List ℕ) → AreNumbersIn barred more
     → AreRight p table rows (statements_from p fuel here all j b xs found unfinished barred)
     → AreRight p table news (statements_from p fuel here all j b xs found unfinished more)
 all_still p table rows news still fuel here all j End xs found unfinished barred more sub h = tt
@@ -139,7 +139,7 @@ pub stage_put : (p : Code) (table : Query → Option Seen) (rows news : List Blo
     (here : Where) (all : Scene) (j : ℕ) (b : Lines) (xs : List RowStage) (found : Moment)
     (unfinished barred : List ℕ) (n : ℕ) (x : RowStatement) (old new : RowStage)
     → slice_get (statements_from p fuel here all j b xs found unfinished barred) n ≡ Some (x, old)
-    → IsUndone old → IsNotThrough new → IsRight p table news x new
+    → IsUndone old → IsNotThrough new → IsStageRight p table news x new
     → AreRight p table rows (statements_from p fuel here all j b xs found unfinished barred)
     → AreRight p table news
     (statements_from p fuel here all j b (changed_at n (λ z. new) xs) found unfinished barred)
@@ -150,7 +150,8 @@ stage_put p table rows news still fuel here all j (Next at a rest) (y ∷ ys) fo
     u w r h =
     let i = same_Some _ (x, old) e in
     let g : IsUndone y = subst IsUndone (sym (ap (λ (z : RowStatement × RowStage). z.1) i)) u in (
-      subst (λ (z : RowStatement). IsRight p table news z new) (sym (ap (λ (z : RowStatement × RowStage). z.0) i)) r,
+      subst (λ (z : RowStatement). IsStageRight p table news z new) (sym (ap (λ
+          (z : RowStatement × RowStage). z.0) i)) r,
       all_follow p table rows news still fuel (knowing (after p here.method at a here.context) here) all (suc j) j rest
           ys found unfinished barred y new
           (undone_follows (scene_uses p all j) found j unfinished barred y new g

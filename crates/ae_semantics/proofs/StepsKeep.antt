@@ -21,8 +21,8 @@ use Rattle.ae_semantics.specs.BlockTrees.{Happened, answered_in}
 use Rattle.ae_semantics.specs.Stacks.{TheStatement, TheTurns, done_all, cells_entered_in}
 use Rattle.ae_semantics.specs.BlockRows.{RowStage, Waiting, LeftOut, Loop, Paused, BlockRow, inner_of}
 use Rattle.ae_semantics.specs.BlockRows.{RowStatement}
-use Rattle.ae_semantics.specs.StageClaims.{IsTold}
-use Rattle.ae_semantics.specs.Reached.{IsRight}
+use Rattle.ae_semantics.specs.StageClaims.{TellsGained}
+use Rattle.ae_semantics.specs.Reached.{IsStageRight}
 use Rattle.ae_semantics.specs.RowTrees.{nothing_gained, gained_in, cells_left_by, all_stages, row_events, seen_in}
 use Rattle.ae_semantics.specs.RowTrees.{Reached}
 use Rattle.ae_semantics.specs.RowSteps.{changed_at, staged, IsAt, IsNotThrough}
@@ -63,8 +63,8 @@ pub same_seen : (rows news : List BlockRow) → row_events news ≡ row_events r
 same_seen rows news e f (AtBlock ask) = ap (λ (es : List Happened). answered_in es ask.path) (sym e)
 same_seen rows news e f (AtEnd c first) = ap (λ (cs : List CellReport). last_in cs c) (sym f)
 
-pub step_keeps : StepKeeps
-step_keeps p ints fuel rows k n x old new h a u w none more right =
+pub answered_step_keeps : StepKeeps
+answered_step_keeps p ints fuel rows k n x old new h a u w none more right =
     let news : List BlockRow = staged k n new rows in
     stage_keeps p ints fuel (seen_in news) rows k n x old new
     (answering_keeps p ints fuel (seen_in rows) (seen_in news) rows more h) a u w none right
@@ -72,7 +72,7 @@ step_keeps p ints fuel rows k n x old new h a u w none more right =
 -- a stage in which nothing is gained is taken by a statement that waits
 quiet_keeps : (p : Code) (ints : List ℤ) (fuel : ℕ) (rows : List BlockRow) (k n : ℕ) (x : RowStatement)
     (new : RowStage) → [] ≡ (gained_in new).events → [] ≡ cells_left_by new → Reached p ints fuel rows
-    → IsAt p rows k n x Waiting → IsNotThrough new → inner_of new ≡ None → IsRight p (seen_in rows) rows x new
+    → IsAt p rows k n x Waiting → IsNotThrough new → inner_of new ≡ None → IsStageRight p (seen_in rows) rows x new
     → Reached p ints fuel (staged k n new rows)
 quiet_keeps p ints fuel rows k n x new e f h a w none right =
     let news : List BlockRow = staged k n new rows in
@@ -80,9 +80,9 @@ quiet_keeps p ints fuel rows k n x new e f h a w none right =
     let same : seen_in rows ≡ seen_in news = fun_ext (same_seen rows news
     (staged_gives (λ (y : RowStage). (gained_in y).events) Waiting new e rows k n at)
     (staged_gives cells_left_by Waiting new f rows k n at)) in
-    step_keeps p ints fuel rows k n x Waiting new h a tt w none
+    answered_step_keeps p ints fuel rows k n x Waiting new h a tt w none
     (subst (Extends (seen_in rows)) same (λ q y i. i))
-    (subst (λ (table : Query → Option Seen). IsRight p table rows x new) same right)
+    (subst (λ (table : Query → Option Seen). IsStageRight p table rows x new) same right)
 
 -- ---- the steps
 
@@ -97,7 +97,7 @@ then_nothing (Ends e n) = refl
 then_nothing (Stops n) = refl
 
 -- no marks tell of nothing
-nothing_told : (table : Query → Option Seen) (still : List CellName) → IsTold table still [] nothing_gained
+nothing_told : (table : Query → Option Seen) (still : List CellName) → TellsGained table still [] nothing_gained
 nothing_told table still = record {
   asked = refl;
   entered = refl;

@@ -58,9 +58,9 @@ abbrev pub row_path : BlockRow → Instance
 row_path r = r.entry.here.path
 
 -- the row of the block at a path
-abbrev pub row_at : List BlockRow → Instance → Option BlockRow
-row_at [] q = None
-row_at (r ∷ rs) q = if same_instance (row_path r) q then Some r else row_at rs q
+abbrev pub row_at_path : List BlockRow → Instance → Option BlockRow
+row_at_path [] q = None
+row_at_path (r ∷ rs) q = if same_instance (row_path r) q then Some r else row_at_path rs q
 
 -- the path of a block inside the statement at this path
 abbrev pub inner_path : Instance → Inner → Instance

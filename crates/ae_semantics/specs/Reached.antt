@@ -10,30 +10,31 @@ use Rattle.ae_semantics.specs.Report.{AllPairs}
 use Rattle.ae_semantics.specs.Entries.{Inner}
 use Rattle.ae_semantics.specs.BlockTrees.{main_entry}
 use Rattle.ae_semantics.specs.BlockRows.{RowStage, Waiting, Finished, Halted, LeftOut, Inside, Loop, InTurn}
-use Rattle.ae_semantics.specs.BlockRows.{Paused, BlockRow, row_path, row_at, inner_path, inner_of, RowStatement}
+use Rattle.ae_semantics.specs.BlockRows.{Paused, BlockRow, row_path, row_at_path, inner_path, inner_of, RowStatement}
 use Rattle.ae_semantics.specs.BlockRows.{row_statements}
-use Rattle.ae_semantics.specs.StageClaims.{IsFree, IsBehindBarred, GoesThrough, EndsSo, RestsAt, IsBeforeTurn}
+use Rattle.ae_semantics.specs.StageClaims.{IsUnhindered, IsBehindBarred, GoesThrough, EndsSo, RestsAt, IsBeforeTurn}
 use Rattle.ae_semantics.specs.StageClaims.{IsRowThere, IsInBlock, IsRowOfTurn}
 
 -- ---- rows
 
 -- The stage is right for the statement. But for what waits or is left out, no unfinished statement before it is in
 -- conflict with it.
-abbrev pub IsRight : Code → (Query → Option Seen) → List BlockRow → RowStatement → RowStage → Type 0
-IsRight p table rows x Waiting = Unit {0}
-IsRight p table rows x (Finished m gained) = IsFree p x × GoesThrough p table x m gained
-IsRight p table rows x (Halted e gained) = IsFree p x × EndsSo p table x e gained
-IsRight p table rows x LeftOut = IsBehindBarred p x
-IsRight p table rows x (Inside inner cells) = IsFree p x × IsInBlock p rows x inner cells
-IsRight p table rows x (Loop t fuel now gained) = IsFree p x × IsBeforeTurn p table x t fuel now gained
-IsRight p table rows x (InTurn t fuel gained) = IsFree p x
+abbrev pub IsStageRight : Code → (Query → Option Seen) → List BlockRow → RowStatement → RowStage → Type 0
+IsStageRight p table rows x Waiting = Unit {0}
+IsStageRight p table rows x (Finished m gained) = IsUnhindered p x × GoesThrough p table x m gained
+IsStageRight p table rows x (Halted e gained) = IsUnhindered p x × EndsSo p table x e gained
+IsStageRight p table rows x LeftOut = IsBehindBarred p x
+IsStageRight p table rows x (Inside inner cells) = IsUnhindered p x × IsInBlock p rows x inner cells
+IsStageRight p table rows x (Loop t fuel now gained) = IsUnhindered p x × IsBeforeTurn p table x t fuel now gained
+IsStageRight p table rows x (InTurn t fuel gained) = IsUnhindered p x
     × IsRowThere rows (x.passage.here.path ++ (t ∷ [])) (IsRowOfTurn p table x t fuel gained)
-IsRight p table rows x (Paused start stack now gained) = IsFree p x × RestsAt p table x start stack now gained
+IsStageRight p table rows x (Paused start stack now gained) = IsUnhindered p x × RestsAt p table x start stack now
+    gained
 
 -- and so is each of these
 abbrev pub AreRight : Code → (Query → Option Seen) → List BlockRow → List (RowStatement × RowStage) → Type 0
 AreRight p table rows [] = Unit {0}
-AreRight p table rows (x ∷ xs) = IsRight p table rows x.0 x.1 × AreRight p table rows xs
+AreRight p table rows (x ∷ xs) = IsStageRight p table rows x.0 x.1 × AreRight p table rows xs
 
 -- the row has a stage for each statement, and each is right
 pub record IsRowRight (p : Code) (table : Query → Option Seen) (rows : List BlockRow) (r : BlockRow) : Type 0 where
@@ -58,7 +59,7 @@ pub record AreRowsRight (p : Code) (ints : List ℤ) (fuel : ℕ) (table : Query
   pub begins : Start
   pub start : run_start p ints ≡ Some begins
   pub body : BlockRow
-  pub first : row_at rows [] ≡ Some body
+  pub first : row_at_path rows [] ≡ Some body
   pub entered : (body.entry ≡ main_entry begins) × (body.fuel ≡ fuel)
   pub each : (r : BlockRow) → Contains rows r → IsRowRight p table rows r
   pub differ : AllPairs (λ (r s : BlockRow). row_path r ≢ row_path s) rows

@@ -10,7 +10,7 @@ use Rattle.ae_semantics.specs.BlockTrees.{BlockTree, main_entry, fresh}
 use Rattle.ae_semantics.specs.Unfolding.{StandsFor}
 use Rattle.ae_semantics.specs.Stamps.{AreRowsStamped}
 use Rattle.ae_semantics.specs.BlockRows.{BlockRow, fresh_row}
-use Rattle.ae_semantics.specs.RowTrees.{tree_of, Reached}
+use Rattle.ae_semantics.specs.RowTrees.{tree_of_rows, Reached}
 
 -- the rows before anything ran: the body of `main`, all of whose statements wait
 abbrev pub first_rows : ℕ → Start → List BlockRow
@@ -18,7 +18,7 @@ first_rows fuel x = fresh_row fuel (main_entry x) ∷ []
 
 -- the tree of the rows stands for the meaning past what stopped
 abbrev pub RowsStandFor : Code → List ℤ → ℕ → List BlockRow → Type 0
-RowsStandFor p ints fuel rows = (tree : BlockTree) × (tree_of rows ≡ Some tree) × StandsFor p ints fuel tree
+RowsStandFor p ints fuel rows = (tree : BlockTree) × (tree_of_rows rows ≡ Some tree) × StandsFor p ints fuel tree
 
 -- where a program begins, the first rows are reached
 abbrev pub FreshIsReached : Type 0
@@ -29,7 +29,7 @@ FreshIsReached = (p : Code) (ints : List ℤ) (fuel : ℕ) (x : Start) → run_s
 -- for the meaning
 abbrev pub FreshRowsStandFor : Type 0
 FreshRowsStandFor = (p : Code) (m : Definition) (ints : List ℤ) (fuel : ℕ) → top_called p main ≡ Some m
-    → (x : Start) × (run_start p ints ≡ Some x) × (tree_of (first_rows fuel x) ≡ fresh p ints)
+    → (x : Start) × (run_start p ints ≡ Some x) × (tree_of_rows (first_rows fuel x) ≡ fresh p ints)
     × RowsStandFor p ints fuel (first_rows fuel x)
 
 -- the first rows are stamped, whatever the clock

@@ -9,10 +9,10 @@ use Rattle.ae_semantics.specs.Report.{CellReport}
 use Rattle.ae_semantics.specs.BlockTrees.{Gained}
 use Rattle.ae_semantics.specs.Stacks.{TheStatement}
 use Rattle.ae_semantics.specs.BlockRows.{RowStage, Waiting, Finished, LeftOut, Inside, Loop, InTurn, Paused}
-use Rattle.ae_semantics.specs.BlockRows.{BlockRow, row_at, inner_of, inner_path, fresh_row, RowStatement}
+use Rattle.ae_semantics.specs.BlockRows.{BlockRow, row_at_path, inner_of, inner_path, fresh_row, RowStatement}
 use Rattle.ae_semantics.specs.BlockRows.{row_statements}
-use Rattle.ae_semantics.specs.StageClaims.{IsFree, IsBehindBarred, AreFound, IsRowInside, IsEnteredWith}
-use Rattle.ae_semantics.specs.Reached.{IsRight, AreRowsRight}
+use Rattle.ae_semantics.specs.StageClaims.{IsUnhindered, IsBehindBarred, AreFound, IsRowInside, IsEnteredWith}
+use Rattle.ae_semantics.specs.Reached.{IsStageRight, AreRowsRight}
 use Rattle.ae_semantics.specs.Gathering.{Extends}
 use Rattle.ae_semantics.specs.RowTrees.{nothing_gained, seen_in, Reached}
 
@@ -50,8 +50,8 @@ IsNotThrough (Finished m gained) = ⊥
 IsNotThrough _ = Unit {0}
 
 -- the rows with another stage of statement n of row k, and with one row more
-abbrev pub opened : ℕ → ℕ → RowStage → BlockRow → List BlockRow → List BlockRow
-opened k n y r rows = staged k n y rows ++ (r ∷ [])
+abbrev pub with_row_opened : ℕ → ℕ → RowStage → BlockRow → List BlockRow → List BlockRow
+with_row_opened k n y r rows = staged k n y rows ++ (r ∷ [])
 
 -- ---- steps
 
@@ -60,7 +60,7 @@ opened k n y r rows = staged k n y rows ++ (r ∷ [])
 abbrev pub StageKeeps : Type 0
 StageKeeps = (p : Code) (ints : List ℤ) (fuel : ℕ) (table : Query → Option Seen) (rows : List BlockRow) (k n : ℕ)
     (x : RowStatement) (old new : RowStage) → AreRowsRight p ints fuel table rows → IsAt p rows k n x old
-    → IsUndone old → IsNotThrough new → inner_of new ≡ None → IsRight p table rows x new
+    → IsUndone old → IsNotThrough new → inner_of new ≡ None → IsStageRight p table rows x new
     → AreRowsRight p ints fuel table (staged k n new rows)
 
 -- rows that are right by some answers are right by more
@@ -74,7 +74,7 @@ abbrev pub StepKeeps : Type 0
 StepKeeps = (p : Code) (ints : List ℤ) (fuel : ℕ) (rows : List BlockRow) (k n : ℕ) (x : RowStatement)
     (old new : RowStage) → Reached p ints fuel rows → IsAt p rows k n x old → IsUndone old → IsNotThrough new
     → inner_of new ≡ None → Extends (seen_in rows) (seen_in (staged k n new rows))
-    → IsRight p (seen_in (staged k n new rows)) rows x new
+    → IsStageRight p (seen_in (staged k n new rows)) rows x new
     → Reached p ints fuel (staged k n new rows)
 
 -- a statement that waits is left out, where one that ended or is left out is in conflict with it
@@ -86,7 +86,7 @@ LeavingOutKeeps = (p : Code) (ints : List ℤ) (fuel : ℕ) (rows : List BlockRo
 -- a statement that waits is begun as a body, with values as it finds them
 abbrev pub StartingKeeps : Type 0
 StartingKeeps = (p : Code) (ints : List ℤ) (fuel : ℕ) (rows : List BlockRow) (k n : ℕ) (x : RowStatement) (m : Moment)
-    → Reached p ints fuel rows → IsAt p rows k n x Waiting → IsFree p x → AreFound p x m
+    → Reached p ints fuel rows → IsAt p rows k n x Waiting → IsUnhindered p x → AreFound p x m
     → Reached p ints fuel
     (staged k n (Paused m (TheStatement x.fuel x.passage.here x.at x.action ∷ []) m nothing_gained) rows)
 
@@ -94,7 +94,7 @@ StartingKeeps = (p : Code) (ints : List ℤ) (fuel : ℕ) (rows : List BlockRow)
 abbrev pub LoopingKeeps : Type 0
 LoopingKeeps = (p : Code) (ints : List ℤ) (fuel : ℕ) (rows : List BlockRow) (k n : ℕ) (x : RowStatement) (m : Moment)
     (e : Expression) (number : ℕ) (b : Lines) → x.action ≡ Repeats e number b
-    → Reached p ints fuel rows → IsAt p rows k n x Waiting → IsFree p x → AreFound p x m
+    → Reached p ints fuel rows → IsAt p rows k n x Waiting → IsUnhindered p x → AreFound p x m
     → Reached p ints fuel (staged k n (Loop 0 x.fuel m nothing_gained) rows)
 
 -- A block of a statement that waits, and that is no loop, becomes a row, entered with values as the statement finds
@@ -102,9 +102,9 @@ LoopingKeeps = (p : Code) (ints : List ℤ) (fuel : ℕ) (rows : List BlockRow) 
 abbrev pub EnteringKeeps : Type 0
 EnteringKeeps = (p : Code) (ints : List ℤ) (fuel : ℕ) (rows : List BlockRow) (k n : ℕ) (x : RowStatement)
     (inner : Inner) (cells : List CellReport) (f : ℕ) (e : Entry)
-    → Reached p ints fuel rows → IsAt p rows k n x Waiting → IsFree p x → ((t : ℕ) → inner ≢ OfTurn t)
-    → IsRowInside p x inner cells (fresh_row f e) → row_at rows (inner_path x.passage.here.path inner) ≡ None
-    → Reached p ints fuel (opened k n (Inside inner cells) (fresh_row f e) rows)
+    → Reached p ints fuel rows → IsAt p rows k n x Waiting → IsUnhindered p x → ((t : ℕ) → inner ≢ OfTurn t)
+    → IsRowInside p x inner cells (fresh_row f e) → row_at_path rows (inner_path x.passage.here.path inner) ≡ None
+    → Reached p ints fuel (with_row_opened k n (Inside inner cells) (fresh_row f e) rows)
 
 -- the next turn of a loop becomes a row, entered with what the turns before it left
 abbrev pub TurningKeeps : Type 0
@@ -112,5 +112,5 @@ TurningKeeps = (p : Code) (ints : List ℤ) (fuel : ℕ) (rows : List BlockRow) 
     (now : Moment) (gained : Gained) (f : ℕ) (e : Entry)
     → Reached p ints fuel rows → IsAt p rows k n x (Loop t g now gained)
     → IsEnteredWith p x g now (OfTurn t) (fresh_row f e)
-    → row_at rows (x.passage.here.path ++ (t ∷ [])) ≡ None
-    → Reached p ints fuel (opened k n (InTurn t g gained) (fresh_row f e) rows)
+    → row_at_path rows (x.passage.here.path ++ (t ∷ [])) ≡ None
+    → Reached p ints fuel (with_row_opened k n (InTurn t g gained) (fresh_row f e) rows)

@@ -15,7 +15,7 @@ use Rattle.ae_semantics.specs.BlockTrees.{answered_in}
 use Rattle.ae_semantics.specs.BlockTrees as tree
 use Rattle.ae_semantics.specs.Stacks.{cells_entered_in}
 use Rattle.ae_semantics.specs.BlockRows.{RowStage, Waiting, Finished, Halted, LeftOut, Inside, Loop, InTurn, Paused}
-use Rattle.ae_semantics.specs.BlockRows.{BlockRow, row_at, inner_path}
+use Rattle.ae_semantics.specs.BlockRows.{BlockRow, row_at_path, inner_path}
 use Rattle.ae_semantics.specs.Reached.{AreRowsRight}
 
 -- ---- the tree
@@ -47,11 +47,11 @@ stages_as blocks q j (x ∷ xs) = Then (stage_as blocks (q ++ (j ∷ [])) x) (st
 abbrev pub block_tree : List BlockRow → ℕ → Instance → Option BlockTree
 block_tree rows zero q = None
 block_tree rows (suc n) q = option_map
-    (λ (r : BlockRow). Begun r.entry.values (stages_as (block_tree rows n) q 0 r.stages)) (row_at rows q)
+    (λ (r : BlockRow). Begun r.entry.values (stages_as (block_tree rows n) q 0 r.stages)) (row_at_path rows q)
 
 -- the tree of the rows; there are no more blocks in one another than rows
-abbrev pub tree_of : List BlockRow → Option BlockTree
-tree_of rows = block_tree rows (length rows) []
+abbrev pub tree_of_rows : List BlockRow → Option BlockTree
+tree_of_rows rows = block_tree rows (length rows) []
 
 -- ---- what the rows have gained
 

@@ -24,7 +24,7 @@ use Rattle.ae_semantics.specs.BlockTrees.{Happened, Gained}
 use Rattle.ae_semantics.specs.Unfolding.{uses_of}
 use Rattle.ae_semantics.specs.Stacks.{ToDo, TheTurns, done_all, cells_entered_in}
 use Rattle.ae_semantics.specs.BlockRows.{EndedAs}
-use Rattle.ae_semantics.specs.BlockRows.{BlockRow, row_at, inner_path, fuel_inside, RowStatement}
+use Rattle.ae_semantics.specs.BlockRows.{BlockRow, row_at_path, inner_path, fuel_inside, RowStatement}
 
 -- ---- which statements may run beside each other
 
@@ -33,8 +33,8 @@ abbrev pub AreInConflict : Code → Scene → ℕ → ℕ → Type 0
 AreInConflict p all i j = (r : Resource) × IsConflict (scene_uses p all i r) (scene_uses p all j r)
 
 -- no unfinished statement before it is in conflict with it
-abbrev pub IsFree : Code → RowStatement → Type 0
-IsFree p x = (i : ℕ) → Contains x.unfinished i → AreInConflict p x.passage.block i x.passage.number → ⊥
+abbrev pub IsUnhindered : Code → RowStatement → Type 0
+IsUnhindered p x = (i : ℕ) → Contains x.unfinished i → AreInConflict p x.passage.block i x.passage.number → ⊥
 
 -- one that ended or is left out is in conflict with it
 abbrev pub IsBehindBarred : Code → RowStatement → Type 0
@@ -52,7 +52,7 @@ IsOpenOrSeen table still c = Contains still c.name ⊎ (table (AtEnd c.name c.fi
 
 -- What was gained is what these marks tell: the blocks asked, as they were answered, and the cells entered. Of the
 -- cells these are still being used.
-pub record IsTold (table : Query → Option Seen) (still : List CellName) (marks : List Mark) (gained : Gained)
+pub record TellsGained (table : Query → Option Seen) (still : List CellName) (marks : List Mark) (gained : Gained)
     : Type 0 where
   pub asked : asks_in marks ≡ map (λ (e : Happened). e.asking) gained.events
   pub entered : firsts_in marks ≡ map first_of gained.cells
@@ -78,7 +78,7 @@ pub record GoesThrough (p : Code) (table : Query → Option Seen) (x : RowStatem
   pub notes : Notes ⊤
   pub runs : run_from (stops_at p (by_query table)) x values ≡ Went state notes
   pub left : AgreesOnChanged (uses_of p x.passage) m (moment_of state notes)
-  pub told : IsTold table [] notes.marks gained
+  pub told : TellsGained table [] notes.marks gained
 
 -- past what stopped these blocks are asked and these cells entered
 pub record IsAskedPast (marks : List Mark) (gained : Gained) : Type 0 where
@@ -103,16 +103,16 @@ pub record EndsSo (p : Code) (table : Query → Option Seen) (x : RowStatement) 
       → IsAskedPast (notes_of (run_from (flow_machine p more) x values)).marks gained
 
 -- what the stack does from this moment, where these marks were made before
-abbrev pub rest_from : Machine ⊤ → List ToDo → Moment → List Mark → Run ⊤
-rest_from m stack now marks = done_all m stack now.state
+abbrev pub stack_from : Machine ⊤ → List ToDo → Moment → List Mark → Run ⊤
+stack_from m stack now marks = done_all m stack now.state
     (record { log = now.log; cell = now.cell; marks = marks; watch = tt })
 
 -- By every table with at least these answers, and by both ways through blocks, the statement does from these values
 -- what the stack does from now on, after these marks. By this table alone both might stop for want of the same answer.
 abbrev pub ComesTo : Code → (Query → Option Seen) → RowStatement → Moment → List ToDo → Moment → List Mark → Type 0
 ComesTo p table x values stack now marks = (more : Query → Option Seen) → Extends table more
-    → (run_from (stops_at p (by_query more)) x values ≡ rest_from (stops_at p (by_query more)) stack now marks)
-    × (run_from (flow_machine p more) x values ≡ rest_from (flow_machine p more) stack now marks)
+    → (run_from (stops_at p (by_query more)) x values ≡ stack_from (stops_at p (by_query more)) stack now marks)
+    × (run_from (flow_machine p more) x values ≡ stack_from (flow_machine p more) stack now marks)
 
 -- from these values, which are such, the statement comes to this stack, and has asked and entered this
 pub record RestsAt (p : Code) (table : Query → Option Seen) (x : RowStatement) (values : Moment) (stack : List ToDo)
@@ -120,7 +120,7 @@ pub record RestsAt (p : Code) (table : Query → Option Seen) (x : RowStatement)
   pub found : AreFound p x values
   pub marks : List Mark
   pub comes : ComesTo p table x values stack now marks
-  pub told : IsTold table (cells_entered_in stack) marks gained
+  pub told : TellsGained table (cells_entered_in stack) marks gained
 
 -- The statement is a loop, which comes to this turn with this fuel from some such values. No turn before it is
 -- remembered.
@@ -152,7 +152,7 @@ pub record IsRowInside (p : Code) (x : RowStatement) (inner : Inner) (cells : Li
 
 -- the block inside is there as a row, which has this
 abbrev pub IsRowThere : List BlockRow → Instance → (BlockRow → Type 0) → Type 0
-IsRowThere rows q P = (r : BlockRow) × (row_at rows q ≡ Some r) × P r
+IsRowThere rows q P = (r : BlockRow) × (row_at_path rows q ≡ Some r) × P r
 
 -- a turn is a row, but no other block of a loop is
 abbrev pub IsInBlock : Code → List BlockRow → RowStatement → Inner → List CellReport → Type 0

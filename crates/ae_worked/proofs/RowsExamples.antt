@@ -48,13 +48,13 @@ clash_free false false h c = c
 abbrev main_block : Scene
 main_block = whole_block (main_entry begins.0).lines (main_entry begins.0).here
 
-no_clash : (r : Resource)
+locals_do_not_clash : (r : Resource)
     → IsConflict (scene_uses trap_beside_a_print main_block 0 r) (scene_uses trap_beside_a_print main_block 1 r) → ⊥
-no_clash (Local x) c = clash_free (nat_eq 3 x) (nat_eq 4 x) apart c
+locals_do_not_clash (Local x) c = clash_free (nat_eq 3 x) (nat_eq 4 x) apart c
   where
     apart : nat_eq 3 x ≡ true → nat_eq 4 x ≡ true → ⊥
     apart d e = let i : 3 ≡ x = eqb-true 3 x d in let j : 4 ≡ x = eqb-true 4 x e in omega (arith, i, j)
-no_clash (Group g) c = c
+locals_do_not_clash (Group g) c = c
 
 halfway_rows-reached : Reached trap_beside_a_print [] 100 halfway_rows
 unfolding one many below
@@ -91,7 +91,7 @@ halfway_rows-reached = record {
         ),
         (
           (
-            every _ (0 ∷ []) ((λ c. no_clash c.0 c.1), tt),
+            every _ (0 ∷ []) ((λ c. locals_do_not_clash c.0 c.1), tt),
             record {
               values = no_values;
               found = record {

@@ -19,12 +19,12 @@ use Rattle.ae_worked.proofs.UnfoldingExamples.{no_values}
 use Rattle.ae_worked.proofs.UnfoldingGroupExamples.{moment_at}
 use Rattle.ae_worked.proofs.RunRowExamples.{parameter_comes_back}
 
-abbrev noted : Trail
-noted = trail parameter_comes_back [] 100 (λ q. None)
+abbrev call_noted : Trail
+call_noted = trail parameter_comes_back [] 100 (λ q. None)
 
 -- what the call finds
 abbrev call_passage : Option Passage
-call_passage = slice_get noted.found 1
+call_passage = slice_get call_noted.found 1
 
 abbrev values_in_entry : Outcome Entry → Moment
 values_in_entry (Fine e) = e.values
@@ -38,13 +38,13 @@ handed_in = values_in_entry (given call_passage Lacks (λ x. entry_at parameter_
 abbrev body_with : Moment → Running
 body_with m = record { path = 1 ∷ []; inner = OfCall; cells = []; frame = Begun m (Then Waiting (Then Waiting NoMore)) }
 
-body_entered : IsFrameEntered parameter_comes_back noted (body_with handed_in)
+call_body_entered : IsFrameEntered parameter_comes_back call_noted (body_with handed_in)
 unfolding trail one many below
-body_entered = record {
+call_body_entered = record {
   passage = _;
   found = (1, omega arith, refl);
   place = refl;
-  values = moment_at noted.found 1;
+  values = moment_at call_noted.found 1;
   agrees = record { locals = λ x h. refl; groups = λ g h. refl; result = refl; log = λ h. refl; cell = λ h. refl };
   enters = ((record { locals = λ x. refl; groups = λ g. refl; result = refl; log = refl; cell = refl }, refl), refl);
 }
@@ -82,7 +82,7 @@ EntersWith m x = (values : Moment) × AgreesOnUsed (uses_of parameter_comes_back
 
 -- the call, which is the second statement that is found; it is there, so the other passage is not
 abbrev the_call : Passage → Passage
-the_call x = slice_index_or noted.found 1 x
+the_call x = slice_index_or call_noted.found 1 x
 
 -- what the call enters holds the number that was handed in
 handed_one : (m : Moment) (x : Passage) → EntersWith m (the_call x) → number_inside (m.state.locals 6) ≡ 1
@@ -94,7 +94,7 @@ handed_one m x h =
     ap number_inside (e.0.0.locals 6)
 
 -- a frame of the call holds it
-frame_holds_one : (m : Moment) → IsFrameEntered parameter_comes_back noted (body_with m)
+frame_holds_one : (m : Moment) → IsFrameEntered parameter_comes_back call_noted (body_with m)
     → number_inside (m.state.locals 6) ≡ 1
 unfolding trail one many below
 frame_holds_one m h = by_place h.found
@@ -102,7 +102,7 @@ frame_holds_one m h = by_place h.found
     enters : EntersWith m h.passage
     enters = (h.values, h.agrees, h.enters)
 
-    by_place : Contains noted.found h.passage → number_inside (m.state.locals 6) ≡ 1
+    by_place : Contains call_noted.found h.passage → number_inside (m.state.locals 6) ≡ 1
     by_place (zero, l, e) =
         absurd (omega (arith, subst (λ (x : Passage). alone_in x.here.path ≡ 2) (sym e) (ap alone_in h.place)))
     by_place (suc zero, l, e) = handed_one m h.passage (subst (EntersWith m) (sym e) enters)
@@ -120,8 +120,8 @@ frame_holds_one m h = by_place h.found
 
 -- the tree with the body begun with these values
 abbrev tree_with : Moment → BlockTree
-tree_with m = Begun (moment_at noted.found 0)
-    (Then (Finished (moment_at noted.left 0) nothing_gained)
+tree_with m = Begun (moment_at call_noted.found 0)
+    (Then (Finished (moment_at call_noted.left 0) nothing_gained)
     (Then (InCall (body_with m).frame)
     (Then Waiting
     (Then Waiting NoMore))))
