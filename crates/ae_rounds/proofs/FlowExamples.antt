@@ -1,9 +1,11 @@
 -- A plan worked out: one task, which takes its cell once, and what may come of it.
-use Rattle.std.proofs.Common.{◌≡◌, ◌≤◌, ◌⊎◌, inl, inr, refl, sym, ◌∙◌, subst, arith, ℕ, zero, suc, true, false, List}
-use Rattle.std.proofs.Common.{[], ◌∷◌, None, Some, Contains}
+use Rattle.std.proofs.Common.{◌≡◌, ◌≤◌, ◌<◌, ◌⊎◌, inl, inr, refl, sym, ◌∙◌, subst, arith, ℕ, zero, suc, true, false}
+use Rattle.std.proofs.Common.{List}
+use Rattle.std.proofs.Common.{[], ◌∷◌, Some, Contains}
 use Rattle.std.specs.Prelude.{slice_get}
 use Rattle.ae_rounds.specs.Rounds.{IsEdge, MayRun}
 use Rattle.ae_rounds.specs.Flow.{Work, Plan, TaskEnd, Never, Finished, Stopped, Aside, Result, round_of, IsInput}
+use Rattle.ae_rounds.specs.Works.{IsWork, MayCarry, NoEdge, IsPlan}
 use Rattle.ae_rounds.specs.Flow.{IsEnd, IsOutput, IsGiven, HasAdded, HasDrawn, stamps_in, entries_in, GoesOn, Flow}
 use Rattle.ae_text.specs.Numbers.{times}
 use Rattle.ae_rounds.proofs.from_text.Basics.{none_is_no_some}
@@ -13,6 +15,8 @@ abbrev work : Work ℕ ℕ ℕ ℕ ℕ
 work = record {
   gives = λ x cs o. o ≡ 1;
   pauses = λ x cs b. ⊥;
+  ready = λ x cs. cs ≡ [];
+  names = λ b k. k ≡ 0;
   carry = λ o e. o;
   stops = λ o. false;
   began = λ o. 5;
@@ -173,3 +177,49 @@ may_come =
       began_least = λ t s o i d. (stamp_between s (is_stamp s (drawn t s d).1)).0;
       ended_greatest = λ t s o i d. (stamp_between s (is_stamp s (drawn t s d).1)).1;
     }
+
+-- ---- what the work keeps to, and the plan meets
+
+-- nothing stands in an empty list
+none_in : {A : Type 0} (x : A) → Contains [] x → ⊥
+none_in x (k, l, e) = omega (arith, l)
+
+is_work : IsWork work
+is_work = record {
+  input_stamped = λ x k e c. absurd (none_in e c);
+  output_stamped = λ o k e c. (1, omega arith, is_six e c);
+  body_stamped = λ b k e c. absurd (none_in e c);
+  carry_stamped = λ o n s c. absurd (none_in s c);
+  has_began = λ o. (0, omega arith, refl);
+  has_ended = λ o. (2, omega arith, refl);
+  gives_more = λ x cs o k g. (6 ∷ [], refl);
+  pauses_more = λ x cs b k g. absurd g;
+  gives_later = λ x cs o k es e g q c. (λ s d. absurd (none_in s d), λ y d s f. absurd (none_in s f));
+  pauses_later = λ x cs b k es e g. absurd g;
+}
+  where
+    is_six : (e : ℕ) → Contains (6 ∷ []) e → 6 ≡ e
+    is_six e (zero, l, q) = q
+    is_six e (suc k, l, q) = absurd (omega (arith, l))
+
+-- no edge brings a carry
+no_carries : (cs : List ℕ) → MayCarry work plan [] cs → cs ≡ []
+no_carries cs NoEdge = refl
+
+old_stamp : (k : ℕ) (es : List ℕ) (e : ℕ) → slice_get plan.cells k ≡ Some es → Contains es e → e < 5
+old_stamp zero es e i c = is_three (subst (λ xs. Contains xs e) (sym (old_is (3 ∷ []) es i)) c)
+  where
+    is_three : Contains (3 ∷ []) e → e < 5
+    is_three (zero, l, q) = subst (λ n. n < 5) q (omega arith)
+    is_three (suc k, l, q) = absurd (omega (arith, l))
+old_stamp (suc k) es e i c = absurd (none_is_no_some i)
+
+is_plan : IsPlan work plan
+is_plan = record {
+  shape = λ t u g. absurd (no_edge t u g);
+  once = λ i j e g h. absurd (none_is_no_some g);
+  ready = λ t x cs m i c. no_carries cs c;
+  cells = λ t x cs b k i g. absurd g;
+  inputs_before = λ t x i s c. absurd (none_in s c);
+  cells_before = old_stamp;
+}

@@ -1,5 +1,5 @@
 -- Proofs of the laws of results.
-use Rattle.std.proofs.Common.{◌≡◌, ◌<◌, inl, inr, refl, subst, arith, ℕ, zero, suc, Option, Some, Contains}
+use Rattle.std.proofs.Common.{◌≡◌, ◌<◌, inl, inr, refl, subst, arith, ℕ, zero, suc, Contains}
 use Rattle.std.specs.Prelude.{slice_get}
 use Rattle.ae_rounds.specs.Rounds.{IsEdge, IsWay}
 use Rattle.ae_rounds.specs.Flow.{Work, Plan, TaskEnd, Finished, Stopped, Result, round_of, IsEnd, IsOutput, HasBegun}

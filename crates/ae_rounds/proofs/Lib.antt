@@ -4,3 +4,4 @@ mod LawLemmas
 mod Examples
 pub mod FlowLemmas
 mod FlowExamples
+pub mod WorkLemmas

@@ -1,18 +1,23 @@
 -- What may come of a round, whoever ran its tasks and in whatever order: a relation between a plan and a result.
 use Rattle.std.specs.Prelude.{◌≡◌, ◌≤◌, ◌<◌, ◌+◌, ◌++◌, ◌↔◌, ◌⊎◌, ℕ, nat_eq, if◌then◌else◌, Bool, true, false, List}
-use Rattle.std.specs.Prelude.{[], ◌∷◌, length, map, slice_get, count_by, Contains, Option, None, Some, option_map}
+use Rattle.std.specs.Prelude.{[], ◌∷◌, length, map, slice_get, Contains, Option, None, Some, option_map}
 use Rattle.ae_text.specs.declared.refusal.Edge.{Edge}
 use Rattle.ae_rounds.specs.Rounds.{Round, IsEdge, MayRun}
 use Rattle.ae_text.specs.Numbers.{times}
 
 -- ---- the work of a round
 
--- What the tasks of a round take and give: inputs, the carries on edges, outputs, bodies that are set aside, and entries in the histories of cells.
+-- What the tasks of a round take and give: inputs, the carries on edges, outputs, bodies that are set aside, and
+-- entries in the histories of cells.
 pub record Work (I C O B E : Type 0) : Type 1 where
   -- the task with this input and these carries may give this output
   pub gives : I → List C → O → Type 0
   -- the task with this input and these carries may be set aside with this body
   pub pauses : I → List C → B → Type 0
+  -- with these carries the task with this input can go on
+  pub ready : I → List C → Type 0
+  -- the body may ask for the cell of this number where it pauses
+  pub names : B → ℕ → Type 0
   -- what the output puts on the edge of this number
   pub carry : O → ℕ → C
   -- the output is that of a task that did not go through
@@ -89,7 +94,8 @@ HasBegun (Finished o) = Unit {0}
 HasBegun (Stopped o) = Unit {0}
 HasBegun (Aside b) = Unit {0}
 
--- The edges that enter a task, in the plan's order: of each its number, and the task from which it leads. The first edge has this number.
+-- The edges that enter a task, in the plan's order: of each its number, and the task from which it leads. The first
+-- edge has this number.
 abbrev pub entering : ℕ → List Edge → ℕ → List (ℕ × ℕ)
 entering n [] t = []
 entering n (e ∷ es) t = if nat_eq e.to t then (n, e.from) ∷ entering (n + 1) es t else entering (n + 1) es t
@@ -135,7 +141,8 @@ abbrev pub IsNewTo : {I C O B E : Type 0} → Work I C O B E → I → List C �
 IsNewTo {I} {C} {O} {B} {E} w x cs s = (Contains (w.input_stamps x) s → ⊥)
     × ((c : C) → Contains cs c → Contains (w.carry_stamps c) s → ⊥)
 
--- the stamp is one that the task has added in this round: it stands in what became of the task, and not in what it was given
+-- the stamp is one that the task has added in this round: it stands in what became of the task, and not in what it was
+-- given
 abbrev pub HasDrawn : {I C O B E : Type 0} → Work I C O B E → Plan I E → Result I O B E → ℕ → ℕ → Type 0
 HasDrawn {I} {C} {O} {B} {E} w p r t s =
     (x : I) × (cs : List C) × (e : TaskEnd I O B) × IsGiven w p r t x cs × IsEnd r t e × HasBegun e
@@ -159,7 +166,8 @@ pub record Flow {I C O B E : Type 0} (w : Work I C O B E) (p : Plan I E) (r : Re
   pub all_cells : length r.cells ≡ length p.cells
   -- what has begun may run, and all for which it waits went through
   pub begun_may : (t : ℕ) (e : TaskEnd I O B) → IsEnd r t e → HasBegun e → MayRun (round_of p) t
-  pub begun_passed : (t f : ℕ) (e : TaskEnd I O B) → IsEnd r t e → HasBegun e → IsEdge (round_of p) f t → (o : O) × IsEnd r f (Finished o)
+  pub begun_passed : (t f : ℕ) (e : TaskEnd I O B) → IsEnd r t e → HasBegun e
+      → IsEdge (round_of p) f t → (o : O) × IsEnd r f (Finished o)
   -- outputs and bodies are what the work allows for what the task was given
   pub outputs : (t : ℕ) (o : O) → IsOutput r t o → (x : I) × (cs : List C) × IsGiven w p r t x cs × w.gives x cs o
   pub finished : (t : ℕ) (o : O) → IsEnd r t (Finished o) → w.stops o ≡ false
@@ -172,11 +180,13 @@ pub record Flow {I C O B E : Type 0} (w : Work I C O B E) (p : Plan I E) (r : Re
   -- the stamps that tasks have added differ from each other, and lie between the two clocks
   pub drawn_by_one : (t u s : ℕ) → HasDrawn w p r t s → HasDrawn w p r u s → t ≡ u
   pub drawn_once : (t s : ℕ) (e : TaskEnd I O B) → HasDrawn w p r t s → IsEnd r t e → times s (stamps_in w e) ≡ 1
+  -- that an output began before it ended follows where its task has added two stamps; it is kept for readers
   pub began_before : (t : ℕ) (o : O) → IsOutput r t o → w.began o < w.ended o
   pub in_time : (t s : ℕ) → HasDrawn w p r t s → (p.clock ≤ s) × (s < r.clock)
   pub clock : p.clock ≤ r.clock
   -- a stamp that a task has added is above all in the outputs for which it waited
-  pub above : (f t s z : ℕ) (o : O) → IsEdge (round_of p) f t → HasDrawn w p r t s → IsEnd r f (Finished o) → Contains (w.output_stamps o) z → z < s
+  pub above : (f t s z : ℕ) (o : O) → IsEdge (round_of p) f t → HasDrawn w p r t s → IsEnd r f (Finished o)
+      → Contains (w.output_stamps o) z → z < s
   -- an output begins with the least stamp that its task has added, and ends with the greatest
   pub began_drawn : (t : ℕ) (o : O) → IsOutput r t o → HasDrawn w p r t (w.began o)
   pub ended_drawn : (t : ℕ) (o : O) → IsOutput r t o → HasDrawn w p r t (w.ended o)

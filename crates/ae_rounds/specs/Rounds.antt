@@ -42,7 +42,8 @@ pub data Stage : Type 0 where
   Stopped : Stage
   Aside : Stage
 
--- Of each task its stage, and of each cell whether it is held. Of each seat the task that it runs, and the cell that it holds.
+-- Of each task its stage, and of each cell whether it is held. Of each seat the task that it runs, and the cell that it
+-- holds.
 pub record Configuration : Type 0 where
   pub stage : ℕ → Stage
   pub held : ℕ → Bool
@@ -59,7 +60,8 @@ ArePassed r c u = (t : ℕ) → IsEdge r t u → c.stage t ≡ Finished
 
 -- ---- events
 
--- Of a seat: it begins a task; it ends its task, which went through or stopped; it takes a cell; it leaves a cell; it sets its task aside.
+-- Of a seat: it begins a task; it ends its task, which went through or stopped; it takes a cell; it leaves a cell; it
+-- sets its task aside.
 pub data RoundEvent : Type 0 where
   Begin : (seat : ℕ) → (task : ℕ) → RoundEvent
   Finish : (seat : ℕ) → (stopped : Bool) → RoundEvent
@@ -145,7 +147,9 @@ pub record ConflictFree (r : Round) (c : Configuration) : Type 0 where
   pub apart : (t u : ℕ) → c.stage t ≡ Running → c.stage u ≡ Running → IsChain r t u → ⊥
   pub kept_by_one : (k s u : ℕ) → c.holds s ≡ Some k → c.holds u ≡ Some k → s ≡ u
 
--- Of two tasks that may both run, a chain of edges leads from the one of the lower number to the other where they conflict, and from the first to the second where they are ordered so.
+-- Of two tasks that may both run, a chain of edges leads from the one of the lower number to the other where they
+-- conflict, and from the first to the second where they are ordered so. Tasks are numbered in source order, so the
+-- lower number is the first in source order.
 pub record IsSound (r : Round) (Conflict Ordered : ℕ → ℕ → Type 0) : Type 0 where
   pub conflicts : (t u : ℕ) → MayRun r t → MayRun r u → t < u → Conflict t u ⊎ Conflict u t → IsChain r t u
   pub orders : (t u : ℕ) → MayRun r t → MayRun r u → Ordered t u → IsChain r t u

@@ -37,7 +37,8 @@ pub fn reached_is_free_of_conflicts()
     ensures { ReachedIsFree }
 {}
 
-/// In a round with a chain of edges between any two tasks that conflict or are ordered, no two such tasks ever run together.
+/// In a round with a chain of edges between any two tasks that conflict or are ordered, no two such tasks ever run
+/// together.
 pub fn sound_is_calm<T: Tasks>()
     ensures { SoundIsCalm T.conflict T.ordered }
 {}

@@ -58,7 +58,7 @@ frame_at p here s c groups (Fine xs) f e =
 frame_at p here s c groups (Traps code) f e = absurd (cc)
 frame_at p here s c groups Lacks f e = absurd (cc)
 
-entered_at : (p : Code) (here : Where) (s : State) (i : Invocation) (o : Outcome Callee) (f : CallFrame)
+pub entered_at : (p : Code) (here : Where) (s : State) (i : Invocation) (o : Outcome Callee) (f : CallFrame)
     → (o >>= λ c. each_argument p s (givens i) >>= λ xs. Fine (frame p here s c (group_given s c i) xs)) ≡ Fine f
     → f.here.path ≡ here.path
 entered_at p here s i (Fine c) f e = frame_at p here s c (group_given s c i) (each_argument p s (givens i)) f e

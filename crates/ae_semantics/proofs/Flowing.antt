@@ -21,7 +21,7 @@ use Rattle.ae_semantics.specs.Means.{run, notes_of, stops_at}
 use Rattle.ae_semantics.specs.Atom.{by_query}
 use Rattle.ae_semantics.specs.PastStops.{FirstStop, GoesPast, NoStop, RunsGoPast, StatementsGoPast}
 use Rattle.ae_semantics.proofs.Related.{IsFree, Quiet, Of, From, machine}
-use Rattle.ae_semantics.proofs.Alongside.{MayRun, Noted, IsNoted, Going, Goes, Keeps, along_one, along_run}
+use Rattle.ae_semantics.proofs.Alongside.{Noted, IsNoted, Going, Goes, Keeps, along_one, along_run}
 use Rattle.ae_semantics.proofs.Alone.{Alone, Stays, alone_many, alone_run}
 use Rattle.ae_semantics.proofs.Growing.{Grows, growing, grows_none, grows_after, grows_then, grows_gone}
 use Rattle.ae_semantics.proofs.Growing.{grows_chosen, grows_observed}

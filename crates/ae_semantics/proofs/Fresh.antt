@@ -7,7 +7,7 @@ use Rattle.ae_tree.specs.Names.{main}
 use Rattle.ae_tree.specs.Limits.{statement_count}
 use Rattle.ae_tree.specs.Plain.{Lines, End, Next, Definition, Code}
 use Rattle.ae_rules.specs.Verdict.{given}
-use Rattle.ae_rules.specs.Lookups.{method_at, top_number}
+use Rattle.ae_rules.specs.Lookups.{method_at, top_number, top_called}
 use Rattle.ae_rules.specs.Instances.{Instance}
 use Rattle.ae_semantics.specs.Observations.{Seen, Query, Mark, Ran, Turned, Entered, Asked, Used, Stopped}
 use Rattle.ae_semantics.specs.Runs.{Run, Stops}
@@ -25,8 +25,8 @@ use Rattle.ae_semantics.specs.BlockTrees.{observed, results, results_at, turns, 
 use Rattle.ae_semantics.specs.BlockTrees.{unfolded_at, running_at, running, main_entry, Happened, halted_at}
 use Rattle.ae_semantics.specs.BlockTrees.{left_out, left_out_at, events, events_at, cells, cells_at}
 use Rattle.ae_semantics.specs.Trails.{Trail, watching_machine, no_trail, watched_run, trail}
-use Rattle.ae_semantics.specs.Report.{CellReport, AllPairs, AllDiffer, line_stamps}
-use Rattle.ae_semantics.specs.Stamps.{stamps_of, IsStamped, FreshIsStamped}
+use Rattle.ae_semantics.specs.Report.{CellReport, AllPairs}
+use Rattle.ae_semantics.specs.Stamps.{AreStamped, IsStamped, FreshIsStamped}
 use Rattle.ae_semantics.specs.Laws.{FreshStandsFor}
 use Rattle.ae_semantics.proofs.Watched.{watching_changes_nothing}
 use Rattle.ae_semantics.proofs.Kept.{MayMark, Kept, kept_block}
@@ -52,7 +52,7 @@ counted (Next at a rest) = let e : statement_count rest ≡ how_many (all_wait r
 
 -- ---- paths
 
-begins_with_itself : (q : Instance) → is_prefix_of q q ≡ true
+pub begins_with_itself : (q : Instance) → is_prefix_of q q ≡ true
 begins_with_itself [] = refl
 begins_with_itself (i ∷ q) = ap (λ b. b && is_prefix_of q q) (eq-eqb i i refl) ∙ begins_with_itself q
 
@@ -163,6 +163,13 @@ started : (p : Code) (m : Definition) (ints : List ℤ) (n : ℕ) → top_number
 started p m ints n e d = ap (λ o. given o None (start_at p ints)) e
     ∙ ap (λ o. given o None (λ (m : Definition). started_at p ints n m)) d
 
+-- a run begins where there is a main
+pub start_there : (p : Code) (m : Definition) (ints : List ℤ) → top_called p main ≡ Some m
+    → (x : Start) × (run_start p ints ≡ Some x)
+start_there p m ints e =
+    let n : (n : ℕ) × (top_number p main ≡ Some n) × (method_at p n ≡ Some m) = numbered p m (top_number p main) e in
+    (record { here = main_here p n.0 m; method = m; state = main_state p m ints }, started p m ints n.0 n.1 n.2)
+
 -- the run that is watched is that of main's body
 run_is : (p : Code) (m : Definition) (ints : List ℤ) (fuel : ℕ) (table : Query → Option Seen) (n : ℕ)
     → run_start p ints ≡ started_at p ints n m
@@ -236,25 +243,32 @@ fresh_stands_for p m ints fuel e =
 
 -- ---- its stamps
 
-no_stamps : (p : Code) (m : Definition) (ints : List ℤ) → stamps_of (tree_of p m ints) ≡ []
-no_stamps p m ints = ap (λ (es : List Happened). map (λ (e : Happened). e.stamp) es
-    ++ line_stamps (stage_lines (tree_of p m ints))) (none_given events_at (λ q. refl) [] 0 m.body)
-    ∙ ap line_stamps (none_given lines_at (λ q. refl) [] 0 m.body)
-
-stamped : (p : Code) (m : Definition) (ints : List ℤ) (clock : ℕ) → IsStamped p clock (tree_of p m ints)
-stamped p m ints clock = record {
-  differ = subst AllDiffer (sym (no_stamps p m ints)) tt;
-  below = of_none _ (stamps_of (tree_of p m ints)) (no_stamps p m ints);
-  ordered = λ d e c. absurd (of_none (λ x. ⊥) (events (tree_of p m ints))
-      (none_given events_at (λ q. refl) [] 0 m.body) d c);
-  spans = of_none _ (stage_lines (tree_of p m ints)) (none_given lines_at (λ q. refl) [] 0 m.body);
-  keeps = λ l k c. absurd (of_none (λ x. ⊥) (stage_lines (tree_of p m ints))
-      (none_given lines_at (λ q. refl) [] 0 m.body) l
-      c);
-  histories = of_none _ (cells (tree_of p m ints)) (none_given cells_at (λ q. refl) [] 0 m.body);
+-- where nothing ran all is stamped
+pub nothing_stamped : (p : Code) (clock : ℕ) → AreStamped p clock [] [] []
+nothing_stamped p clock = record {
+  differ = tt;
+  below = of_none _ [] refl;
+  ordered = λ d e c. absurd (of_none (λ x. ⊥) [] refl d c);
+  spans = of_none _ [] refl;
+  keeps = λ l k c. absurd (of_none (λ x. ⊥) [] refl l c);
+  histories = of_none _ [] refl;
 }
+
+-- so it is in a tree in which nothing ran
+stamped : (p : Code) (m : Definition) (ints : List ℤ) (clock : ℕ) → IsStamped p clock (tree_of p m ints)
+stamped p m ints clock =
+    subst (λ es. AreStamped p clock es (cells (tree_of p m ints)) (stage_lines (tree_of p m ints)))
+    (sym (none_given events_at (λ q. refl) [] 0 m.body))
+    (subst (λ cs. AreStamped p clock [] cs (stage_lines (tree_of p m ints)))
+    (sym (none_given cells_at (λ q. refl) [] 0 m.body))
+    (subst (AreStamped p clock [] []) (sym (none_given lines_at (λ q. refl) [] 0 m.body))
+    (nothing_stamped p clock)))
 
 pub fresh_is_stamped : FreshIsStamped
 fresh_is_stamped p m ints clock e =
-    let x : (n : ℕ) × (top_number p main ≡ Some n) × (method_at p n ≡ Some m) = numbered p m
-    (top_number p main) e in (tree_of p m ints, ap (λ (o : Option Start). given o None (λ (y : Start). Some (Begun (main_entry y).values (all_wait y.method.body)))) (started p m ints x.0 x.1 x.2), stamped p m ints clock)
+    let x : (n : ℕ) × (top_number p main ≡ Some n) × (method_at p n ≡ Some m) = numbered p m (top_number p main) e in (
+      tree_of p m ints,
+      ap (λ (o : Option Start). given o None
+          (λ (y : Start). Some (Begun (main_entry y).values (all_wait y.method.body)))) (started p m ints x.0 x.1 x.2),
+      stamped p m ints clock,
+    )

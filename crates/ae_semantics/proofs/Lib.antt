@@ -20,3 +20,14 @@ mod Flowing
 mod Reading
 mod Walked
 mod FixedLemmas
+mod FreshRows
+mod LockNumbers
+mod Answering
+mod StagesStill
+mod RowsAnswered
+mod StepLemmas
+mod RowsKept
+mod StepsKeep
+mod RowsOpened
+mod EntryPaths
+mod OpeningSteps

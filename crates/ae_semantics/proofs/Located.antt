@@ -18,7 +18,8 @@ use Rattle.ae_semantics.specs.Runs.{Where, locking, whole_block}
 use Rattle.ae_semantics.specs.Blocks.{ask_of}
 use Rattle.ae_semantics.specs.Report.{AllPairs}
 use Rattle.ae_semantics.specs.Atom.{Located, lock_in, locks_among, locks_in_blocks, all_locks, lock_numbered, located}
-use Rattle.ae_semantics.specs.Standing.{LocksDiffer, AsksAreLocated}
+use Rattle.ae_semantics.specs.Standing.{AsksAreLocated}
+use Rattle.ae_semantics.proofs.LockNumbers.{shaped_locks_differ}
 use Rattle.std.proofs.lemmas.Option.{same_Some}
 
 -- ---- what a list has
@@ -113,7 +114,7 @@ place_in x depth path m c = record {
 }
 
 pub asks_are_located : AsksAreLocated
-asks_are_located p x depth path here g n b fuel u s stands is differ = by_method (method_at p x.method) refl stands is
+asks_are_located p w x depth path here g n b fuel u s stands is = by_method (method_at p x.method) refl stands is
   where
     by_context : (m : Definition) → method_at p x.method ≡ Some m → (t : Scene) → scene p m x.block ≡ Some t
         → (o : Option Context) → context_at p m t.lines t.start x.stmt ≡ o
@@ -121,16 +122,15 @@ asks_are_located p x depth path here g n b fuel u s stands is differ = by_method
         → located p (ask_of here n fuel u s)
         ≡ Some (record { group = g.name; block = whole_block b (locking g here) })
     by_context m i t j None k e f = absurd (cc e)
-    by_context m i t j (Some c) k e f = subst (λ (h : Where). LocksDiffer p h.method → located p (ask_of h n fuel u s)
+    by_context m i t j (Some c) k e f = subst (λ (h : Where). located p (ask_of h n fuel u s)
         ≡ Some (record { group = g.name; block = whole_block b (locking g h) }))
         (same_Some (place_in x depth path m c) here e)
-        (λ d. ap (λ (o : Option Definition). given o None (λ (m : Definition). lock_numbered n (all_locks p m))) i
+        (ap (λ (o : Option Definition). given o None (λ (m : Definition). lock_numbered n (all_locks p m))) i
         ∙ numbered_is n (located_there m g b c) (all_locks p m)
         (let r = scene_is x.block (all_scenes p m) t j in in_blocks p m (n, located_there m g b c) r.0
         (all_scenes p m) r.1
         (subst (λ (w : Scene). IsIn (n, located_there m g b c) (locks_among p m w.lines w.start)) (sym r.2)
-        (in_locks p m g n b t.lines x.stmt t.start c f k))) d)
-        differ
+        (in_locks p m g n b t.lines x.stmt t.start c f k))) (shaped_locks_differ p x.method m w i))
 
     by_scene : (m : Definition) → method_at p x.method ≡ Some m → (o : Option Scene) → scene p m x.block ≡ o
         → given o None (λ (t : Scene). option_map (place_in x depth path m) (context_at p m t.lines t.start x.stmt))

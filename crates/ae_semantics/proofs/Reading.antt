@@ -1,30 +1,19 @@
 -- What a statement reads: from two states that agree on what it uses it goes alike, and leaves states that agree again.
 -- How runs are put together keeps this; what is left is what each form of statement has to keep.
-use Rattle.std.proofs.Common.{◌≡◌, inl, inr, refl, ap, sym, subst, ℕ, suc, nat_eq, Bool, true, false, Option, None}
-use Rattle.std.proofs.Common.{Some}
+use Rattle.std.proofs.Common.{◌≡◌, ℕ, nat_eq, Bool, true, false}
 use Rattle.std.specs.Prelude.{is_some}
 use Rattle.ae_text.specs.declared.refusal.Spot.{Spot}
 use Rattle.ae_rules.specs.declared.uses.Resource.{Resource}
 use Rattle.ae_rules.specs.declared.uses.Resource.TheVariants as resource
 use Rattle.ae_tree.specs.Names.{io}
-use Rattle.ae_tree.specs.Plain.{Action, Lines, End, Next, Code}
-use Rattle.ae_rules.specs.Verdict as rules
+use Rattle.ae_tree.specs.Plain.{Action, Code}
 use Rattle.ae_rules.specs.Context.{Context}
-use Rattle.ae_tree.specs.declared.form.Form.{Form}
-use Rattle.ae_tree.specs.declared.form.Form.TheVariants as f
-use Rattle.ae_tree.specs.Plain.{Expression, Definition, Chooses, ChoosesElse, Prints, Asserts}
-use Rattle.ae_rules.specs.Expressions.{expression_spot, judge_value, is_value}
-use Rattle.ae_semantics.proofs.Walked.{SameOn, on_left, FitsShallow, value_same, bind_holds, formed}
-use Rattle.ae_rules.specs.Uses.{is_seen, whole_group, ◌∪◌, outside, value_uses, lines_use, statement_uses}
+use Rattle.ae_rules.specs.Uses.{is_seen, statement_uses}
 use Rattle.ae_rules.specs.Judges.{Judges}
 use Rattle.ae_semantics.specs.Places.{State, name_of, group_of}
-use Rattle.ae_semantics.specs.Contexts.{after}
-use Rattle.ae_semantics.specs.Observations.{Origin, Seen, Notes, Observer}
-use Rattle.ae_semantics.specs.Runs.{Run, Went, Ends, Stops, Act, and_then, deeper, Where, knowing, stopping}
-use Rattle.ae_semantics.specs.Meaning.{one, below}
-use Rattle.ae_semantics.specs.Means.{stops_at}
-use Rattle.ae_semantics.proofs.Related.{Stretch, Both, Relation, IsAnswered, HasTest, IsTested, Forms, Link}
-use Rattle.ae_semantics.proofs.Related.{related_one, related_below}
+use Rattle.ae_semantics.specs.Observations.{Notes}
+use Rattle.ae_semantics.specs.Runs.{Where}
+use Rattle.ae_semantics.proofs.Related.{Both}
 
 -- what two states agree on, and the context that both fit
 pub record Known : Type 0 where

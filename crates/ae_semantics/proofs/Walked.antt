@@ -23,9 +23,8 @@ use Rattle.ae_rules.specs.Verdict as rules
 use Rattle.ae_rules.specs.Walks as walks
 use Rattle.ae_rules.specs.Lookups.{class_of, field_number, field_of_kind, field_of}
 use Rattle.ae_rules.specs.Context.{Local, Context, access}
-use Rattle.ae_rules.specs.Forms.{same_value, is_ints}
-use Rattle.ae_rules.specs.Expressions.{expression_spot, Operands, Numbers, Truths, Equals, operands, has_form}
-use Rattle.ae_rules.specs.Expressions.{Compared, beside_null, equal_operands, judge_operands, judge_value}
+use Rattle.ae_rules.specs.Forms.{same_value}
+use Rattle.ae_rules.specs.Expressions.{expression_spot, has_form}
 use Rattle.ae_rules.specs.declared.held.Held.{Held}
 use Rattle.ae_rules.specs.Walks.{held_in_field}
 use Rattle.ae_rules.specs.Uses.{nothing, read_use, whole_group, reach_use, stronger, ◌∪◌, of_judged, steps_use}

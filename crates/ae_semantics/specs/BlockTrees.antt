@@ -10,7 +10,8 @@ use Rattle.ae_semantics.specs.declared.report.TraceLine.{TraceLine}
 use Rattle.ae_semantics.specs.Observations.{Answer, Seen, OfBlock, Query, AtBlock, AtEnd}
 use Rattle.ae_rules.specs.Instances.{Instance}
 use Rattle.ae_semantics.specs.Means.{Start, run_start, Turn, Asking}
-use Rattle.ae_semantics.specs.Report.{CellReport, same_instance, last_in}
+use Rattle.ae_semantics.specs.Report.{CellReport, last_in}
+use Rattle.ae_semantics.specs.Regions.{same_instance}
 use Rattle.ae_semantics.specs.Regions.{Region, Within, FromTurn}
 
 -- ---- the tree

@@ -1,5 +1,5 @@
 -- Runs that keep the answers that they get, and runs with more observations.
-use Rattle.std.specs.Prelude.{◌≡◌, ℕ, ℤ, List, [], ◌∷◌, ◌++◌, Option, option_map, ⊤}
+use Rattle.std.specs.Prelude.{◌≡◌, ℕ, ℤ, List, [], ◌∷◌, ◌++◌, Option, Some, option_map, ⊤}
 use Rattle.ae_text.specs.declared.refusal.Spot.{Spot}
 use Rattle.ae_tree.specs.Plain.{Action, Code}
 use Rattle.ae_semantics.specs.Places.{State}
@@ -39,8 +39,8 @@ carried h (Stops n) = Stops (carry h n)
 
 -- ---- by its answers
 
--- A run that keeps its answers goes as it would without keeping them, and as the run by the list of exactly these answers; nothing of the list is left.
--- A run that stops for want of an answer stops there too.
+-- A run that keeps its answers goes as it would without keeping them, and as the run by the list of exactly these
+-- answers; nothing of the list is left. A run that stops for want of an answer stops there too.
 abbrev pub IsByAnswers : Run (⊤ × List Seen) → Run ⊤ → (List Seen → Run (List Seen)) → Type 0
 IsByAnswers r plain by_list = (plain ≡ carried (λ w. w.0) r) × (by_list (answers r) ≡ carried (λ w. []) r)
 
@@ -60,8 +60,8 @@ StatementGoesByItsAnswers = (p : Code) (fuel : ℕ) (table : Query → Option Se
 
 -- ---- with more observations
 
--- With more observations behind those that it has a run is the same where it goes through or ends, but for those that are left.
--- Where it stops, the run with more begins with all that it tells.
+-- With more observations behind those that it has a run is the same where it goes through or ends, but for those that
+-- are left. Where it stops, the run with more begins with all that it tells.
 abbrev pub GoesFurther : List Seen → Run (List Seen) → Run (List Seen) → Type 0
 GoesFurther more (Went s n) q = q ≡ Went s (carry (λ w. w ++ more) n)
 GoesFurther more (Ends e n) q = q ≡ Ends e (carry (λ w. w ++ more) n)
@@ -78,3 +78,22 @@ StatementGoesFurther = (p : Code) (fuel : ℕ) (more : List Seen) (here : Where)
     (n : Notes (List Seen))
     → GoesFurther more (doing (source_machine p) fuel here at a s n)
     (doing (source_machine p) fuel here at a s (carry (λ w. w ++ more) n))
+
+-- ---- by a table with more answers
+
+-- the second table has all answers of the first
+abbrev pub Extends : (Query → Option Seen) → (Query → Option Seen) → Type 0
+Extends table more = (q : Query) (x : Seen) → table q ≡ Some x → more q ≡ Some x
+
+-- the second run is the first, unless that stopped for want of an answer
+abbrev pub StaysAs : Run ⊤ → Run ⊤ → Type 0
+StaysAs (Went s n) q = q ≡ Went s n
+StaysAs (Ends e n) q = q ≡ Ends e n
+StaysAs (Stops n) q = Unit {0}
+
+-- a statement that does not stop does the same by a table with more answers
+abbrev pub MoreAnswersKeep : Type 0
+MoreAnswersKeep = (p : Code) (fuel : ℕ) (table more : Query → Option Seen) → Extends table more
+    → (here : Where) (at : Spot) (a : Action) (s : State) (n : Notes ⊤)
+    → StaysAs (doing (stops_at p (by_query table)) fuel here at a s n)
+    (doing (stops_at p (by_query more)) fuel here at a s n)

@@ -2,7 +2,10 @@
 use Rattle.std.specs.Prelude.{ℕ, suc, nat_eq, nat_lt, Bool, false, ◌&&◌, [], ◌∷◌, ◌++◌}
 use Rattle.ae_rules.specs.Instances.{Instance}
 use Rattle.ae_rules.specs.Paths.{is_prefix_of}
-use Rattle.ae_semantics.specs.Report.{same_instance}
+
+-- the paths are the same
+abbrev pub same_instance : Instance → Instance → Bool
+same_instance q r = is_prefix_of q r && is_prefix_of r q
 
 -- an instance and what lies in it, a loop from a turn on, or an instance without what lies in it
 pub data Region : Type 0 where

@@ -4,6 +4,7 @@ use Rattle.std.specs.Prelude.{if◌then◌else◌, List, [], ◌∷◌, ◌++◌
 use Rattle.std.specs.Prelude.{Some, Contains}
 use Rattle.ae_tree.specs.Plain.{Code}
 use Rattle.ae_rules.specs.Verdict.{given}
+use Rattle.ae_rules.specs.Edges.{IsRising}
 use Rattle.ae_rules.specs.Instances.{Instance, Ordered, Conflict}
 use Rattle.ae_rules.specs.Paths.{comes_before, is_prefix_of, later_of, is_simple_at}
 use Rattle.ae_semantics.specs.Places.{CellName}
@@ -15,6 +16,7 @@ use Rattle.ae_semantics.specs.Observations.{Image, OfLog, Ask, Answer, Seen, OfB
 use Rattle.ae_semantics.specs.Observations.{FromCell, Query, AtBlock, AtEnd}
 use Rattle.ae_semantics.specs.Means.{At, Turn, First, Asking, Meant, mean, bytes}
 use Rattle.ae_semantics.specs.Atom.{atom, part}
+use Rattle.ae_semantics.specs.Regions.{same_instance, Within, FromTurn, lies_in, path_of}
 
 -- ---- a report
 
@@ -106,10 +108,6 @@ observations r = map (λ (x : Item). x.seen) (items r)
 
 -- ---- observations by what is asked
 
--- the paths are the same
-abbrev pub same_instance : Instance → Instance → Bool
-same_instance q r = is_prefix_of q r && is_prefix_of r q
-
 -- the answer of the event at this path
 abbrev pub answer_in : List Event → Instance → Option Seen
 answer_in [] q = None
@@ -157,13 +155,6 @@ stamps es = map (λ (e : Event). e.stamp) es
 abbrev pub AllDiffer : List ℕ → Type 0
 AllDiffer xs = AllPairs (λ m n. m ≢ n) xs
 
--- the stamps of the events at these places rise
-abbrev pub Rises : List Event → List ℕ → Type 0
-Rises es [] = Unit {0}
-Rises es (i ∷ []) = Unit {0}
-Rises es (i ∷ j ∷ is) = ((d e : Event) → slice_get es i ≡ Some d → slice_get es j ≡ Some e → d.stamp < e.stamp)
-    × Rises es (j ∷ is)
-
 -- a block leads from an image to the next, and its answer is what it gives
 pub record LeadsTo (p : Code) (e : Event) (before after : Image) : Type 0 where
   pub image : (atom p e.ask before []).image ≡ after
@@ -194,7 +185,7 @@ pub record Legal (p : Code) (r : Report) : Type 0 where
   pub differ : AllDiffer (stamps r.events)
   pub places : (i : ℕ) → i < length r.events ↔ Contains r.order i
   pub once : AllDiffer r.order
-  pub rises : Rises r.events r.order
+  pub rises : IsRising (stamps (picked r.events r.order))
   pub leads : (i : ℕ) (c : CellReport) → slice_get r.cells i ≡ Some c
       → Leads p (of_cell i (picked r.events r.order)) c.first c.last
   pub ordered : (d e : Event) → Contains r.events d → Contains r.events e → Ordered p d.path e.path → d.stamp < e.stamp
@@ -203,7 +194,7 @@ pub record Legal (p : Code) (r : Report) : Type 0 where
 
 -- the path of a loop from a turn on
 abbrev pub turn_path : Turn → Instance
-turn_path x = x.path ++ (x.turn ∷ [])
+turn_path x = path_of (FromTurn x.path x.turn)
 
 -- the last of these paths, if there is one
 abbrev pub last_path : List Instance → Instance
@@ -320,14 +311,10 @@ pub record Explained (p : Code) (ints : List ℤ) (fuel : ℕ) (r : Report) : Ty
 abbrev pub traced_part : Code → List ℤ → ℕ → Report → Meant
 traced_part p ints fuel r = part p ints fuel (by_report_or_first r)
 
--- the instance lies in a turn of the loop that is this one or a later one
-abbrev pub InTurnsFrom : Turn → Instance → Type 0
-InTurnsFrom x q = (u : ℕ) × (rest : Instance) × (q ≡ x.path ++ (u ∷ rest)) × (x.turn < suc u)
-
 -- a line covers what lies at its path or below it, and a loop from a turn on also what lies in later turns
 abbrev pub Covers : Meant → TraceLine → Instance → Type 0
-Covers m l q = (is_prefix_of l.path q ≡ true)
-    ⊎ ((x : Turn) × Contains m.turns x × (l.path ≡ turn_path x) × InTurnsFrom x q)
+Covers m l q = (lies_in (Within l.path) q ≡ true)
+    ⊎ ((x : Turn) × Contains m.turns x × (l.path ≡ turn_path x) × (lies_in (FromTurn x.path x.turn) q ≡ true))
 
 -- the run ran the line's instance, or evaluated the condition of its turn
 abbrev pub IsLineOf : Meant → TraceLine → Type 0

@@ -18,7 +18,8 @@ use Rattle.ae_rules.specs.Paths.{is_prefix_of}
 use Rattle.ae_semantics.specs.Meaning.{forgotten}
 use Rattle.ae_semantics.specs.Means.{Start, run_start, At, Turn, Stop, Meant}
 use Rattle.ae_semantics.specs.Atom.{part}
-use Rattle.ae_semantics.specs.Report.{CellReport, AllPairs, same_instance}
+use Rattle.ae_semantics.specs.Report.{CellReport, AllPairs}
+use Rattle.ae_semantics.specs.Regions.{same_instance}
 use Rattle.ae_semantics.specs.Regions.{Region, lies_in, path_of, Within, Only}
 use Rattle.ae_semantics.specs.BlockTrees.{BlockTree, how_many, Happened, main_entry, Halt, finished, unfinished}
 use Rattle.ae_semantics.specs.BlockTrees.{unfolded, halted, left_out, Result, Between, Running, results, betweens}

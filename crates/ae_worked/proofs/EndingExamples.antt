@@ -1,6 +1,6 @@
 -- Where a run ends: at the turn of a loop that spends the fuel.
 use Rattle.std.proofs.Common.{append-nil, ◌≡◌, ◌<◌, inl, inr, refl, sym, ap, subst, arith, ℕ, zero, suc, true, List, []}
-use Rattle.std.proofs.Common.{◌∷◌, ◌++◌, map, Some, Contains, ◌⊎◌, nat_eq}
+use Rattle.std.proofs.Common.{◌∷◌, ◌++◌, map, Some, Contains, ◌⊎◌, nat_eq, nat_lt}
 use Rattle.std.proofs.Math.Dec.{eqb-zero-suc}
 use Rattle.std.proofs.lemmas.Bool.{eqb-true}
 use Rattle.std.specs.Prelude.{pos}
@@ -15,11 +15,13 @@ use Rattle.ae_semantics.specs.Means.{At, Turn, Asking, mean}
 use Rattle.ae_semantics.specs.Atom.{atom, part}
 use Rattle.ae_semantics.specs.declared.report.TraceLine.{TraceLine}
 use Rattle.ae_semantics.specs.Report.{Event, CellReport, Report, LeadsTo, Legal, Explained, mean_of, part_of_report}
-use Rattle.ae_semantics.specs.Report.{asking_of, ended_at, turn_path, IsLater, InTurnsFrom, Covers, IsLineOf}
+use Rattle.ae_semantics.specs.Report.{asking_of, ended_at, turn_path, IsLater, Covers, IsLineOf}
+use Rattle.ae_semantics.specs.Regions.{FromTurn, lies_in}
+use Rattle.std.proofs.lemmas.Bool.Decides.{nat_tests}
 use Rattle.ae_semantics.specs.Report.{KeepInTime}
 use Rattle.ae_semantics.specs.Report.{traced_part, Traced}
 use Rattle.ae_worked.proofs.ReportWords.{by_test, of_two, pair_of_two, two_differ, carried_same}
-use Rattle.ae_worked.proofs.ReportWords.{asking_same, two_same, not_both, unparted, fork_of, part_so, rises_two}
+use Rattle.ae_worked.proofs.ReportWords.{asking_same, two_same, not_both, unparted, fork_of, part_so}
 use Rattle.ae_worked.proofs.ReportWords.{one_cell, nothing_given, all_differ-so, and_false}
 use Rattle.ae_worked.proofs.UnfoldingExamples.{every}
 use Rattle.ae_worked.proofs.ProgramWords.{at}
@@ -120,7 +122,7 @@ spent-legal = record {
     )
   ];
   once = two_differ 0 1 (λ (e : 0 ≡ 1). omega (arith, e));
-  rises = rises_two spent.events 0 1 (event_in 0 1 1) (event_in 1 0 2) refl refl (omega arith);
+  rises = (omega arith, tt);
   leads = one_cell prints_forever spent.events printed_twice (
     OfLog (piece_in 0 ∷ []),
     leads_one 0 1 1 [],
@@ -236,16 +238,26 @@ unfolding part one many below
 no_turn t = every (λ (x : Turn). block_in t ≡ turn_path x → ⊥) (traced_part prints_forever [] 2 spent).turns
     (block_is_no_turn t 0, (block_is_no_turn t 1, (block_is_no_turn t 2, tt)))
 
--- what lies in the third turn or in a later one
+-- what lies in the third turn of the loop or in a later one
+late_third : (q : Instance) → lies_in (FromTurn (0 ∷ 0 ∷ []) 2) q ≡ true → 1 < third q
+late_third [] h = absurd (not_both _ refl h)
+late_third (i ∷ []) h = absurd (not_both _ (and_false (nat_eq 0 i)) h)
+late_third (i ∷ j ∷ []) h = absurd (not_both _ (and_false (nat_eq 0 j)) (second_of_both (nat_eq 0 i) _ h))
+late_third (i ∷ j ∷ u ∷ q) h =
+    let l : nat_lt 2 (suc u) ≡ true = second_of_both (nat_eq 0 j) _ (second_of_both (nat_eq 0 i) _ h) in
+    grind (arith, nat_tests, l)
+
+-- what a line from the third turn on covers behind that turn
 late_turn : (q : Instance) (x : Turn) → Contains (traced_part prints_forever [] 2 spent).turns x → last_turn.path
-    ≡ turn_path x → InTurnsFrom x q → 1 < third q
+    ≡ turn_path x → lies_in (FromTurn x.path x.turn) q ≡ true → 1 < third q
 unfolding part one many below
-late_turn q = every (λ (x : Turn). last_turn.path ≡ turn_path x → InTurnsFrom x q → 1 < third q)
+late_turn q = every
+    (λ (x : Turn). last_turn.path ≡ turn_path x → lies_in (FromTurn x.path x.turn) q ≡ true → 1 < third q)
     (traced_part prints_forever [] 2 spent).turns (
       (λ e y. let d : 2 ≡ 0 = ap third e in absurd (omega (arith, d))),
       (
         (λ e y. let d : 2 ≡ 1 = ap third e in absurd (omega (arith, d))),
-        ((λ e y. let d : third q ≡ y.0 = ap third y.2 in let l : 2 < suc y.0 = y.3 in omega (arith, d, l)), tt),
+        ((λ e y. late_third q y), tt),
       ),
     )
 

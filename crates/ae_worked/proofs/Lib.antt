@@ -55,6 +55,8 @@ pub mod CallEndingExamples
 pub mod UnfoldingExamples
 pub mod UnfoldingGroupExamples
 pub mod UnfoldingLoopExamples
+pub mod UnfoldingCallExamples
+pub mod RowsExamples
 pub mod NewExamples
 pub mod AliasExamples
 pub mod CellExamples

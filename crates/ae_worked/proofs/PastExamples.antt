@@ -17,7 +17,7 @@ use Rattle.ae_semantics.specs.Atom.{atom, part}
 use Rattle.ae_semantics.specs.Report.{Event, Report, LeadsTo, Legal, Explained, mean_of, part_of_report, asking_of}
 use Rattle.ae_worked.proofs.ReportWords.{by_test, one_thing, of_two, pair_of_two, two_differ, carried_same}
 use Rattle.ae_worked.proofs.ReportWords.{asking_same, one_same, two_same, unparted, part_so, fork_of, used_at}
-use Rattle.ae_worked.proofs.ReportWords.{backwards, side_by_side, hidden, unused, rises_two, one_cell, nothing_given}
+use Rattle.ae_worked.proofs.ReportWords.{backwards, side_by_side, hidden, unused, one_cell, nothing_given}
 use Rattle.ae_worked.proofs.ProgramWords.{at}
 use Rattle.ae_worked.proofs.MeaningWords.{nothing_out}
 use Rattle.ae_worked.proofs.ReportExamples.{first_block, second_block, event_at, piece_two, log_cell, IsBlock, free_in}
@@ -88,7 +88,7 @@ trapped-legal = record {
     )
   ];
   once = two_differ 1 0 (λ (e : 1 ≡ 0). omega (arith, e));
-  rises = rises_two trapped.events 1 0 (event_at second_block 3 1) trap_event refl refl (omega arith);
+  rises = (omega arith, tt);
   leads = one_cell trap_before_a_print (event_at second_block 3 1 ∷ trap_event ∷ []) (log_cell (piece_two ∷ []))
       (OfLog (piece_two ∷ []), leads_past, (OfLog (piece_two ∷ []), leads_trap (piece_two ∷ []), refl));
   ordered = λ d e a b o. absurd (trap_free d.path e.path (is_trapped_block d a) (is_trapped_block e b) o);

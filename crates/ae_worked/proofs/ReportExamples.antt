@@ -22,7 +22,7 @@ use Rattle.ae_semantics.specs.Report.{Event, CellReport, Report, Leads, LeadsTo,
 use Rattle.ae_semantics.specs.Report.{part_of_report, asking_of}
 use Rattle.ae_worked.proofs.ReportWords.{of_two, pair_of_two, two_differ, carried_same}
 use Rattle.ae_worked.proofs.ReportWords.{asking_same, two_same, unparted, part_so, fork_of, used_at, backwards}
-use Rattle.ae_worked.proofs.ReportWords.{side_by_side, hidden, unused, rises_two, one_cell, by_test, nothing_given}
+use Rattle.ae_worked.proofs.ReportWords.{side_by_side, hidden, unused, one_cell, by_test, nothing_given}
 use Rattle.ae_worked.proofs.ReportWords.{two_lines}
 use Rattle.ae_worked.proofs.ProgramWords.{at}
 use Rattle.ae_worked.proofs.MeaningWords.{line, nothing_out}
@@ -151,8 +151,7 @@ in_order-legal = record {
     )
   ];
   once = two_differ 0 1 (λ (e : 0 ≡ 1). omega (arith, e));
-  rises = rises_two in_order.events 0 1 (event_at first_block 2 2) (event_at second_block 3 5) refl refl
-      (omega arith);
+  rises = (omega arith, tt);
   leads = one_cell two_prints (event_at first_block 2 2 ∷ event_at second_block 3 5 ∷ [])
       (log_cell (piece_one ∷ piece_two ∷ [])) (
         OfLog (piece_one ∷ []),
@@ -175,8 +174,7 @@ other_order-legal = record {
     )
   ];
   once = two_differ 1 0 (λ (e : 1 ≡ 0). omega (arith, e));
-  rises = rises_two other_order.events 1 0 (event_at second_block 3 3) (event_at first_block 2 5) refl refl
-      (omega arith);
+  rises = (omega arith, tt);
   leads = one_cell two_prints (event_at second_block 3 3 ∷ event_at first_block 2 5 ∷ [])
       (log_cell (piece_two ∷ piece_one ∷ [])) (
         OfLog (piece_two ∷ []),

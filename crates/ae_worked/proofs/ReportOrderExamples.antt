@@ -16,7 +16,7 @@ use Rattle.ae_semantics.specs.Atom.{atom, part}
 use Rattle.ae_semantics.specs.Report.{Event, CellReport, Report, LeadsTo, Legal, Explained, mean_of, part_of_report}
 use Rattle.ae_semantics.specs.Report.{asking_of}
 use Rattle.ae_worked.proofs.ReportWords.{of_two, pair_of_two, two_differ, carried_same}
-use Rattle.ae_worked.proofs.ReportWords.{asking_same, two_same, unparted, part_so, fork_of, backwards, rises_two}
+use Rattle.ae_worked.proofs.ReportWords.{asking_same, two_same, unparted, part_so, fork_of, backwards}
 use Rattle.ae_worked.proofs.ReportWords.{one_cell, by_test, nothing_given, one_line}
 use Rattle.ae_worked.proofs.MeaningWords.{line, nothing_out, number_out}
 use Rattle.ae_worked.proofs.ReportExamples.{asked_at}
@@ -150,7 +150,7 @@ writing_first-legal = record {
     )
   ];
   once = two_differ 0 1 (λ (e : 0 ≡ 1). omega (arith, e));
-  rises = rises_two writing_first.events 0 1 writing printing refl refl (omega arith);
+  rises = (omega arith, tt);
   leads = one_cell written_then_printed writing_first.events written_cell
       (OfLog [], leads_writing, (OfLog (printed_one ∷ []), leads_printing, refl));
   ordered = rises_from;

@@ -17,7 +17,7 @@ use Rattle.ae_rules.specs.Instances.{Ordered, Conflict, uses_from}
 use Rattle.ae_semantics.specs.Observations.{Carried, Gave}
 use Rattle.ae_semantics.specs.Means.{Asking}
 use Rattle.ae_semantics.specs.declared.report.TraceLine.{TraceLine}
-use Rattle.ae_semantics.specs.Report.{Event, CellReport, AllPairs, AllDiffer, Rises, of_cell, Leads}
+use Rattle.ae_semantics.specs.Report.{Event, CellReport, AllPairs, AllDiffer, of_cell, Leads}
 use Rattle.ae_worked.proofs.MeaningWords.{nothing_out}
 use Rattle.ae_worked.proofs.from_text.Basics.{second_of_both, first_of_both, none_is_no_some, empty_has_nothing}
 use Rattle.std.proofs.lemmas.Option.{same_Some}
@@ -169,13 +169,6 @@ pub unused : (o n : Option Mode) → o ≡ None → IsConflict o n → ⊥
 unused o n e h = subst (λ (x : Option Mode). IsConflict x n) e h
 
 -- ---- legal order
-
-pub rises_two : (es : List Event) (i j : ℕ) (x y : Event) → slice_get es i ≡ Some x → slice_get es j ≡ Some y
-    → x.stamp < y.stamp → Rises es (i ∷ j ∷ [])
-rises_two es i j x y p q l = (λ d e a b. later x y d e (same_Some x d (sym p ∙ a)) (same_Some y e (sym q ∙ b)) l, tt)
-  where
-    later : (x y d e : Event) → x ≡ d → y ≡ e → x.stamp < y.stamp → d.stamp < e.stamp
-    later x y d e a b l = subst (λ (z : Event). z.stamp < e.stamp) a (subst (λ (z : Event). x.stamp < z.stamp) b l)
 
 pub one_cell : (p : Code) (es : List Event) (x : CellReport) → Leads p (of_cell 0 es) x.first x.last
     → (i : ℕ) (c : CellReport) → slice_get (x ∷ []) i ≡ Some c → Leads p (of_cell i es) c.first c.last

@@ -19,8 +19,9 @@ use Rattle.ae_semantics.specs.Moments.{Moment, AgreesOnChanged}
 use Rattle.ae_semantics.specs.Trails.{Passage, trail}
 use Rattle.ae_semantics.specs.Unfolding.{uses_of, IsAfter, StandsFor, part_of_tree, trail_of, IsLeft, halt_place}
 use Rattle.ae_semantics.specs.BlockTrees.{BlockTree, Begun, NoMore, fresh, results, halted, left_out, Then, Halted}
-use Rattle.ae_semantics.specs.BlockTrees.{Finished, LeftOut, Waiting, Gained}
+use Rattle.ae_semantics.specs.BlockTrees.{Finished, LeftOut, Waiting}
 use Rattle.ae_semantics.specs.Regions.{Within}
+use Rattle.ae_semantics.specs.RowTrees.{nothing_gained}
 use Rattle.ae_worked.proofs.ReportWords.{fork_of}
 use Rattle.ae_worked.proofs.RunExamples.{trap_beside_a_print}
 
@@ -81,20 +82,17 @@ fresh-stands = record {
   );
 }
 
--- The first statement has ended, the second has left its local, the third is left out, and the print waits.
-abbrev pub nothing_gained : Gained
-nothing_gained = record { events = []; cells = []; trace = [] }
-
 abbrev two : Bound
 two = record { form = f.Int; value = OfInt (pos 2) }
 
-abbrev two_in_b : Moment
+abbrev pub two_in_b : Moment
 two_in_b = record {
   state = record { locals = λ x. if nat_eq 4 x then Some two else None; groups = λ g. None; result = None };
   log = [];
   cell = None;
 }
 
+-- The first statement has ended, the second has left its local, the third is left out, and the print waits.
 abbrev halfway : BlockTree
 halfway = Begun no_values
     (Then (Halted (Trap 2 (at 2 1)) nothing_gained)

@@ -7,7 +7,8 @@ use Rattle.ae_semantics.specs.Observations.{Image, OfStore, Answer, Gave, Seen, 
 use Rattle.ae_semantics.specs.Meaning.{one, many, below}
 use Rattle.ae_semantics.specs.Means.{Asking}
 use Rattle.ae_semantics.specs.Atom.{part}
-use Rattle.ae_semantics.specs.Report.{CellReport, same_instance}
+use Rattle.ae_semantics.specs.Report.{CellReport}
+use Rattle.ae_semantics.specs.Regions.{same_instance}
 use Rattle.ae_semantics.specs.Places.{Outcome, Fine, Lacks}
 use Rattle.ae_semantics.specs.Moments.{Moment}
 use Rattle.ae_semantics.specs.Entries.{Inner, OfCall, OfSplit, Entry}
@@ -18,7 +19,8 @@ use Rattle.ae_semantics.specs.Trails.{Passage, trail}
 use Rattle.ae_semantics.specs.Regions.{Within, Only}
 use Rattle.ae_worked.proofs.ProgramWords.{at}
 use Rattle.ae_worked.proofs.ReportWords.{asking_same, carried_same}
-use Rattle.ae_worked.proofs.UnfoldingExamples.{every, no_values, nothing_gained}
+use Rattle.ae_semantics.specs.RowTrees.{nothing_gained}
+use Rattle.ae_worked.proofs.UnfoldingExamples.{every, no_values}
 use Rattle.ae_worked.proofs.GroupUseExamples.{four_in_a_group}
 
 -- the first call's block has answered, and the count is one

@@ -12,7 +12,8 @@ use Rattle.ae_semantics.specs.Unfolding.{before_turn, StandsFor, part_of_tree}
 use Rattle.ae_semantics.specs.Trails.{Trail, trail}
 use Rattle.ae_semantics.specs.Regions.{Within, FromTurn, Only}
 use Rattle.ae_worked.proofs.ProgramWords.{at}
-use Rattle.ae_worked.proofs.UnfoldingExamples.{every, nothing_gained}
+use Rattle.ae_semantics.specs.RowTrees.{nothing_gained}
+use Rattle.ae_worked.proofs.UnfoldingExamples.{every}
 use Rattle.ae_worked.proofs.UnfoldingGroupExamples.{moment_at}
 use Rattle.ae_worked.proofs.RunExamples.{loop_of_three_turns}
 
