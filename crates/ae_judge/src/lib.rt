@@ -1,0 +1,18 @@
+//! Walks, expressions, what goes into a form, new objects and calls, judged by the rules.
+#![tactic(auto)]
+
+mod answer;
+mod forms;
+mod lookups;
+mod tabled;
+mod values;
+mod walks;
+
+pub use answer::deny;
+pub use forms::{
+    form_with, in_place, is_object_of, is_same_kind, is_same_names, is_same_perm, is_same_value,
+};
+pub use lookups::{ClassAt, FieldAt};
+pub use tabled::Tabled;
+pub use values::{Scalar, expression_spot, holds_nothing, is_value, judge_value};
+pub use walks::{Place, access, group_access, is_name, owner_write_access, walk, write_access};
