@@ -2,17 +2,21 @@
 #![tactic(auto)]
 
 mod answer;
+mod fitting;
 mod forms;
 mod lookups;
+mod stores;
 mod tabled;
 mod values;
 mod walks;
 
 pub use answer::deny;
+pub use fitting::{Source, into, into_immutable, into_shared, is_held_alone, made_into, may_leave, name_into, source_in};
 pub use forms::{
     form_with, in_place, is_object_of, is_same_kind, is_same_names, is_same_perm, is_same_value,
 };
 pub use lookups::{ClassAt, FieldAt};
+pub use stores::{judge_store, judge_store_at, judge_take};
 pub use tabled::Tabled;
 pub use values::{Scalar, expression_spot, holds_nothing, is_value, judge_value};
 pub use walks::{Place, access, group_access, is_name, owner_write_access, walk, write_access};

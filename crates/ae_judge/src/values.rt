@@ -8,7 +8,7 @@ ghost use Rattle.ae_rules.specs.Expressions as spec;
 ghost use Rattle.ae_rules.specs.Forms.{same_value};
 ghost use Rattle.ae_scope.specs.Scope.{context_of};
 ghost use Rattle.ae_judge.specs.Tabled.{code_of};
-ghost use Rattle.ae_judge.specs.Scalar.{form_of, operands_of};
+ghost use Rattle.ae_judge.specs.Views.{form_of, operands_of};
 
 use crate::answer::deny;
 use crate::forms::is_ints;
