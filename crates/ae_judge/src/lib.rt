@@ -4,7 +4,9 @@
 mod answer;
 mod fitting;
 mod forms;
+mod groups;
 mod lookups;
+mod roots;
 mod stores;
 mod tabled;
 mod values;
@@ -15,7 +17,9 @@ pub use fitting::{Source, into, into_immutable, into_shared, is_held_alone, made
 pub use forms::{
     form_with, in_place, is_object_of, is_same_kind, is_same_names, is_same_perm, is_same_value,
 };
+pub use groups::{forms_type, groups_fit, is_group};
 pub use lookups::{ClassAt, FieldAt};
+pub use roots::Roots;
 pub use stores::{judge_store, judge_store_at, judge_take};
 pub use tabled::Tabled;
 pub use values::{Scalar, expression_spot, holds_nothing, is_value, judge_value};
