@@ -4,3 +4,4 @@ pub use Rattle.ae_text.proofs as from_text
 pub mod FormLemmas
 pub mod LookupLemmas
 pub mod WalkLemmas
+pub mod MovedLemmas

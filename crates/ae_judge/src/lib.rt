@@ -2,6 +2,7 @@
 #![tactic(auto)]
 
 mod answer;
+mod filling;
 mod fitting;
 mod forms;
 mod groups;
@@ -13,6 +14,7 @@ mod values;
 mod walks;
 
 pub use answer::deny;
+pub use filling::{Filled, Made, judge_new};
 pub use fitting::{Source, into, into_immutable, into_shared, is_held_alone, made_into, may_leave, name_into, source_in};
 pub use forms::{
     form_with, in_place, is_object_of, is_same_kind, is_same_names, is_same_perm, is_same_value,
