@@ -2,7 +2,7 @@
 use Rattle.std.proofs.Common.{◌≡◌, ◌⊎◌, inl, inr, ℕ, ◌+◌, ◌<◌, ◌≤◌, zero, suc, nat_eq, Bool, true, false, ◌&&◌, if◌then◌else◌, List, [], ◌∷◌}
 use Rattle.std.proofs.Common.{◌++◌, map, length, take, drop, get_or, refl, sym, ap, ◌∙◌, arith}
 use Rattle.std.specs.Prelude.{min}
-use Rattle.std.proofs.lemmas.Bool.{cases_lt, eqb-true}
+use Rattle.std.proofs.lemmas.Bool.{cases_lt, eqb-true, and_right}
 
 use Rattle.std.proofs.lemmas.List.{drop_more, take_more, drop_all, map-append}
 use Rattle.ae_tree.specs.declared.tree.NameAt.{NameAt}
@@ -10,16 +10,12 @@ use Rattle.ae_tree.specs.Form.{bare_names}
 use Rattle.ae_rules.specs.Forms.{same_names, in_place}
 use Rattle.ae_judge.proofs.from_text.Basics.{number_is_itself}
 
-no_after_all : (b d : Bool) → d ≡ false → (b && d) ≡ false
-no_after_all true d e = e
-no_after_all false d e = refl
-
 -- lists of two lengths have not the same names
 pub lengths_tell_apart : (xs ys : List ℕ) → (length xs ≡ length ys → ⊥) → same_names xs ys ≡ false
 lengths_tell_apart [] [] h = absurd (h refl)
 lengths_tell_apart [] (y ∷ ys) h = refl
 lengths_tell_apart (x ∷ xs) [] h = refl
-lengths_tell_apart (x ∷ xs) (y ∷ ys) h = no_after_all (nat_eq x y) (same_names xs ys)
+lengths_tell_apart (x ∷ xs) (y ∷ ys) h = and_right (nat_eq x y) (same_names xs ys)
     (lengths_tell_apart xs ys (λ e. h (ap suc e)))
 
 -- the first two of the rests are compared

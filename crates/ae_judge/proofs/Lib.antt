@@ -5,3 +5,5 @@ pub mod FormLemmas
 pub mod LookupLemmas
 pub mod WalkLemmas
 pub mod MovedLemmas
+pub mod ReceiverLemmas
+pub mod MemberLemmas

@@ -1,3 +1,5 @@
 pub mod Tabled
 pub mod Views
 pub mod Made
+pub mod Receivers
+pub mod Callee

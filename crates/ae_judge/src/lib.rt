@@ -2,6 +2,7 @@
 #![tactic(auto)]
 
 mod answer;
+mod callees;
 mod filling;
 mod fitting;
 mod forms;
@@ -14,6 +15,7 @@ mod values;
 mod walks;
 
 pub use answer::deny;
+pub use callees::{Callee, judge_callee, method_at};
 pub use filling::{Filled, Made, judge_new};
 pub use fitting::{Source, into, into_immutable, into_shared, is_held_alone, made_into, may_leave, name_into, source_in};
 pub use forms::{
