@@ -7,3 +7,4 @@ pub mod WalkLemmas
 pub mod MovedLemmas
 pub mod ReceiverLemmas
 pub mod MemberLemmas
+pub mod GivenLemmas

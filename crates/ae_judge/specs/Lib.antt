@@ -3,3 +3,5 @@ pub mod Views
 pub mod Made
 pub mod Receivers
 pub mod Callee
+pub mod Param
+pub mod Needs

@@ -173,6 +173,16 @@ fn fits(tabled: &Tabled, scope: &Scope, form: &Form, expr: &Expr) -> Result<(), 
     }
 }
 
+/// The name that moves into a form with this permission: the path's, where it is unique. Takes no memory.
+pub fn moves(perm: Perm, path: &Path) -> Option<Name>
+    ensures { result ≡ spec.moves perm path.now }
+{
+    match perm {
+        Perm::Unique => Some(path.root.name),
+        Perm::Immutable | Perm::Lent | Perm::Shared(_) => None,
+    }
+}
+
 /// The name that moves with an expression into a form, by its text alone: that of a path into a unique form. Takes no
 /// memory.
 pub fn name_into(form: &Form, expr: &Expr) -> Option<Name>
@@ -183,10 +193,7 @@ pub fn name_into(form: &Form, expr: &Expr) -> Option<Name>
         Form::Object(perm, _) => match source_in(expr) {
             Some(found) => match found {
                 Source::Null => None,
-                Source::From(path) => match perm {
-                    Perm::Unique => Some(path.root.name),
-                    Perm::Immutable | Perm::Lent | Perm::Shared(_) => None,
-                },
+                Source::From(path) => moves(*perm, path),
             },
             None => None,
         },

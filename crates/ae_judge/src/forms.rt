@@ -151,8 +151,8 @@ pub fn in_place(from: &[Name], to: &[Name], name: Name) -> Name
     name
 }
 
-// A permission, with its group replaced.
-fn perm_with(from: &[Name], to: &[Name], perm: &PermAt) -> Perm
+/// A permission, with its group replaced by the one at its place in the second list. Takes no memory.
+pub fn perm_with(from: &[Name], to: &[Name], perm: &PermAt) -> Perm
     ensures { result ≡ spec.perm_with (spec.in_place from.now to.now) (perm_of perm.now) }
 {
     match perm {
@@ -163,8 +163,8 @@ fn perm_with(from: &[Name], to: &[Name], perm: &PermAt) -> Perm
     }
 }
 
-// Names, each replaced.
-fn names_with(alloc: Global, from: &[Name], to: &[Name], list: &[NameAt]) -> Result<Items<Name>, AllocError>
+/// Names, each replaced by the one at its place in the second list. An empty list takes no memory.
+pub fn names_with(alloc: Global, from: &[Name], to: &[Name], list: &[NameAt]) -> Result<Items<Name>, AllocError>
     ensures { IfOk result (λ xs. xs ≡ map (spec.in_place from.now to.now) (bare_names list.now)) }
 {
     let mut names = Items::new(alloc);
@@ -172,23 +172,6 @@ fn names_with(alloc: Global, from: &[Name], to: &[Name], list: &[NameAt]) -> Res
         names.push(in_place(from, to, item.name))?;
     }
     Ok(names)
-}
-
-/// The form of an object of a class whose groups are written here, with each group replaced by the one at its place in
-/// the second list. Takes memory for its groups alone.
-pub fn object_with(
-    alloc: Global,
-    from: &[Name],
-    to: &[Name],
-    perm: &PermAt,
-    class: Name,
-    groups: &[NameAt],
-) -> Result<Form, AllocError>
-    ensures { IfOk result (λ f. f ≡ spec.form_with (spec.in_place from.now to.now)
-        (Form.Object (perm_of perm.now) (Kind.Class class (bare_names groups.now)))) }
-{
-    let groups = names_with(alloc, from, to, groups)?;
-    Ok(Form::Object(perm_with(from, to, perm), Kind::Class(class, groups)))
 }
 
 /// The form of a type as it is written, with each group replaced by the one at its place in the second list. Takes
@@ -202,7 +185,8 @@ pub fn form_with(alloc: Global, from: &[Name], to: &[Name], ty: &Ty) -> Result<F
         Ty::Object(perm, kind) => match kind {
             KindAt::Ints(_) => Ok(Form::Object(perm_with(from, to, perm), Kind::Ints)),
             KindAt::Class(class, groups) => {
-                object_with(alloc, from, to, perm, class.name, groups.as_slice())
+                let groups = names_with(alloc, from, to, groups.as_slice())?;
+                Ok(Form::Object(perm_with(from, to, perm), Kind::Class(class.name, groups)))
             }
         },
     }

@@ -6,8 +6,11 @@ mod callees;
 mod filling;
 mod fitting;
 mod forms;
+mod giving;
 mod groups;
 mod lookups;
+mod needs;
+mod params;
 mod roots;
 mod stores;
 mod tabled;
@@ -21,8 +24,11 @@ pub use fitting::{Source, into, into_immutable, into_shared, is_held_alone, made
 pub use forms::{
     form_with, in_place, is_object_of, is_same_kind, is_same_names, is_same_perm, is_same_value,
 };
+pub use giving::{Given, ObjectSlot};
 pub use groups::{forms_type, groups_fit, is_group};
 pub use lookups::{ClassAt, FieldAt};
+pub use needs::{Wanted, needs_met};
+pub use params::{GroupsIn, MeSlot, ParamSlot, groups_in, me_slot, param_slot};
 pub use roots::Roots;
 pub use stores::{judge_store, judge_store_at, judge_take};
 pub use tabled::Tabled;
