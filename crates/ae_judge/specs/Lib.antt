@@ -5,3 +5,4 @@ pub mod Receivers
 pub mod Callee
 pub mod Param
 pub mod Needs
+pub mod Called

@@ -97,12 +97,18 @@ fn path_to_param(
     ensures { Leaves (spec.path_to_param (code_of tabled.now) (context_of scope.now) slot.entry.perm slot.entry.kind.now
         slot.entry.away path.now at (roots_of roots.old)) (roots_of roots.new) result }
 {
-    let place = walk(tabled, scope, path)?;
-    if !is_object_of(slot.kind, &place.form) {
-        return Err(deny(Rule::TypeMismatch, at));
+    let held = {
+        let place = walk(tabled, scope, path)?;
+        if !is_object_of(slot.kind, &place.form) {
+            return Err(deny(Rule::TypeMismatch, at));
+        }
+        place.held
+    };
+    match roots.root_apart(is_same_perm(Perm::Unique, slot.perm), path, at) {
+        Ok(()) => {}
+        Err(fail) => return Err(fail),
     }
-    roots.root_apart(is_same_perm(Perm::Unique, slot.perm), path, at)?;
-    to_param(slot.perm, slot.away, is_name(path), place.held, at)?;
+    to_param(slot.perm, slot.away, is_name(path), held, at)?;
     Ok(())
 }
 

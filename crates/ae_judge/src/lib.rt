@@ -3,6 +3,7 @@
 
 mod answer;
 mod callees;
+mod calls;
 mod filling;
 mod fitting;
 mod forms;
@@ -19,6 +20,7 @@ mod walks;
 
 pub use answer::deny;
 pub use callees::{Callee, judge_callee, method_at};
+pub use calls::{Called, judge_call};
 pub use filling::{Filled, Made, judge_new};
 pub use fitting::{Source, into, into_immutable, into_shared, is_held_alone, made_into, may_leave, name_into, source_in};
 pub use forms::{
