@@ -8,3 +8,4 @@ pub mod MovedLemmas
 pub mod ReceiverLemmas
 pub mod MemberLemmas
 pub mod GivenLemmas
+pub mod CalledLemmas

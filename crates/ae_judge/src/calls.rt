@@ -93,8 +93,14 @@ fn judge_callee_with(
         return Err(deny(Rule::ArgumentCount, at));
     }
     let new = groups_in(tabled.alloc, callee, call.groups.as_slice())?;
-    let given = give_slots(tabled, scope, &new, method, call)?;
-    needs_met(tabled.alloc, scope, at, &new, method.needs.as_slice())?;
+    let given = match give_slots(tabled, scope, &new, method, call) {
+        Ok(given) => given,
+        Err(fail) => return Err(fail),
+    };
+    match needs_met(tabled.alloc, scope, at, &new, method.needs.as_slice()) {
+        Ok(()) => {}
+        Err(fail) => return Err(fail),
+    }
     let result = result_form(tabled.alloc, &new, &method.result)?;
     Ok(Called {
         result,
