@@ -41,3 +41,13 @@ pub moved_last : (xs : List ℕ) (x : ℕ) (c : Context)
 moved_last xs x c = ap (λ (l : ℕ → Option Local). record c { local = l }) (functions_agree _ _ (λ y.
     ap (λ b. if b then option_map no_more (c.local y) else c.local y) (has_the_last xs x y)
     ∙ moved_twice (has_name xs y) (nat_eq x y) (c.local y)))
+
+-- where no name moves the context is as it was
+pub none_moved_is_same : (c : Context) → all_moved [] c ≡ c
+none_moved_is_same c = refl
+
+-- one name that moves
+pub one_moved_is_last : (x : ℕ) (c : Context) → all_moved (x ∷ []) c ≡ with_name_moved (Some x) c
+one_moved_is_last x c = moved_last [] x c
+
+pub ruleset moved = (none_moved_is_same, one_moved_is_last)
