@@ -1,5 +1,6 @@
 -- A call, once its groups fit and as many arguments are given as there are parameters.
-use Rattle.std.proofs.Common.{◌≡◌, ℕ, nat_eq, Bool, true, List, map, length, Option, Some, Err, refl, sym, ap, ◌∙◌, subst}
+use Rattle.std.proofs.Common.{◌≡◌, ℕ, nat_eq, Bool, true, List, map, length}
+use Rattle.std.proofs.Common.{Option, Some, Err, refl, sym, ap, ◌∙◌, subst}
 use Rattle.std.proofs.lemmas.Bool.{eq-eqb}
 use Rattle.std.specs.Prelude.{zip, filter_map, option_map, ⊤}
 use Rattle.ae_text.specs.declared.refusal.Rule.TheVariants as rule
@@ -17,7 +18,8 @@ use Rattle.ae_rules.specs.Forms.{form_with}
 use Rattle.ae_rules.specs.Types.{groups_fit}
 use Rattle.ae_rules.specs.Groups.{known, wanted_need, needs_met}
 use Rattle.ae_rules.specs.Context.{Context}
-use Rattle.ae_rules.specs.Calls.{Callee, Called, Roots, no_roots, ParamSlot, group_in, slots, givens, to_slot, argument_parts, after_call}
+use Rattle.ae_rules.specs.Calls.{Callee, Called, Roots, no_roots, ParamSlot}
+use Rattle.ae_rules.specs.Calls.{group_in, slots, givens, to_slot, argument_parts, after_call}
 use Rattle.ae_rules.specs.Calls.{judge_callee_with}
 use Rattle.ae_rules.specs.Effects.{gone_name, all_moved}
 use Rattle.ae_judge.proofs.from_rules.GoneLemmas.{call_takes}
@@ -60,7 +62,8 @@ counted_from c i m new t n k l xs ys a b g d e f h j = record {
 counted_is : (p : Code) (c : Context) (i : Invocation) (m : Callee) (new : ℕ → ℕ) → IsCounted c i m new
     → judge_callee_with p c i m ≡ after_count p c i m new
 counted_is p c i m new h =
-    ap (λ (v : Verdict ⊤). v >> require (nat_eq (length i.args) (length m.method.params)) rule.ArgumentCount i.method.at >>
+    ap (λ (v : Verdict ⊤). v >> require (nat_eq (length i.args) (length m.method.params)) rule.ArgumentCount
+    i.method.at >>
     after_count p c i m (group_in m i.groups)) h.groups
     ∙ ap (λ b. require b rule.ArgumentCount i.method.at >> after_count p c i m (group_in m i.groups)) h.many
     ∙ ap (after_count p c i m) (sym h.renamed)
@@ -75,7 +78,8 @@ argument_is_refused p c i m new view view' (deny.Refused r) h e = counted_is p c
     ∙ ap (λ (v : Verdict Roots). v >>= λ roots. after_needs p c i m new) e
 
 -- a need that is not met
-pub need_is_refused : {B C : Type 0} (p : Code) (c : Context) (i : Invocation) (m : Callee) (new : ℕ → ℕ) (roots : Roots)
+pub need_is_refused : {B C : Type 0} (p : Code) (c : Context) (i : Invocation) (m : Callee) (new : ℕ → ℕ)
+    (roots : Roots)
     (view : B → ⊤) (view' : C → Called) (d : Deny) → IsCounted c i m new
     → in_turn (to_slot p c) (given_pairs p new m i) no_roots ≡ Holds roots
     → (ns : List GroupNeed) → ns ≡ m.method.needs
@@ -84,8 +88,11 @@ pub need_is_refused : {B C : Type 0} (p : Code) (c : Context) (i : Invocation) (
 need_is_refused p c i m new roots view view' deny.Memory h e ns k f = tt
 need_is_refused p c i m new roots view view' (deny.Refused r) h e ns k f = counted_is p c i m new h
     ∙ ap (λ (v : Verdict Roots). v >>= λ roots. after_needs p c i m new) e
-    ∙ ap (λ (v : Verdict ⊤). v >> Holds (record { result = call_result new m; after = after_call
-    (argument_parts c (given_pairs p new m i)) c }))
+    ∙ ap (λ (v : Verdict ⊤). v >> Holds (record {
+      result = call_result new m;
+      after = after_call
+          (argument_parts c (given_pairs p new m i)) c;
+    }))
     (ap (λ (zs : List GroupNeed). needs_met c.group i.method.at (map (wanted_need new) zs)) (sym k) ∙ f)
 
 -- a call that holds: the names that are given for good are gone
@@ -99,8 +106,11 @@ pub call_holds : (p : Code) (c : Context) (i : Invocation) (m : Callee) (new : �
     → judge_callee_with p c i m ≡ Holds (record { result = value; after = all_moved gone c })
 call_holds p c i m new roots t gone value h e g ns k f v = counted_is p c i m new h
     ∙ ap (λ (v : Verdict Roots). v >>= λ roots. after_needs p c i m new) e
-    ∙ ap (λ (v : Verdict ⊤). v >> Holds (record { result = call_result new m; after = after_call
-    (argument_parts c (given_pairs p new m i)) c }))
+    ∙ ap (λ (v : Verdict ⊤). v >> Holds (record {
+      result = call_result new m;
+      after = after_call
+          (argument_parts c (given_pairs p new m i)) c;
+    }))
     (ap (λ (zs : List GroupNeed). needs_met c.group i.method.at (map (wanted_need new) zs)) (sym k) ∙ f)
     ∙ ap (λ (d : Context). called (call_result new m) d) (call_takes p c (given_pairs p new m i) roots e
     ∙ ap (λ xs. all_moved xs c) (sym g))

@@ -1,5 +1,6 @@
 -- Where the declarations of a program hold, no method of a class has the name of a field.
-use Rattle.std.proofs.Common.{◌≡◌, ◌⊎◌, inl, inr, ℕ, zero, suc, nat_eq, Bool, true, false, ◌||◌, not, if◌then◌else◌, List, [], ◌∷◌, ◌++◌, map}
+use Rattle.std.proofs.Common.{◌≡◌, ◌⊎◌, inl, inr, ℕ, zero, suc, nat_eq, Bool}
+use Rattle.std.proofs.Common.{true, false, ◌||◌, not, if◌then◌else◌, List, [], ◌∷◌, ◌++◌, map}
 use Rattle.std.proofs.Common.{Option, None, Some, refl, sym, ap, ◌∙◌, ◌<◌, length, get_or, arith}
 use Rattle.std.specs.Prelude.{option_map, find, filter_map, position, ⊤, is_some}
 use Rattle.std.specs.List.{list_any, cons_option}
@@ -12,8 +13,10 @@ use Rattle.ae_tree.specs.declared.tree.Class.{Class}
 use Rattle.ae_tree.specs.Plain.{Definition, Code}
 use Rattle.ae_rules.specs.declared.table.Member.TheVariants as member
 use Rattle.ae_rules.specs.Verdict.{Verdict, Holds, require, each, in_turn, given, fine}
-use Rattle.ae_rules.specs.Lookups.{Names, class_at, method_at, is_called, field_number, method_number, member_called, member_names}
-use Rattle.ae_rules.specs.Table.{no_names, and_also, is_new, tops_differ, members_differ, decl_holds, has_main, TableHolds}
+use Rattle.ae_rules.specs.Lookups.{Names, class_at, method_at, is_called}
+use Rattle.ae_rules.specs.Lookups.{field_number, method_number, member_called, member_names}
+use Rattle.ae_rules.specs.Table.{no_names, and_also, is_new, tops_differ}
+use Rattle.ae_rules.specs.Table.{members_differ, decl_holds, has_main, TableHolds}
 use Rattle.ae_judge.proofs.from_rules.PathLemmas.{first_holds, each_holds}
 use Rattle.ae_judge.proofs.from_rules.SeenLemmas.{required}
 use Rattle.ae_judge.proofs.LookupLemmas.{of_field}
@@ -27,7 +30,7 @@ new_is_other : (x : NameAt) (e l : Names) (y : ℕ) → is_new rule.DuplicateMem
 new_is_other x e l y h k =
     let t = first_holds (require (not (e x.name)) rule.DuplicateMember x.at) _ l h in
     let n : e x.name ≡ false = not-true (e x.name)
-        (required (not (e x.name)) rule.DuplicateMember x.at t.0 t.1) in
+    (required (not (e x.name)) rule.DuplicateMember x.at t.0 t.1) in
     by_test (nat_eq x.name y) refl n
   where
     by_test : (b : Bool) → nat_eq x.name y ≡ b → e x.name ≡ false → b ≡ false
@@ -49,7 +52,8 @@ later_differ [] e l y h k = refl
 later_differ (x ∷ xs) e l y h k =
     let t = first_holds (is_new rule.DuplicateMember x e) _ l h in
     or_from (nat_eq x.name y) (has_this y xs) (new_is_other x e t.0 y t.1 k)
-    (later_differ xs t.0 l y t.2 (ap (λ (f : Names). f y) (new_is_known x e t.0 t.1) ∙ known_still (nat_eq x.name y) (e y) k))
+    (later_differ xs t.0 l y t.2 (ap (λ (f : Names). f y) (new_is_known x e t.0 t.1)
+    ∙ known_still (nat_eq x.name y) (e y) k))
   where
     known_still : (a b : Bool) → b ≡ true → (a || b) ≡ true
     known_still true b q = refl
@@ -57,7 +61,8 @@ later_differ (x ∷ xs) e l y h k =
 
 -- nor one of the first of them
 second_differ : (xs ys : List NameAt) (e l : Names) (y : ℕ)
-    → in_turn (is_new rule.DuplicateMember) (xs ++ ys) e ≡ Holds l → (e y || has_this y xs) ≡ true → has_this y ys ≡ false
+    → in_turn (is_new rule.DuplicateMember) (xs ++ ys) e ≡ Holds l → (e y || has_this y xs) ≡ true
+    → has_this y ys ≡ false
 second_differ [] ys e l y h k = later_differ ys e l y h (no_other (e y) k)
   where
     no_other : (b : Bool) → (b || false) ≡ true → b ≡ true

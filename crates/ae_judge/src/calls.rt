@@ -59,10 +59,12 @@ fn give_slots(
     requires many { length call.now.args ≡ length method.now.params }
     requires receiver { is_some method.now.me ≡ is_some call.now.on }
     ensures answer { Answers (in_turn (spec.to_slot (code_of tabled.now) (context_of scope.now))
-        (zip (spec.slots (code_of tabled.now) (new_in new.now) (definition method.now)) (spec.givens (invocation call.now)))
+        (zip (spec.slots (code_of tabled.now) (new_in new.now) (definition method.now))
+        (spec.givens (invocation call.now)))
         spec.no_roots) (λ given. roots_of given.roots) result }
     ensures gone { IfOk result (λ given. given.gone.items ≡ filter_map gone_name
-        (zip (spec.slots (code_of tabled.now) (new_in new.now) (definition method.now)) (spec.givens (invocation call.now)))) }
+        (zip (spec.slots (code_of tabled.now) (new_in new.now) (definition method.now))
+        (spec.givens (invocation call.now)))) }
 {
     let mut given = Given::new(tabled.alloc);
     if let Some(me) = &method.me {
@@ -71,7 +73,13 @@ fn give_slots(
             given.receive(tabled, scope, &slot, path)?;
         }
     }
-    given.give_all(tabled, scope, new, method.params.as_slice(), call.args.as_slice())?;
+    given.give_all(
+        tabled,
+        scope,
+        new,
+        method.params.as_slice(),
+        call.args.as_slice(),
+    )?;
     Ok(given)
 }
 

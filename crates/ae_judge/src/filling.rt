@@ -64,13 +64,7 @@ impl Filled {
     }
 
     // One more argument, in the context before the statement.
-    fn fill(
-        &mut self,
-        tabled: &Tabled,
-        scope: &Scope,
-        form: &Form,
-        expr: &Expr,
-    ) -> Result<(), Deny>
+    fn fill(&mut self, tabled: &Tabled, scope: &Scope, form: &Form, expr: &Expr) -> Result<(), Deny>
         ensures { Leaves (spec.fills (code_of tabled.now) (context_of scope.now) (form.now, expression expr.now)
             (filled_of (context_of scope.now) self.old)) (filled_of (context_of scope.now) self.new) result }
     {
@@ -137,7 +131,8 @@ pub fn judge_new(
     groups: &[NameAt],
     args: &[Expr],
 ) -> Result<Made, Deny>
-    ensures { Answers (spec.judge_new (code_of tabled.now) (context_of scope.now) name groups.now (map expression args.now))
+    ensures { Answers (spec.judge_new (code_of tabled.now) (context_of scope.now) name groups.now
+        (map expression args.now))
         (made_of (context_of scope.now)) result }
 {
     let class = match class_called(tabled, name.name) {

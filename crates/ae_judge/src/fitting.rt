@@ -115,11 +115,9 @@ pub fn may_leave(held: Held, at: Spot) -> Result<(), Deny>
     match held {
         Held::None => Err(deny(Rule::NoPermission, at)),
         Held::Lent => Err(deny(Rule::LentEscapes, at)),
-        Held::Unique
-        | Held::Split(_)
-        | Held::Immutable
-        | Held::Shared(_)
-        | Held::Inner(_) => Ok(()),
+        Held::Unique | Held::Split(_) | Held::Immutable | Held::Shared(_) | Held::Inner(_) => Ok(
+            (),
+        ),
     }
 }
 
@@ -144,7 +142,8 @@ fn path_fits(
     path: &Path,
     at: Spot,
 ) -> Result<(), Deny>
-    ensures { Answers (spec.path_fits (code_of tabled.now) (context_of scope.now) perm kind.now path.now at) done result }
+    ensures { Answers (spec.path_fits (code_of tabled.now) (context_of scope.now) perm kind.now path.now at) done
+        result }
 {
     let place = walk(tabled, scope, path)?;
     if !is_object_of(kind, &place.form) {
@@ -156,7 +155,8 @@ fn path_fits(
 
 // An expression fits into a form.
 fn fits(tabled: &Tabled, scope: &Scope, form: &Form, expr: &Expr) -> Result<(), Deny>
-    ensures { Answers (spec.fits (code_of tabled.now) (context_of scope.now) form.now (expression expr.now)) done result }
+    ensures { Answers (spec.fits (code_of tabled.now) (context_of scope.now) form.now (expression expr.now)) done
+        result }
 {
     match form {
         Form::Int => is_value(tabled, scope, Scalar::Int, expr),
@@ -203,7 +203,8 @@ pub fn name_into(form: &Form, expr: &Expr) -> Option<Name>
 /// An expression into a form. The answer is the name that moves, which holds nothing after the statement; nothing is
 /// changed here. Refused is what is of another form, what is not held, or lent, or not as the form asks.
 pub fn into(tabled: &Tabled, scope: &Scope, form: &Form, expr: &Expr) -> Result<Option<Name>, Deny>
-    ensures { Answers (spec.into (code_of tabled.now) (context_of scope.now) form.now (expression expr.now)) (λ name. name) result }
+    ensures { Answers (spec.into (code_of tabled.now) (context_of scope.now) form.now (expression expr.now))
+        (λ name. name) result }
 {
     fits(tabled, scope, form, expr)?;
     Ok(name_into(form, expr))

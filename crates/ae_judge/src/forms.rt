@@ -164,7 +164,12 @@ pub fn perm_with(from: &[Name], to: &[Name], perm: &PermAt) -> Perm
 }
 
 /// Names, each replaced by the one at its place in the second list. An empty list takes no memory.
-pub fn names_with(alloc: Global, from: &[Name], to: &[Name], list: &[NameAt]) -> Result<Items<Name>, AllocError>
+pub fn names_with(
+    alloc: Global,
+    from: &[Name],
+    to: &[Name],
+    list: &[NameAt],
+) -> Result<Items<Name>, AllocError>
     ensures { IfOk result (λ xs. xs ≡ map (spec.in_place from.now to.now) (bare_names list.now)) }
 {
     let mut names = Items::new(alloc);

@@ -64,7 +64,8 @@ fn forms_kind(tabled: &Tabled, scope: &Scope, kind: &KindAt) -> Result<(), Deny>
 /// A type of a local: refused where it is lent, where its class is not declared, and where its groups are not known or
 /// not as many as the class has. Takes no memory.
 pub fn forms_type(tabled: &Tabled, scope: &Scope, ty: &Ty) -> Result<(), Deny>
-    ensures { Answers (spec.forms_type (code_of tabled.now) (known (context_of scope.now).group) false ty.now) done result }
+    ensures { Answers (spec.forms_type (code_of tabled.now) (known (context_of scope.now).group) false ty.now)
+        done result }
 {
     match ty {
         Ty::Int(_) | Ty::Bool(_) => Ok(()),

@@ -23,7 +23,10 @@ pub use answer::deny;
 pub use callees::{Callee, judge_callee, method_at};
 pub use calls::{Called, judge_call};
 pub use filling::{Filled, Made, judge_new};
-pub use fitting::{Source, into, into_immutable, into_shared, is_held_alone, made_into, may_leave, name_into, source_in};
+pub use fitting::{
+    Source, into, into_immutable, into_shared, is_held_alone, made_into, may_leave, name_into,
+    source_in,
+};
 pub use forms::{
     form_with, in_place, is_object_of, is_same_kind, is_same_names, is_same_perm, is_same_value,
 };

@@ -76,13 +76,18 @@ pub fn field_called<'a>(tabled: &Tabled, class: ClassAt<'a>, name: Name) -> Opti
 /// The field with this name of an object of this form, where it is of a class that has one. Takes no memory.
 pub fn field_in<'a>(tabled: &'a Tabled, form: &'a Form, name: Name) -> Option<FieldAt<'a>>
     ensures { MatchOption result (spec.field_of (code_of tabled.now) form.now name ≡ None)
-        (λ d. spec.field_of (code_of tabled.now) form.now name ≡ Some (spec.field_form d.class.now d.groups.now d.field.now)) }
+        (λ d. spec.field_of (code_of tabled.now) form.now name
+        ≡ Some (spec.field_form d.class.now d.groups.now d.field.now)) }
 {
     match form {
         Form::Int | Form::Bool => None,
         Form::Object(_, kind) => match class_of(tabled, kind) {
             Some(found) => match field_called(tabled, found, name) {
-                Some(field) => Some(FieldAt { class: found.class, groups: groups_of(kind), field }),
+                Some(field) => Some(FieldAt {
+                    class: found.class,
+                    groups: groups_of(kind),
+                    field,
+                }),
                 None => None,
             },
             None => None,
@@ -91,7 +96,12 @@ pub fn field_in<'a>(tabled: &'a Tabled, form: &'a Form, name: Name) -> Option<Fi
 }
 
 /// The form of a field in an object with these groups in the place of the class's. Takes memory for groups alone.
-pub fn field_form(alloc: Global, class: &Class, groups: &[Name], field: &Field) -> Result<Form, AllocError>
+pub fn field_form(
+    alloc: Global,
+    class: &Class,
+    groups: &[Name],
+    field: &Field,
+) -> Result<Form, AllocError>
     ensures { IfOk result (λ f. f ≡ spec.field_form class.now groups.now field.now) }
 {
     match &field.ty {

@@ -26,7 +26,11 @@ pub struct Wanted {
 }
 
 // The needs of a method, of the groups in a call.
-fn wanted_needs(alloc: Global, new: &GroupsIn, needs: &[GroupNeed]) -> Result<Vec<Wanted>, AllocError>
+fn wanted_needs(
+    alloc: Global,
+    new: &GroupsIn,
+    needs: &[GroupNeed],
+) -> Result<Vec<Wanted>, AllocError>
     ensures { IfOk result (λ v. map wanted_of v.items ≡ map (spec.wanted_need (new_in new.now)) needs.now) }
 {
     let mut wanted = Vec::new(alloc);
@@ -153,7 +157,8 @@ pub fn needs_met(
     new: &GroupsIn,
     needs: &[GroupNeed],
 ) -> Result<(), Deny>
-    ensures { Answers (spec.needs_met (context_of scope.now).group at (map (spec.wanted_need (new_in new.now)) needs.now))
+    ensures { Answers (spec.needs_met (context_of scope.now).group at
+        (map (spec.wanted_need (new_in new.now)) needs.now))
         done result }
 {
     let wanted = wanted_needs(alloc, new, needs)?;

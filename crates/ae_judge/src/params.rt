@@ -34,12 +34,16 @@ fn joined(alloc: Global, first: &[Name], second: &[NameAt]) -> Result<Items<Name
     Ok(names)
 }
 
-/// What stands for the groups of the method that is called, and of its class, where these groups are given. Takes memory
-/// for groups alone.
+/// What stands for the groups of the method that is called, and of its class, where these groups are given. Takes
+/// memory for groups alone.
 pub fn groups_in(alloc: Global, callee: &Callee, groups: &[NameAt]) -> Result<GroupsIn, AllocError>
     ensures { IfOk result (λ new. new_in new ≡ spec.group_in (callee_of callee.now) groups.now) }
 {
-    let names = joined(alloc, callee.names.as_slice(), callee.method.groups.as_slice())?;
+    let names = joined(
+        alloc,
+        callee.names.as_slice(),
+        callee.method.groups.as_slice(),
+    )?;
     let groups = joined(alloc, callee.groups.as_slice(), groups)?;
     Ok(GroupsIn { names, groups })
 }
@@ -55,7 +59,12 @@ pub struct ParamSlot {
 pub fn param_slot(alloc: Global, new: &GroupsIn, param: &Param) -> Result<ParamSlot, AllocError>
     ensures { IfOk result (λ slot. slot_of slot ≡ spec.param_slot (new_in new.now) param.now) }
 {
-    let form = form_with(alloc, new.names.as_slice(), new.groups.as_slice(), &param.ty)?;
+    let form = form_with(
+        alloc,
+        new.names.as_slice(),
+        new.groups.as_slice(),
+        &param.ty,
+    )?;
     Ok(ParamSlot {
         form,
         away: param.away.is_some(),
@@ -70,7 +79,12 @@ fn own_kind(tabled: &Tabled, new: &GroupsIn, class: Option<u32>) -> Result<Kind,
         Some(number) => match tabled.program.classes.get(number as usize) {
             Some(class) => {
                 let names = new.names.as_slice();
-                let own = names_with(tabled.alloc, names, new.groups.as_slice(), class.groups.as_slice())?;
+                let own = names_with(
+                    tabled.alloc,
+                    names,
+                    new.groups.as_slice(),
+                    class.groups.as_slice(),
+                )?;
                 Ok(Kind::Class(class.name.name, own))
             }
             None => Ok(Kind::Ints),
@@ -88,7 +102,12 @@ pub struct MeSlot {
 }
 
 /// The slot of the receiver, which is of its class's kind. Takes memory for groups alone.
-pub fn me_slot(tabled: &Tabled, new: &GroupsIn, method: &Method, me: &Me) -> Result<MeSlot, AllocError>
+pub fn me_slot(
+    tabled: &Tabled,
+    new: &GroupsIn,
+    method: &Method,
+    me: &Me,
+) -> Result<MeSlot, AllocError>
     ensures { IfOk result (λ slot. object_slot_of slot
         ≡ spec.me_slot (code_of tabled.now) (new_in new.now) (definition method.now) me.now) }
 {

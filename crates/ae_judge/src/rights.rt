@@ -38,7 +38,8 @@ fn one_or_none(alloc: Global, name: Option<Name>) -> Result<Vec<Name>, AllocErro
 
 // An expression into a form.
 fn value_into(tabled: &Tabled, scope: &Scope, form: &Form, expr: &Expr) -> Result<Vec<Name>, Deny>
-    ensures { Answers (spec.judge_right (code_of tabled.now) (context_of scope.now) form.now (Value (expression expr.now)))
+    ensures { Answers (spec.judge_right (code_of tabled.now) (context_of scope.now) form.now
+        (Value (expression expr.now)))
         (λ v. all_moved v.items (context_of scope.now)) result }
 {
     let name = into(tabled, scope, form, expr)?;
@@ -47,7 +48,13 @@ fn value_into(tabled: &Tabled, scope: &Scope, form: &Form, expr: &Expr) -> Resul
 }
 
 // A field that is taken, into a form. No name moves.
-fn taken_into(tabled: &Tabled, scope: &Scope, form: &Form, path: &Path, at: Spot) -> Result<(), Deny>
+fn taken_into(
+    tabled: &Tabled,
+    scope: &Scope,
+    form: &Form,
+    path: &Path,
+    at: Spot,
+) -> Result<(), Deny>
     ensures { Answers (spec.judge_right (code_of tabled.now) (context_of scope.now) form.now (Taken path.now at))
         (λ _. context_of scope.now) result }
 {
@@ -57,7 +64,8 @@ fn taken_into(tabled: &Tabled, scope: &Scope, form: &Form, path: &Path, at: Spot
 
 // New integers, into a form. No name moves.
 fn ints_into(tabled: &Tabled, scope: &Scope, form: &Form, expr: &Expr, at: Spot) -> Result<(), Deny>
-    ensures { Answers (spec.judge_right (code_of tabled.now) (context_of scope.now) form.now (Zeros (expression expr.now) at))
+    ensures { Answers (spec.judge_right (code_of tabled.now) (context_of scope.now) form.now
+        (Zeros (expression expr.now) at))
         (λ _. context_of scope.now) result }
 {
     is_value(tabled, scope, Scalar::Int, expr)?;
@@ -75,7 +83,8 @@ fn new_into(
     at: Spot,
 ) -> Result<Vec<Name>, Deny>
     ensures { Answers (spec.judge_right (code_of tabled.now) (context_of scope.now) form.now
-        (MadeThere class groups.now (map expression args.now) at)) (λ v. all_moved v.items (context_of scope.now)) result }
+        (MadeThere class groups.now (map expression args.now) at))
+        (λ v. all_moved v.items (context_of scope.now)) result }
 {
     let made = judge_new(tabled, scope, class, groups, args)?;
     made_into(&made.value, form, at)?;
@@ -105,7 +114,12 @@ fn call_into(tabled: &Tabled, scope: &Scope, form: &Form, call: &Call) -> Result
 /// A right side into a form. The answer is the names that move, which hold nothing after the statement; nothing is
 /// changed here. Refused as what stands right is, and then where it does not go into the form.
 #[tactic(auto, using(crate::proofs::MovedLemmas::moved))]
-pub fn judge_right(tabled: &Tabled, scope: &Scope, form: &Form, rhs: &Rhs) -> Result<Vec<Name>, Deny>
+pub fn judge_right(
+    tabled: &Tabled,
+    scope: &Scope,
+    form: &Form,
+    rhs: &Rhs,
+) -> Result<Vec<Name>, Deny>
     ensures { Answers (spec.judge_right (code_of tabled.now) (context_of scope.now) form.now (right_side rhs.now))
         (λ v. all_moved v.items (context_of scope.now)) result }
 {
@@ -120,7 +134,15 @@ pub fn judge_right(tabled: &Tabled, scope: &Scope, form: &Form, rhs: &Rhs) -> Re
             Ok(Vec::new(tabled.alloc))
         }
         Rhs::New(class, groups, args, at) => {
-            new_into(tabled, scope, form, *class, groups.as_slice(), args.as_slice(), *at)
+            new_into(
+                tabled,
+                scope,
+                form,
+                *class,
+                groups.as_slice(),
+                args.as_slice(),
+                *at,
+            )
         }
         Rhs::Call(call) => call_into(tabled, scope, form, call),
     }

@@ -46,9 +46,15 @@ fn is_moved(name: Option<Name>, other: Name) -> bool
 /// A write to a field. The answer is the name that moves, which holds nothing after the statement; nothing is changed
 /// here. Refused where the object that has the field may not be changed, where the expression does not go into the
 /// field, and where it moves the path's own root.
-pub fn judge_store(tabled: &Tabled, scope: &Scope, path: &Path, expr: &Expr) -> Result<Option<Name>, Deny>
+pub fn judge_store(
+    tabled: &Tabled,
+    scope: &Scope,
+    path: &Path,
+    expr: &Expr,
+) -> Result<Option<Name>, Deny>
     ensures { Answers (spec.judge_store (code_of tabled.now) (context_of scope.now) path.now (expression expr.now)
-        (expressions.expression_spot (expression expr.now))) (λ name. with_name_moved name (context_of scope.now)) result }
+        (expressions.expression_spot (expression expr.now))) (λ name. with_name_moved name (context_of scope.now))
+        result }
 {
     let place = walk(tabled, scope, path)?;
     owner_write_access(tabled, scope, path)?;

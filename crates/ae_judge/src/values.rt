@@ -67,15 +67,8 @@ fn operands_for(op: Op) -> Operands
     match op {
         Op::Or | Op::And => Operands::Truths,
         Op::Eq | Op::Ne => Operands::Equals,
-        Op::Lt
-        | Op::Le
-        | Op::Gt
-        | Op::Ge
-        | Op::Add
-        | Op::Sub
-        | Op::Mul
-        | Op::Div
-        | Op::Rem => Operands::Numbers,
+        Op::Lt | Op::Le | Op::Gt | Op::Ge | Op::Add | Op::Sub | Op::Mul | Op::Div | Op::Rem =>
+            Operands::Numbers,
     }
 }
 
@@ -133,7 +126,8 @@ fn read(tabled: &Tabled, scope: &Scope, path: &Path) -> Result<Scalar, Deny>
 
 // The length of integers.
 fn judge_len(tabled: &Tabled, scope: &Scope, path: &Path, at: Spot) -> Result<Scalar, Deny>
-    ensures { Answers (spec.judge_value (code_of tabled.now) (context_of scope.now) (Length path.now at)) form_of result }
+    ensures { Answers (spec.judge_value (code_of tabled.now) (context_of scope.now) (Length path.now at)) form_of
+        result }
 {
     let place = walk(tabled, scope, path)?;
     if !is_ints(&place.form) {
@@ -147,7 +141,8 @@ fn judge_len(tabled: &Tabled, scope: &Scope, path: &Path, at: Spot) -> Result<Sc
 #[tactic(auto, using(ae_tree::specs::Shown::shows))]
 fn beside_null<'a>(a: &'a Expr, b: &'a Expr) -> Option<(&'a Path, Spot)>
     ensures { MatchOption result (spec.beside_null (expression a.now) (expression b.now) ≡ None)
-        (λ pair. spec.beside_null (expression a.now) (expression b.now) ≡ Some (record { path = pair.0.now; null_at = pair.1 })) }
+        (λ pair. spec.beside_null (expression a.now) (expression b.now)
+        ≡ Some (record { path = pair.0.now; null_at = pair.1 })) }
 {
     match a {
         Expr::Null(at) => match b {
@@ -187,7 +182,8 @@ fn beside_null<'a>(a: &'a Expr, b: &'a Expr) -> Option<(&'a Path, Spot)>
 
 // A path beside `null` leads to an object, and something is held of its root.
 fn null_and_path(tabled: &Tabled, scope: &Scope, path: &Path, null_at: Spot) -> Result<(), Deny>
-    ensures { Answers (spec.null_and_path (code_of tabled.now) (context_of scope.now) (record { path = path.now; null_at = null_at })) done result }
+    ensures { Answers (spec.null_and_path (code_of tabled.now) (context_of scope.now)
+        (record { path = path.now; null_at = null_at })) done result }
 {
     let place = walk(tabled, scope, path)?;
     match &place.form {
@@ -205,7 +201,8 @@ fn null_and_path(tabled: &Tabled, scope: &Scope, path: &Path, null_at: Spot) -> 
 // An item of integers.
 #[cycle(values)]
 fn judge_item(tabled: &Tabled, scope: &Scope, path: &Path, index: &Expr) -> Result<Scalar, Deny>
-    ensures { Answers (spec.judge_value (code_of tabled.now) (context_of scope.now) (Item path.now (expression index.now)))
+    ensures { Answers (spec.judge_value (code_of tabled.now) (context_of scope.now)
+        (Item path.now (expression index.now)))
         form_of result }
 {
     let place = walk(tabled, scope, path)?;
@@ -222,7 +219,8 @@ fn judge_item(tabled: &Tabled, scope: &Scope, path: &Path, index: &Expr) -> Resu
 #[cycle(values)]
 #[tactic(auto, using(ae_tree::specs::Shown::shows))]
 pub fn judge_value(tabled: &Tabled, scope: &Scope, expr: &Expr) -> Result<Scalar, Deny>
-    ensures { Answers (spec.judge_value (code_of tabled.now) (context_of scope.now) (expression expr.now)) form_of result }
+    ensures { Answers (spec.judge_value (code_of tabled.now) (context_of scope.now) (expression expr.now)) form_of
+        result }
 {
     match expr {
         Expr::Int(..) => Ok(Scalar::Int),
@@ -267,7 +265,8 @@ pub fn judge_value(tabled: &Tabled, scope: &Scope, expr: &Expr) -> Result<Scalar
 #[cycle(values)]
 #[tactic(auto, using(ae_tree::specs::Shown::shows))]
 pub fn is_value(tabled: &Tabled, scope: &Scope, wanted: Scalar, expr: &Expr) -> Result<(), Deny>
-    ensures { Answers (spec.is_value (code_of tabled.now) (context_of scope.now) (form_of wanted) (expression expr.now)) done result }
+    ensures { Answers (spec.is_value (code_of tabled.now) (context_of scope.now) (form_of wanted) (expression expr.now))
+        done result }
 {
     let found = judge_value(tabled, scope, expr)?;
     if is_same_scalar(wanted, found) {

@@ -104,12 +104,16 @@ fn step(tabled: &Tabled, scope: &Scope, at: Spot, x: NameAt, from: &Place) -> Re
 
 // The place that a visible local stands for.
 fn root_place(tabled: &Tabled, scope: &Scope, root: NameAt) -> Result<Place, Deny>
-    ensures { Answers (spec.walk (code_of tabled.now) (context_of scope.now) (record { root = root; steps = [] })) place_of result }
+    ensures { Answers (spec.walk (code_of tabled.now) (context_of scope.now) (record { root = root; steps = [] }))
+        place_of result }
 {
     match scope.find(root.name) {
         Some(local) => {
             let form = copy_form(tabled.alloc, &local.form)?;
-            Ok(Place { form, held: local.held })
+            Ok(Place {
+                form,
+                held: local.held,
+            })
         }
         None => Err(deny(Rule::UnknownName, root.at)),
     }
@@ -117,7 +121,8 @@ fn root_place(tabled: &Tabled, scope: &Scope, root: NameAt) -> Result<Place, Den
 
 // A walk along these steps from a visible local.
 fn walk_along(tabled: &Tabled, scope: &Scope, root: NameAt, steps: &[NameAt]) -> Result<Place, Deny>
-    ensures { Answers (spec.walk (code_of tabled.now) (context_of scope.now) (record { root = root; steps = steps.now })) place_of result }
+    ensures { Answers (spec.walk (code_of tabled.now) (context_of scope.now)
+        (record { root = root; steps = steps.now })) place_of result }
 {
     let mut place = root_place(tabled, scope, root)?;
     for x in steps {
@@ -163,7 +168,12 @@ fn without_last(steps: &[NameAt]) -> &[NameAt]
 pub fn owner_write_access(tabled: &Tabled, scope: &Scope, path: &Path) -> Result<(), Deny>
     ensures { Answers (spec.owner_write_access (code_of tabled.now) (context_of scope.now) path.now) done result }
 {
-    let from = walk_along(tabled, scope, path.root, without_last(path.steps.as_slice()))?;
+    let from = walk_along(
+        tabled,
+        scope,
+        path.root,
+        without_last(path.steps.as_slice()),
+    )?;
     write_access(scope, path.root.at, from.held)
 }
 

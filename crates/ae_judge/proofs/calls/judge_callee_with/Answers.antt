@@ -21,9 +21,9 @@ returns-in-Err c =
     argument_is_refused p x i k (new_in c.in_ok-new.new) (λ (given : Given). roots_of given.roots) (called_of x)
     c.in-Err.fail
     (counted_from x i k (new_in c.in_ok-new.new) tt c.len.result c.len-2.result c.len-3.result c.as_slice.result.now
-        c.as_slice-2.result.now c.len.ensures c.as_slice.ensures c.in_ok-groups_fit.ensures
-        (c.len-2.ensures ∙ sym (length-map c.args.call.now.args expression)) c.len-3.ensures c.if-len.false
-        c.as_slice-2.ensures c.in_ok-new.ensures)
+    c.as_slice-2.result.now c.len.ensures c.as_slice.ensures c.in_ok-groups_fit.ensures
+    (c.len-2.ensures ∙ sym (length-map c.args.call.now.args expression)) c.len-3.ensures c.if-len.false
+    c.as_slice-2.ensures c.in_ok-new.ensures)
     c.in-Err.ensures.answer
 
 pub returns-in-Err-needs_met : goal.returns-in-Err-needs_met
@@ -35,9 +35,9 @@ returns-in-Err-needs_met c =
     need_is_refused p x i k (new_in c.in_ok-new.new) (roots_of c.in-Ok.given.roots) done (called_of x)
     c.in-Err-needs_met.fail
     (counted_from x i k (new_in c.in_ok-new.new) tt c.len.result c.len-2.result c.len-3.result c.as_slice.result.now
-        c.as_slice-2.result.now c.len.ensures c.as_slice.ensures c.in_ok-groups_fit.ensures
-        (c.len-2.ensures ∙ sym (length-map c.args.call.now.args expression)) c.len-3.ensures c.if-len.false
-        c.as_slice-2.ensures c.in_ok-new.ensures)
+    c.as_slice-2.result.now c.len.ensures c.as_slice.ensures c.in_ok-groups_fit.ensures
+    (c.len-2.ensures ∙ sym (length-map c.args.call.now.args expression)) c.len-3.ensures c.if-len.false
+    c.as_slice-2.ensures c.in_ok-new.ensures)
     c.in-Ok.ensures.answer c.as_slice-3.result.now c.as_slice-3.ensures c.in-Err-needs_met.ensures
 
 pub returns : goal.returns
@@ -49,8 +49,8 @@ returns c =
     call_holds p x i k (new_in c.in_ok-new.new) (roots_of c.in-Ok.given.roots) tt c.in-Ok.given.gone.items
     c.in_ok-result.result
     (counted_from x i k (new_in c.in_ok-new.new) tt c.len.result c.len-2.result c.len-3.result c.as_slice.result.now
-        c.as_slice-2.result.now c.len.ensures c.as_slice.ensures c.in_ok-groups_fit.ensures
-        (c.len-2.ensures ∙ sym (length-map c.args.call.now.args expression)) c.len-3.ensures c.if-len.false
-        c.as_slice-2.ensures c.in_ok-new.ensures)
+    c.as_slice-2.result.now c.len.ensures c.as_slice.ensures c.in_ok-groups_fit.ensures
+    (c.len-2.ensures ∙ sym (length-map c.args.call.now.args expression)) c.len-3.ensures c.if-len.false
+    c.as_slice-2.ensures c.in_ok-new.ensures)
     c.in-Ok.ensures.answer c.in-Ok.ensures.gone c.as_slice-3.result.now c.as_slice-3.ensures c.in-Ok-needs_met.ensures
     c.in_ok-result.ensures
