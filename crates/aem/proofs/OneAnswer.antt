@@ -30,8 +30,8 @@ use Rattle.aem.specs.declared.answer.Command.{Command}
 use Rattle.aem.specs.declared.answer.UsageKind.{UsageKind}
 use Rattle.aem.specs.Words.{command_of}
 use Rattle.aem.specs.Small.{IsSource}
-use Rattle.aem.specs.Top.{IsWholeText, IsFaultAt, IsTokenAt, IsOfMode, IsBroken, NoTokens, NoProgram, NoForm}
-use Rattle.aem.specs.Top.{NotAccepted, IsFirstBroken, Long, Whole, IsMeant}
+use Rattle.aem.specs.Top.{IsWholeText, IsFaultAt, IsTokenAt, IsOfMode, IsRejected, IsBroken, NoTokens, NoProgram}
+use Rattle.aem.specs.Top.{Rejected, IsFirstBroken, Long, Whole, IsMeant}
 use Rattle.aem.specs.Top.{IsDoneFor, IsDoneForSource, IsDone}
 use Rattle.aem.specs.Top.{ByCommand, Caused, HasItsCause, IsTold, IsOneAnswer, IsOnlyAnswer}
 
@@ -45,28 +45,6 @@ pub record Laws : Type 0 where
   pub program : IsOneProgram
   pub never_both : NeverAcceptedAndBroken
   pub first : FirstIsOne
-
--- why a program is refused: it has a form that the mode does not have, or it breaks this rule first
-abbrev IsProgramBroken : Command → Rule → Spot → Code → Type 0
-IsProgramBroken command rule at p = ((rule ≡ NotBuilt) × (at ≡ first_spot) × (IsOfMode command p → ⊥))
-    ⊎ (IsOfMode command p × FirstBroken p rule at)
-
--- the text is a source of a program that is refused
-abbrev IsRefusedProgram : Command → Rule → Spot → List ℕ → Type 0
-IsRefusedProgram command rule at text = (p : Code) × IsSource text p × IsProgramBroken command rule at p
-
--- the cause of a refusal, by the layer that finds it
-data Cause (command : Command) (rule : Rule) (at : Spot) (text : List ℕ) : Type 0 where
-  Fault : IsFaultAt rule at text → Cause command rule at text
-  Refused : IsTokenAt rule at text → Cause command rule at text
-  Program : IsRefusedProgram command rule at text → Cause command rule at text
-
-cause : (command : Command) (rule : Rule) (at : Spot) (text : List ℕ) → IsBroken command rule at text
-    → Cause command rule at text
-cause command rule at text (NoTokens f) = Fault f
-cause command rule at text (NoProgram t) = Refused t
-cause command rule at text (NoForm r e n) = Program (n.0, n.1, inl (r, e, n.2))
-cause command rule at text (NotAccepted b) = Program (b.0, b.1, inr (b.2, b.3))
 
 -- a text is a source of one program
 pub one_source : Laws → (text : List ℕ) (p q : Code) → IsSource text p → IsSource text q → q ≡ p
@@ -98,54 +76,54 @@ two_tokens laws text r s at spot a b =
     laws.refusal b.0 r s at spot (subst (λ (l : List Token). IsRefused l r at) (laws.tokens text a.0 b.0 a.1 b.1) a.2)
     b.2
 
-same_program : Laws → (command : Command) (p : Code) (r s : Rule) (at spot : Spot) → IsProgramBroken command r at p
-    → IsProgramBroken command s spot p → Same r at s spot
+same_program : Laws → (command : Command) (p : Code) (r s : Rule) (at spot : Spot) → IsRejected command r at p
+    → IsRejected command s spot p → Same r at s spot
 same_program laws command p r s at spot (inl a) (inl b) = (a.0 ∙ sym b.0, a.1 ∙ sym b.1)
 same_program laws command p r s at spot (inl a) (inr b) = absurd (a.2 b.0)
 same_program laws command p r s at spot (inr a) (inl b) = absurd (b.2 a.0)
 same_program laws command p r s at spot (inr a) (inr b) = laws.first p r s at spot a.1 b.1
 
-two_programs : Laws → (command : Command) (text : List ℕ) (r s : Rule) (at spot : Spot)
-    → IsRefusedProgram command r at text → IsRefusedProgram command s spot text → Same r at s spot
-two_programs laws command text r s at spot a b
-    = same_program laws command a.0 r s at spot a.2
-    (subst (IsProgramBroken command s spot) (one_source laws text a.0 b.0 a.1 b.1) b.2)
+two_programs : Laws → (command : Command) (text : List ℕ) (r s : Rule) (at spot : Spot) (p q : Code) → IsSource text p
+    → IsSource text q → IsRejected command r at p → IsRejected command s spot q → Same r at s spot
+two_programs laws command text r s at spot p q a b x y
+    = same_program laws command p r s at spot x (subst (IsRejected command s spot) (one_source laws text p q a b) y)
 
-two_causes : Laws → (command : Command) (text : List ℕ) (r s : Rule) (at spot : Spot) → Cause command r at text
-    → Cause command s spot text → Same r at s spot
-two_causes laws command text r s at spot (Fault a) (Fault b) = two_faults laws text r s at spot a b
-two_causes laws command text r s at spot (Fault a) (Refused b) = absurd (laws.no_tokens text r a.0 b.0 a.1 b.1)
-two_causes laws command text r s at spot (Fault a) (Program b) = absurd (fault_alone laws text r at b.0 a b.1)
-two_causes laws command text r s at spot (Refused a) (Fault b) = absurd (laws.no_tokens text s b.0 a.0 b.1 a.1)
-two_causes laws command text r s at spot (Refused a) (Refused b) = two_tokens laws text r s at spot a b
-two_causes laws command text r s at spot (Refused a) (Program b) = absurd (token_alone laws text r at b.0 a b.1)
-two_causes laws command text r s at spot (Program a) (Fault b) = absurd (fault_alone laws text s spot a.0 b a.1)
-two_causes laws command text r s at spot (Program a) (Refused b) = absurd (token_alone laws text s spot a.0 b a.1)
-two_causes laws command text r s at spot (Program a) (Program b) = two_programs laws command text r s at spot a b
+two_causes : Laws → (command : Command) (text : List ℕ) (r s : Rule) (at spot : Spot) → IsBroken command r at text
+    → IsBroken command s spot text → Same r at s spot
+two_causes laws command text r s at spot (NoTokens a) (NoTokens b) = two_faults laws text r s at spot a b
+two_causes laws command text r s at spot (NoTokens a) (NoProgram b) = absurd (laws.no_tokens text r a.0 b.0 a.1 b.1)
+two_causes laws command text r s at spot (NoTokens a) (Rejected q z y) = absurd (fault_alone laws text r at q a z)
+two_causes laws command text r s at spot (NoProgram a) (NoTokens b) = absurd (laws.no_tokens text s b.0 a.0 b.1 a.1)
+two_causes laws command text r s at spot (NoProgram a) (NoProgram b) = two_tokens laws text r s at spot a b
+two_causes laws command text r s at spot (NoProgram a) (Rejected q z y) = absurd (token_alone laws text r at q a z)
+two_causes laws command text r s at spot (Rejected p z x) (NoTokens b) = absurd (fault_alone laws text s spot p b z)
+two_causes laws command text r s at spot (Rejected p z x) (NoProgram b) = absurd (token_alone laws text s spot p b z)
+two_causes laws command text r s at spot (Rejected p a x) (Rejected q b y) =
+    two_programs laws command text r s at spot p q a b x y
 
 -- a program of the mode's forms that the rules accept breaks none
 program_unbroken : Laws → (command : Command) (p : Code) (r : Rule) (at : Spot) → IsOfMode command p → Accepts p
-    → IsProgramBroken command r at p → ⊥
+    → IsRejected command r at p → ⊥
 program_unbroken laws command p r at built a (inl b) = b.2 built
 program_unbroken laws command p r at built a (inr b) = laws.never_both p r at a b.1
 
 -- the text of an accepted program has no cause of a refusal
 uncaused : Laws → (command : Command) (text : List ℕ) (p : Code) (r : Rule) (at : Spot) → IsSource text p
-    → IsOfMode command p → Accepts p → Cause command r at text → ⊥
-uncaused laws command text p r at s built a (Fault f) = fault_alone laws text r at p f s
-uncaused laws command text p r at s built a (Refused t) = token_alone laws text r at p t s
-uncaused laws command text p r at s built a (Program b) = program_unbroken laws command p r at built a
-    (subst (IsProgramBroken command r at) (one_source laws text p b.0 s b.1) b.2)
+    → IsOfMode command p → Accepts p → IsBroken command r at text → ⊥
+uncaused laws command text p r at s built a (NoTokens f) = fault_alone laws text r at p f s
+uncaused laws command text p r at s built a (NoProgram t) = token_alone laws text r at p t s
+uncaused laws command text p r at s built a (Rejected q z b) = program_unbroken laws command p r at built a
+    (subst (IsRejected command r at) (one_source laws text p q s z) b)
 
 -- a rule that a text breaks first: the text is too long, or was read to its end and is broken
 abbrev IsLongOrBroken : Command → Rule → Spot → List ℕ → Type 0
 IsLongOrBroken command rule at text = ((rule ≡ TooLong) × (at ≡ first_spot) × (length text ≡ most + 1))
-    ⊎ ((length text ≤ most) × Cause command rule at text)
+    ⊎ ((length text ≤ most) × IsBroken command rule at text)
 
 long_or_broken : (command : Command) (rule : Rule) (at : Spot) (taken : List ℕ) (left : Option (List ℕ))
     → IsFirstBroken command rule at taken left → IsLongOrBroken command rule at taken
 long_or_broken command rule at taken left (Long r e l) = inl (r, e, l)
-long_or_broken command rule at taken left (Whole t b) = inr (t.0, cause command rule at taken b)
+long_or_broken command rule at taken left (Whole t b) = inr (t.0, b)
 
 not_long : (text : List ℕ) → length text ≡ most + 1 → length text ≤ most → ⊥
 not_long text long short = omega (arith, long, short)

@@ -1,5 +1,5 @@
 -- From today's definitions to those of the whole language.
-use Rattle.std.proofs.Common.{◌≡◌, ℕ, List, [], ◌++◌, None, Some, sym, ap, ◌∙◌, subst, append-nil}
+use Rattle.std.proofs.Common.{◌≡◌, inr, Result, Err, ℕ, List, [], ◌++◌, None, Some, sym, ap, ◌∙◌, subst, append-nil}
 use Rattle.std.specs.Prelude.{option_map}
 use Rattle.ae_tree.specs.Plain.{Code, Lines}
 use Rattle.ae_tree.specs.Built.{Built}
@@ -14,13 +14,15 @@ use Rattle.ae_semantics.specs.Means.{pieces_bytes}
 use Rattle.ae_cases.specs.Laws.{as_whole, IsAsToday}
 use Rattle.ae_cases.specs.Laws as cases
 use Rattle.aem.specs.declared.answer.Command.{Command}
-use Rattle.aem.specs.declared.answer.Command.TheVariants.{Check, Graph, Run}
+use Rattle.aem.specs.declared.answer.Command.TheVariants.{Run}
 use Rattle.aem.specs.declared.answer.What.{What}
 use Rattle.aem.specs.declared.answer.What.TheVariants as w
 use Rattle.ae_text.specs.declared.refusal.Refusal.{Refusal}
+use Rattle.ae_text.specs.declared.refusal.Deny.{Deny}
+use Rattle.ae_text.specs.declared.refusal.Deny.TheVariants as d
 use Rattle.aem.specs.Names.{FoundIn}
 use Rattle.aem.specs.Small.{IsSource}
-use Rattle.aem.specs.Top.{HasBody, IsOfMode, IsBroken, NotAccepted, IsMeant, IsDoneFor, IsAnswer}
+use Rattle.aem.specs.Top.{HasBody, denial, IsRejected, Rejected, IsMeant, IsFound, IsDecided, IsAnswer}
 
 -- a source of forms that run today declares its one method alone
 pub declares : BuiltDeclaresOne → (text : List ℕ) (p : Code) → IsSource text p → Built p → DeclaresOne p
@@ -41,29 +43,14 @@ pub accepts : BuiltDeclaresOne → TodaysJudgementIsACase → (text : List ℕ) 
 accepts one alike text p s built b h held = (alike p built (declares one text p s built)).0
     (built, subst IsHeld (sym (one_judged p b h)) (held_still (judge b nobody) held))
 
--- each mode has the forms that run today, and no others
-pub of_mode : (command : Command) (p : Code) → Built p → IsOfMode command p
-of_mode Check p b = b
-of_mode Graph p b = b
-of_mode Run p b = b
-
-pub built_of_mode : (command : Command) (p : Code) → IsOfMode command p → Built p
-built_of_mode Check p b = b
-built_of_mode Graph p b = b
-built_of_mode Run p b = b
-
 -- what today's judgement finds broken, the whole rules find broken first
-pub broken : BuiltDeclaresOne → TodaysJudgementIsACase → (command : Command) (text : List ℕ) (p : Code)
-    → IsSource text p → Built p → (b : Lines) → HasBody p b → (r : Refusal)
-    → FoundIn (judge b nobody) (Some r) → IsBroken command r.rule r.at text
-broken one alike command text p s built b h r e
-    = NotAccepted (
-      p,
-      s,
-      of_mode command p built,
-      (alike p built (declares one text p s built)).2 r.rule r.at
-          (one_judged p b h ∙ ap (λ v. then_judge v (λ _. Holds nobody)) e),
-    )
+pub broken : BuiltDeclaresOne → TodaysJudgementIsACase → (text : List ℕ) (p : Code) → IsSource text p → Built p
+    → (b : Lines) → HasBody p b → (r : Refusal) → FoundIn (judge b nobody) (Some r) → IsRejected Run r.rule r.at p
+broken one alike text p s built b h r e = inr (
+  built,
+  (alike p built (declares one text p s built)).2 r.rule r.at
+      (one_judged p b h ∙ ap (λ v. then_judge v (λ _. Holds nobody)) e),
+)
 
 -- what is accepted by the whole rules is accepted by today's
 pub accepted : TodaysJudgementIsACase → (p : Code) → Built p → DeclaresOne p → Accepts p → Accepted p
@@ -87,13 +74,18 @@ pub meant : TodaysJudgementIsACase → cases.TodayIsACase → (p : Code) → Bui
 meant alike same p built d a report e o = as_meant report (today.today_seq p [] 100000) (whole.seq p [] 100000)
     (same p (accepted alike p built d a) d [] 100000) e o
 
--- what an accepted program of this text comes to is the text's answer
-pub answered : (command : Command) (text : List ℕ) (p : Code) → IsSource text p → Built p → Accepts p → (what : What)
-    → IsDoneFor command p what → IsAnswer command text what
-answered command text p s b a (w.Usage kind) d = d
-answered command text p s b a w.ReadFault d = d
-answered command text p s b a (w.Refused r) d = absurd d
-answered command text p s b a w.Checked d = (p, s, of_mode command p b, a, d)
-answered command text p s b a (w.Graph graph) d = (p, s, of_mode command p b, a, d)
-answered command text p s b a (w.Ran report) d = (p, s, of_mode command p b, a, d)
-answered command text p s b a w.Memory d = tt
+-- what is answered for a text's program is the text's answer
+pub decided : (command : Command) (text : List ℕ) (p : Code) → IsSource text p → (what : What)
+    → IsDecided command p what → IsAnswer command text what
+decided command text p s (w.Usage kind) d = d
+decided command text p s w.ReadFault d = d
+decided command text p s (w.Refused r) d = Rejected p s d
+decided command text p s w.Checked (o, a, d) = (p, s, o, a, d)
+decided command text p s (w.Graph graph) (o, a, d) = (p, s, o, a, d)
+decided command text p s (w.Ran report) (o, a, d) = (p, s, o, a, d)
+decided command text p s w.Memory d = tt
+
+-- a program that is refused is answered so
+pub refused : (command : Command) (p : Code) (e : Deny) → IsFound command p (Err e) → IsDecided command p (denial e)
+refused command p (d.Refused r) f = f
+refused command p d.Memory f = tt

@@ -1,5 +1,5 @@
 -- What the top call answers, and why.
-use Rattle.std.specs.Prelude.{◌≡◌, ℕ, ◌+◌, ◌≤◌, List, [], ◌∷◌, length, take, Option, None, Some, IsSome, Result, Ok}
+use Rattle.std.specs.Prelude.{◌≡◌, ◌⊎◌, ℕ, ◌+◌, ◌≤◌, List, [], ◌∷◌, length, take, Option, None, Some, IsSome, Result, Ok}
 use Rattle.std.specs.Prelude.{Err}
 use Rattle.std.specs.Io.KnownBytes.{Consumes, IsAtEnd, Appends}
 use Rattle.ae_text.specs.declared.refusal.Spot.{Spot}
@@ -11,6 +11,7 @@ use Rattle.ae_text.specs.declared.refusal.Deny.TheVariants as d
 use Rattle.ae_tree.specs.Plain.{Code, Definition, Lines}
 use Rattle.ae_tree.specs.Refused.{IsRefused}
 use Rattle.ae_tree.specs.Built.{Built}
+use Rattle.ae_check.specs.Groupless.{UsesNoGroups}
 use Rattle.ae_rules.specs.Judges.{Accepts, FirstBroken}
 use Rattle.ae_meaning.specs.declared.report.RunReport.{RunReport}
 use Rattle.ae_semantics.specs.Means.{seq, bytes}
@@ -40,29 +41,20 @@ IsTokenAt rule at text = (tokens : List Token) × Lexes text tokens × IsRefused
 
 -- the program has only forms that this mode has today
 abbrev pub IsOfMode : Command → Code → Type 0
-IsOfMode Check program = Built program
+IsOfMode Check program = UsesNoGroups program
 IsOfMode Graph program = Built program
 IsOfMode Run program = Built program
 
--- the text is a source of a program with a form that the mode does not have yet
-abbrev pub IsNotOfMode : Command → List ℕ → Type 0
-IsNotOfMode command text = (program : Code) × IsSource text program × (IsOfMode command program → ⊥)
+-- the program has a form that the mode does not have yet, or it is not accepted, and this is the rule that it breaks first
+abbrev pub IsRejected : Command → Rule → Spot → Code → Type 0
+IsRejected command rule at program = ((rule ≡ NotBuilt) × (at ≡ first_spot) × (IsOfMode command program → ⊥))
+    ⊎ (IsOfMode command program × FirstBroken program rule at)
 
--- the text is a source of forms that the mode has, and this is the rule that it breaks first
-abbrev pub IsProgramAt : Command → Rule → Spot → List ℕ → Type 0
-IsProgramAt command rule at text = (program : Code) × IsSource text program × IsOfMode command program
-    × FirstBroken program rule at
-
--- why a rule is the first that a whole text breaks, and where, by what finds it
+-- why a rule is the first that a whole text breaks, and where: it has no tokens, they are refused, or its program is
 pub data IsBroken (command : Command) (rule : Rule) (at : Spot) (text : List ℕ) : Type 0 where
-  -- the text has no tokens
   NoTokens : IsFaultAt rule at text → IsBroken command rule at text
-  -- its tokens are refused
   NoProgram : IsTokenAt rule at text → IsBroken command rule at text
-  -- its program has a form that the mode does not have yet
-  NoForm : rule ≡ NotBuilt → at ≡ first_spot → IsNotOfMode command text → IsBroken command rule at text
-  -- its program is not accepted
-  NotAccepted : IsProgramAt command rule at text → IsBroken command rule at text
+  Rejected : (program : Code) → IsSource text program → IsRejected command rule at program → IsBroken command rule at text
 
 -- why a rule is the first that is broken: the source has a byte too many, or it was read to its end
 pub data IsFirstBroken (c : Command) (rule : Rule) (at : Spot) (taken : List ℕ) (left : Option (List ℕ)) : Type 0 where
@@ -103,6 +95,20 @@ IsDoneFor command program w.Memory = Unit {0}
 abbrev pub IsDoneForSource : Command → List ℕ → What → Type 0
 IsDoneForSource command text what = (program : Code) × IsSource text program × IsOfMode command program
     × Accepts program × IsDoneFor command program what
+
+-- what is found of a program: it is accepted, or why it is refused
+abbrev pub IsFound : Command → Code → Result (Unit {0}) Deny → Type 0
+IsFound command program (Ok _) = IsOfMode command program × Accepts program
+IsFound command program (Err (d.Refused r)) = IsRejected command r.rule r.at program
+IsFound command program (Err d.Memory) = Unit {0}
+
+-- why this is the answer for a program: it is refused, or accepted and comes to this
+abbrev pub IsDecided : Command → Code → What → Type 0
+IsDecided command program (w.Usage kind) = ⊥
+IsDecided command program w.ReadFault = ⊥
+IsDecided command program (w.Refused r) = IsRejected command r.rule r.at program
+IsDecided command program w.Memory = Unit {0}
+IsDecided command program what = IsOfMode command program × Accepts program × IsDoneFor command program what
 
 -- why this is the answer to a text: that it is accepted, the text of the graph, or the report of a run
 abbrev pub IsAnswer : Command → List ℕ → What → Type 0

@@ -7,7 +7,8 @@ ghost use Rattle.ae_tree.specs.Judgement.{Accepted};
 
 use crate::built::is_built;
 use crate::names::first_broken;
-use crate::top::{aeminium, body_of, read_program};
+use crate::modes::body_of;
+use crate::top::{aeminium, read_program};
 use ae_graph::{BlockGraph, footprint};
 use ae_meaning::{Ending, Meant, evaluate};
 use ae_rules::{Footprint, Mode, Resource, Use};

@@ -9,6 +9,7 @@ mod calls_tests;
 mod classes_tests;
 #[cfg(test)]
 mod layout_tests;
+mod modes;
 mod names;
 #[cfg(test)]
 mod tests;

@@ -2,41 +2,28 @@
 ghost use Rattle.std.specs.Prelude.{◌≡◌, ◌≤◌, ◌↔◌, map, string_bytes, None, Some, IfSome, IfOk, IfErr, length};
 ghost use Rattle.ae_text.specs.Causes.{Rose};
 ghost use Rattle.ae_tree.specs.Plain.{Code};
-ghost use Rattle.ae_tree.specs.Shown.{code, lines_from};
-ghost use Rattle.ae_tree.specs.Built.{Built};
-ghost use Rattle.ae_rules.specs.Judges.{Accepts};
-ghost use Rattle.aem.specs.Small.{IsSource, HasSource};
+ghost use Rattle.ae_tree.specs.Shown.{code};
+ghost use Rattle.aem.specs.Small.{IsSource};
 ghost use Rattle.aem.specs.Texts.{output, whole_status, status_of};
 ghost use Rattle.aem.specs.declared.answer.Command.{Command};
-ghost use Rattle.aem.specs.Top.{HasBody, denial, IsUnread, IsDoneFor, IsAnswer, HasItsCause, IsTold, IsOneAnswer, IsOnlyAnswer};
+ghost use Rattle.aem.specs.Top.{IsUnread, IsDoneFor, IsAnswer, HasItsCause, IsTold, IsOneAnswer, IsOnlyAnswer};
 ghost use Rattle.aem.specs.Top.{IsAsked, IsAnswered, IsComplete, Wrote, IsUsage};
 
 use crate::answer::{Answer, Command, What};
-use crate::built::is_built;
-use crate::names::first_broken;
+use crate::modes::{checked, denied, drawn, ran};
 use crate::texts::{status, text_of};
 use crate::words::command;
-use ae_cases::today_is_a_case;
-use ae_graph::graph_text;
 use ae_parser::{
     parse, programs_are_not_refused, refusals_are_unique, tokens_stand_for_one_program,
 };
-use ae_rules::{
-    a_built_program_declares_one_method, first_broken_rule_is_one, preds_are_edges,
-    programs_are_never_both, todays_judgement_is_a_case, todays_uses_are_a_case,
-};
-use ae_run::run;
+use ae_rules::{first_broken_rule_is_one, programs_are_never_both};
 use ae_text::{
     Deny, Gate, ReadEnd, Refusal, Rule, Sink, Source, Spot, SureSink, SureSource,
     faults_are_unique, lex, read_all, tokens_are_unique, write_all,
 };
-use ae_tree::{Program, Stmt, derived_programs_are_well_shaped};
+use ae_tree::Program;
 use std::alloc::Global;
 use std::thread::Threads;
-
-const FUEL: u32 = 100_000;
-
-const WORKERS: u32 = 4;
 
 fn first_refused(rule: Rule) -> What
     ensures { result ≡ What.Refused (record { rule = rule; at = record { line = 1; col = 1 } }) }
@@ -45,27 +32,6 @@ fn first_refused(rule: Rule) -> What
         rule,
         at: Spot { line: 1, col: 1 },
     })
-}
-
-// The statements of the one method.
-pub fn body_of(program: &Program) -> &[Stmt]
-    requires { Built (code program.now) }
-    ensures { HasBody (code program.now) (lines_from result.now) }
-{
-    match program.methods.as_slice() {
-        [main] => main.body.stmts.as_slice(),
-        _ => unreachable!(),
-    }
-}
-
-// What is answered where a layer below refuses, or wants memory.
-fn denied(deny: Deny) -> What
-    ensures { result ≡ denial deny }
-{
-    match deny {
-        Deny::Refused(refusal) => What::Refused(refusal),
-        Deny::Memory => What::Memory,
-    }
 }
 
 // The program that a text is, or why it is none.
@@ -84,38 +50,6 @@ pub fn read_program(alloc: Global, text: &[u8]) -> Result<Program, Deny>
     }
 }
 
-// What an accepted program comes to.
-fn done<G: Gate>(
-    rt: &(impl Threads + Sync),
-    alloc: Global,
-    command: Command,
-    program: &Program,
-    gate: &G,
-) -> What
-    requires built { Built (code program.now) }
-    requires source { HasSource (code program.now) }
-    requires accepted { Accepts (code program.now) }
-    ensures { IsDoneFor command (code program.now) result }
-{
-    a_built_program_declares_one_method();
-    todays_judgement_is_a_case();
-    todays_uses_are_a_case();
-    preds_are_edges();
-    today_is_a_case();
-    derived_programs_are_well_shaped();
-    match command {
-        Command::Check => What::Checked,
-        Command::Graph => match graph_text(alloc, program) {
-            Ok(text) => What::Graph(text),
-            Err(_) => What::Memory,
-        },
-        Command::Run => match run(rt, alloc, program, &[], FUEL, WORKERS, gate) {
-            Ok(report) => What::Ran(report),
-            Err(_) => What::Memory,
-        },
-    }
-}
-
 // What a text that was read to its end comes to.
 fn answer_to<G: Gate>(
     rt: &(impl Threads + Sync),
@@ -127,19 +61,14 @@ fn answer_to<G: Gate>(
     requires { length text.now ≤ 1048576 }
     ensures { IsAnswer command text.now result }
 {
-    a_built_program_declares_one_method();
-    todays_judgement_is_a_case();
     let program = match read_program(alloc, text) {
         Ok(program) => program,
         Err(deny) => return denied(deny),
     };
-    if !is_built(&program) {
-        return first_refused(Rule::NotBuilt);
-    }
-    match first_broken(alloc, body_of(&program)) {
-        Ok(None) => done(rt, alloc, command, &program, gate),
-        Ok(Some(refusal)) => What::Refused(refusal),
-        Err(_) => What::Memory,
+    match command {
+        Command::Check => checked(alloc, program),
+        Command::Graph => drawn(alloc, &program),
+        Command::Run => ran(rt, alloc, &program, gate),
     }
 }
 

@@ -1,6 +1,6 @@
 use Rattle.std.proofs.Common.{arith, ap, ◌∙◌, length, get_or}
 use Rattle.aem.proofs.Reading.{one_body}
-use Rattle.aem.proofs.top.body_of.Goals as goal
+use Rattle.aem.proofs.modes.body_of.Goals as goal
 
 pub returns : goal.returns
 returns c =
