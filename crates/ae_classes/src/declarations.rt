@@ -7,7 +7,6 @@ ghost use Rattle.ae_rules.specs.Verdict.{in_turn, each, if_there};
 ghost use Rattle.ae_rules.specs.Answers.{Answers, Leaves, done};
 ghost use Rattle.ae_rules.specs.Lookups as lookup;
 ghost use Rattle.ae_rules.specs.Lookups.{has_name};
-ghost use Rattle.ae_rules.specs.Types as type_spec;
 ghost use Rattle.ae_rules.specs.Table as spec;
 ghost use Rattle.ae_classes.specs.Classes.{GivesClasses};
 

@@ -1,6 +1,6 @@
 // Which groups are known, and names that none before has.
 ghost use Rattle.std.specs.Prelude.{◌≡◌};
-ghost use Rattle.ae_rules.specs.Answers.{Answers, Leaves, done};
+ghost use Rattle.ae_rules.specs.Answers.{Leaves};
 ghost use Rattle.ae_rules.specs.Lookups.{Names, has_name};
 ghost use Rattle.ae_rules.specs.Table as spec;
 

@@ -10,7 +10,8 @@ use Rattle.ae_rules.specs.Lookups.{is_called, top_in}
 use Rattle.ae_rules.specs.Table.{tops_differ, declares_new, nothing_declared}
 use Rattle.ae_classes.specs.Classes.{declared_in, passed, is_class_called}
 use Rattle.ae_classes.proofs.PlaceLemmas.{first_of_all_is_place}
-use Rattle.ae_classes.proofs.TurnLemmas.{a_turn_breaks, what_comes_next_breaks, answered_by_that_error, from_copied_place}
+use Rattle.ae_classes.proofs.TurnLemmas.{a_turn_breaks, what_comes_next_breaks, answered_by_that_error}
+use Rattle.ae_classes.proofs.TurnLemmas.{from_copied_place}
 use Rattle.ae_classes.proofs.tops.tops_differ.Goals as goal
 
 pub returns-in_err-declares_new-clause-answer : goal.returns-in_err-declares_new-clause-answer
