@@ -78,7 +78,7 @@ replayed_is cs xs = same_stack (replayed (now_held cs xs) (rewound cs xs)) xs
     (same_length (rewound cs xs) xs (names_rewound cs xs)))) [ inl e ↦ e | inr e ↦ e.0 ∙ e.1 ])
 
 -- where each changed place is alike, all is
-joined : (cs ds : List Change) (xs ys : List Slot) → rewound cs xs ≡ rewound ds ys
+pub joined : (cs ds : List Change) (xs ys : List Slot) → rewound cs xs ≡ rewound ds ys
     → all_same (now_held cs xs) ys ≡ true → all_same (now_held ds ys) xs ≡ true → ys ≡ xs
 joined cs ds xs ys e a b = same_stack ys xs (sym (bare_rewound ds ys) ∙ ap (map bare) (sym e)
     ∙ bare_rewound cs xs) alike

@@ -1,0 +1,10 @@
+-- The lemmas of the crates below that this one goes by, and its own.
+pub use Rattle.ae_text.proofs as from_text
+pub use Rattle.ae_scope.proofs as from_scope
+mod MovedLemmas
+mod LetLemmas
+mod FitLemmas
+mod BlockLemmas
+mod BranchLemmas
+mod MethodLemmas
+mod GrouplessLemmas

@@ -1,0 +1,4 @@
+pub mod Groupless
+pub mod Simple
+pub mod Blocks
+pub mod Methods
