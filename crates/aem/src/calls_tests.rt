@@ -107,7 +107,7 @@ fn put_kind(names: &[Items<u8>], kind: &Kind, text: &mut Vec<u8>) -> Result<(), 
 }
 
 // A line with the form.
-pub fn put_form(names: &[Items<u8>], form: &Form, text: &mut Vec<u8>) -> Result<(), AllocError> {
+fn put_form(names: &[Items<u8>], form: &Form, text: &mut Vec<u8>) -> Result<(), AllocError> {
     match form {
         Form::Int => text.extend_from_slice(b"int")?,
         Form::Bool => text.extend_from_slice(b"bool")?,

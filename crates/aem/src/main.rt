@@ -6,8 +6,6 @@ mod built;
 #[cfg(test)]
 mod calls_tests;
 #[cfg(test)]
-mod classes_tests;
-#[cfg(test)]
 mod layout_tests;
 mod modes;
 mod names;
