@@ -7,10 +7,8 @@ use Rattle.ae_rules.specs.declared.held.Held.TheVariants as held
 use Rattle.ae_rules.specs.Lookups.{has_name}
 use Rattle.ae_rules.specs.Context.{Local, Context, with_name_moved}
 use Rattle.ae_rules.specs.Effects.{all_moved}
+use Rattle.ae_judge.proofs.from_rules.GoneLemmas.{no_more}
 use Rattle.ae_judge.proofs.from_text.Basics.{functions_agree}
-
-abbrev no_more : Local → Local
-no_more l = record l { held = held.None }
 
 or_nothing : (b : Bool) → (b || false) ≡ b
 or_nothing true = refl

@@ -40,9 +40,9 @@ source_of source.Null = Null
 source_of (source.From path) = From path.now
 
 -- a set of names
-abbrev pub names_in : {S : Type 0} → HashSet ℕ S → Names
-names_in set x = contains nat_eq set x
+abbrev pub set_of_names : {S : Type 0} → HashSet ℕ S → Names
+set_of_names set x = contains nat_eq set x
 
 -- the roots so far
 abbrev pub roots_of : Roots → RootsThere
-roots_of r = record { used = names_in r.used; alone = names_in r.alone }
+roots_of r = record { used = set_of_names r.used; alone = set_of_names r.alone }

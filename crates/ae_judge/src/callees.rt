@@ -7,7 +7,7 @@ ghost use Rattle.ae_rules.specs.Lookups as lookup;
 ghost use Rattle.ae_rules.specs.Calls as spec;
 ghost use Rattle.ae_scope.specs.Scope.{context_of};
 ghost use Rattle.ae_judge.specs.Tabled.{code_of};
-ghost use Rattle.ae_judge.specs.Callee.{callee_of};
+ghost use Rattle.ae_judge.specs.Callee.{callee_shown};
 
 use crate::answer::deny;
 use crate::forms::{bare_names, groups_of, is_object};
@@ -54,7 +54,7 @@ fn method_number(tabled: &Tabled, class: ClassAt, name: Name) -> Option<u32>
 // The method with this name at the top.
 fn top_callee<'a>(tabled: &'a Tabled, name: Name) -> Option<Callee<'a>>
     ensures { MatchOption result (spec.top_callee (code_of tabled.now) name ≡ None)
-        (λ k. spec.top_callee (code_of tabled.now) name ≡ Some (callee_of k)) }
+        (λ k. spec.top_callee (code_of tabled.now) name ≡ Some (callee_shown k)) }
 {
     match tabled.table.top(name) {
         Some(number) => match method_at(tabled, number) {
@@ -77,7 +77,7 @@ fn member_callee<'a>(
     name: Name,
 ) -> Result<Option<Callee<'a>>, AllocError>
     ensures { IfOk result (λ o. MatchOption o (spec.callee_of (code_of tabled.now) form.now name ≡ None)
-        (λ k. spec.callee_of (code_of tabled.now) form.now name ≡ Some (callee_of k))) }
+        (λ k. spec.callee_of (code_of tabled.now) form.now name ≡ Some (callee_shown k))) }
 {
     match form {
         Form::Int | Form::Bool => Ok(None),
@@ -111,7 +111,7 @@ pub fn judge_callee<'a>(
     on: &Option<Path>,
     name: NameAt,
 ) -> Result<Callee<'a>, Deny>
-    ensures { Answers (spec.judge_callee (code_of tabled.now) (context_of scope.now) on.now name) callee_of result }
+    ensures { Answers (spec.judge_callee (code_of tabled.now) (context_of scope.now) on.now name) callee_shown result }
 {
     match on {
         None => match top_callee(tabled, name.name) {

@@ -11,7 +11,7 @@ ghost use Rattle.ae_scope.specs.Scope.{context_of};
 ghost use Rattle.ae_judge.specs.Tabled.{code_of};
 ghost use Rattle.ae_judge.specs.Views.{roots_of};
 ghost use Rattle.ae_judge.specs.Param.{new_in};
-ghost use Rattle.ae_judge.specs.Callee.{callee_of};
+ghost use Rattle.ae_judge.specs.Callee.{callee_shown};
 ghost use Rattle.ae_judge.specs.Called.{called_of};
 
 use crate::answer::deny;
@@ -92,7 +92,7 @@ fn judge_callee_with(
 ) -> Result<Called, Deny>
     requires { is_some callee.now.method.now.me ≡ is_some call.now.on }
     ensures { Answers (spec.judge_callee_with (code_of tabled.now) (context_of scope.now) (invocation call.now)
-        (callee_of callee.now)) (called_of (context_of scope.now)) result }
+        (callee_shown callee.now)) (called_of (context_of scope.now)) result }
 {
     let method = callee.method;
     let at = call.method.at;

@@ -6,7 +6,7 @@ ghost use Rattle.ae_tree.specs.Shown.{definition};
 ghost use Rattle.ae_rules.specs.Calls as spec;
 ghost use Rattle.ae_rules.specs.Lookups as lookup;
 ghost use Rattle.ae_judge.specs.Tabled.{code_of};
-ghost use Rattle.ae_judge.specs.Callee.{callee_of};
+ghost use Rattle.ae_judge.specs.Callee.{callee_shown};
 ghost use Rattle.ae_judge.specs.Param.{new_in, slot_of, object_slot_of};
 
 use crate::callees::Callee;
@@ -37,7 +37,7 @@ fn joined(alloc: Global, first: &[Name], second: &[NameAt]) -> Result<Items<Name
 /// What stands for the groups of the method that is called, and of its class, where these groups are given. Takes
 /// memory for groups alone.
 pub fn groups_in(alloc: Global, callee: &Callee, groups: &[NameAt]) -> Result<GroupsIn, AllocError>
-    ensures { IfOk result (λ new. new_in new ≡ spec.group_in (callee_of callee.now) groups.now) }
+    ensures { IfOk result (λ new. new_in new ≡ spec.group_in (callee_shown callee.now) groups.now) }
 {
     let names = joined(
         alloc,

@@ -5,7 +5,7 @@ use Rattle.ae_scope.specs.Scope.{context_of}
 use Rattle.ae_judge.specs.Tabled.{code_of}
 use Rattle.ae_judge.specs.Views.{roots_of}
 use Rattle.ae_judge.specs.Param.{new_in}
-use Rattle.ae_judge.specs.Callee.{callee_of}
+use Rattle.ae_judge.specs.Callee.{callee_shown}
 use Rattle.ae_judge.specs.Called.{called_of}
 use Rattle.ae_judge.specs.declared.giving.Given.{Given}
 use Rattle.ae_rules.specs.Answers.{done}
@@ -17,7 +17,7 @@ returns-in-Err c =
     let p = code_of c.args.tabled.now in
     let x = context_of c.args.scope.now in
     let i = invocation c.args.call.now in
-    let k = callee_of c.args.callee.now in
+    let k = callee_shown c.args.callee.now in
     argument_is_refused p x i k (new_in c.in_ok-new.new) (λ (given : Given). roots_of given.roots) (called_of x)
     c.in-Err.fail
     (counted_from x i k (new_in c.in_ok-new.new) tt c.len.result c.len-2.result c.len-3.result c.as_slice.result.now
@@ -31,7 +31,7 @@ returns-in-Err-needs_met c =
     let p = code_of c.args.tabled.now in
     let x = context_of c.args.scope.now in
     let i = invocation c.args.call.now in
-    let k = callee_of c.args.callee.now in
+    let k = callee_shown c.args.callee.now in
     need_is_refused p x i k (new_in c.in_ok-new.new) (roots_of c.in-Ok.given.roots) done (called_of x)
     c.in-Err-needs_met.fail
     (counted_from x i k (new_in c.in_ok-new.new) tt c.len.result c.len-2.result c.len-3.result c.as_slice.result.now
@@ -45,7 +45,7 @@ returns c =
     let p = code_of c.args.tabled.now in
     let x = context_of c.args.scope.now in
     let i = invocation c.args.call.now in
-    let k = callee_of c.args.callee.now in
+    let k = callee_shown c.args.callee.now in
     call_holds p x i k (new_in c.in_ok-new.new) (roots_of c.in-Ok.given.roots) tt c.in-Ok.given.gone.items
     c.in_ok-result.result
     (counted_from x i k (new_in c.in_ok-new.new) tt c.len.result c.len-2.result c.len-3.result c.as_slice.result.now
