@@ -1,10 +1,9 @@
 -- Two branches from one scope, compared, and what the statements with blocks come to.
-use Rattle.std.proofs.Common.{◌≡◌, ℕ, Bool, true, false, ◌&&◌, List, take, drop, length, arith, Result, Ok, Err}
+use Rattle.std.proofs.Common.{◌≡◌, ℕ, Bool, true, false, ◌&&◌, List, drop, length, arith, Result, Ok, Err}
 use Rattle.std.proofs.Common.{Option, Some, None, refl, sym, ap, subst, ◌∙◌}
 use Rattle.std.specs.Prelude.{⊤, OnOk}
 use Rattle.std.specs.Result.{IsErrAnd}
 use Rattle.ae_text.specs.declared.refusal.Spot.{Spot}
-use Rattle.ae_text.specs.declared.refusal.Rule.{Rule}
 use Rattle.ae_text.specs.declared.refusal.Rule.TheVariants as rule
 use Rattle.ae_text.specs.declared.refusal.Deny.{Deny}
 use Rattle.ae_text.specs.declared.refusal.Deny.TheVariants as deny
@@ -162,8 +161,8 @@ pub second_block_fails : (p : Code) (m : Definition) (b b' : Lines) (at : Spot) 
     → Leaves (block_verdict p m b' (context_of r)) z (Err e)
     → Leaves (choice_verdict p m b b' at (context_of s)) z (Err e)
 second_block_fails p m b b' at s u r z deny.Memory e a h = tt
-second_block_fails p m b b' at s u r z (deny.Refused k) e a h =
-    after_the_first p m b b' at s u r e a
+second_block_fails p m b b' at s u r z (deny.Refused k) e a h
+    = after_the_first p m b b' at s u r e a
     ∙ ap (λ (v : Verdict Context). v >>= λ d'. branches_meet p (context_of s) at (context_of u) d') h
 
 -- both hold, and then what they come to is compared

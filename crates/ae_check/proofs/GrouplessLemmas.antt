@@ -1,6 +1,7 @@
 -- In a program without groups, whose names are those of its text, each method fits.
-use Rattle.std.proofs.Common.{◌≡◌, ◌<◌, ◌+◌, ℕ, Bool, true, false, ◌&&◌, List, [], ◌∷◌, ◌++◌, map, drop, get_or, length, zero, suc}
-use Rattle.std.proofs.Common.{Option, Some, refl, sym, ap, ◌∙◌, arith}
+use Rattle.std.proofs.Common.{◌≡◌, ◌<◌, ◌+◌, ℕ, Bool, true, false, ◌&&◌, List, [], ◌∷◌, map, drop, get_or, length}
+use Rattle.std.proofs.Common.{zero, suc}
+use Rattle.std.proofs.Common.{Some, refl, sym, ap, ◌∙◌, arith}
 use Rattle.std.specs.List.{list_all, slice_get}
 use Rattle.std.specs.Option.{option_map}
 use Rattle.std.proofs.lemmas.Bool.{lt-ltb}
@@ -15,11 +16,12 @@ use Rattle.ae_tree.specs.Shown.{definition}
 use Rattle.ae_tree.specs.WellShaped.{InBlocks, EachStatement, ActionNamed, MethodNamed, WellShaped}
 use Rattle.ae_rules.specs.Verdict.{Verdict, Holds, ◌>>◌, each, given}
 use Rattle.ae_rules.specs.Lookups.{is_empty}
+use Rattle.ae_check.proofs.from_rules.BelowLemmas.{this_is_named, found_has}
 use Rattle.ae_check.specs.Blocks.{fits, all_fit}
-use Rattle.ae_check.specs.Groupless.{is_groupless, are_groupless, is_groupless_type, is_groupless_me, is_groupless_param}
+use Rattle.ae_check.specs.Groupless.{is_groupless, are_groupless, is_groupless_type, is_groupless_me}
+use Rattle.ae_check.specs.Groupless.{is_groupless_param}
 use Rattle.ae_check.specs.Groupless.{is_groupless_class, is_groupless_method, has_groupless_needs, UsesNoGroups}
 use Rattle.ae_check.proofs.from_text.Basics.{first_of_both, second_of_both}
-use Rattle.ae_check.proofs.MethodLemmas.{found_has_it}
 
 both_are : (a b : Bool) → a ≡ true → b ≡ true → (a && b) ≡ true
 both_are true b e f = f
@@ -34,8 +36,9 @@ mutual
   statement_fits n (StoresAt q i e) named inside g = refl
   statement_fits n (Calls i) named inside g = refl
   statement_fits n (Chooses e k b) named inside g = lines_fit n b inside g
-  statement_fits n (ChoosesElse e k b l b') named inside g =
-      both_are (all_fit n b) (all_fit n b') (lines_fit n b inside.0 (first_of_both (are_groupless b) (are_groupless b') g))
+  statement_fits n (ChoosesElse e k b l b') named inside g
+      = both_are (all_fit n b) (all_fit n b') (lines_fit n b inside.0
+      (first_of_both (are_groupless b) (are_groupless b') g))
       (lines_fit n b' inside.1 (second_of_both (are_groupless b) (are_groupless b') g))
   statement_fits n (Repeats e k b) named inside g = lines_fit n b inside g
   statement_fits n (Groups x) named inside g = absurd (cc)
@@ -69,8 +72,8 @@ found_passes : {A : Type 0} (test : A → Bool) (xs : List A) (i : ℕ) (x : A) 
 found_passes test [] i x h e = absurd (cc)
 found_passes test (y ∷ ys) zero x h e =
     let j : y ≡ x = cc in ap test (sym j) ∙ first_of_both (test y) (list_all test ys) h
-found_passes test (y ∷ ys) (suc i) x h e =
-    found_passes test ys i x (second_of_both (test y) (list_all test ys) h) e
+found_passes test (y ∷ ys) (suc i) x h e
+    = found_passes test ys i x (second_of_both (test y) (list_all test ys) h) e
 
 -- a method of the program, by its place
 abbrev place_of_method : List Method → ℕ → Method → Type 0
@@ -83,7 +86,7 @@ its_place xs i x l e =
 pub method_is_named : (p : Code) (xs : List Method) (i : ℕ) (x : Method) → WellShaped p → p.methods ≡ map definition xs
     → i < length xs → x ≡ get_or xs i x → MethodNamed (length p.names) (definition x)
 method_is_named p xs i x w q l e =
-    found_has_it (MethodNamed (length p.names)) p.methods i (definition x) w.method_names
+    found_has (MethodNamed (length p.names)) p.methods i (definition x) w.method_names
     (ap (λ (ms : List Definition). slice_get ms i) q ∙ its_place xs i x l e)
 
 pub method_fits : (p : Code) (xs : List Method) (i : ℕ) (x : Method) → WellShaped p → UsesNoGroups p
@@ -95,20 +98,6 @@ method_fits p xs i x w u q l e =
     let g : is_groupless_method m ≡ true =
     found_passes is_groupless_method p.methods i m
     (second_of_both (list_all is_groupless_class p.classes) (list_all is_groupless_method p.methods) u) at in
-    lines_fit (length p.names) m.body (method_is_named p xs i x w q l e).body 
+    lines_fit (length p.names) m.body (method_is_named p xs i x w q l e).body
     (last_of_six (given m.result true is_groupless_type) (is_empty m.groups) (given m.me true is_groupless_me)
     (list_all is_groupless_param m.params) (has_groupless_needs m) (are_groupless m.body) g)
-
--- a program has the name of the receiver
-pub this_is_named : (p : Code) → WellShaped p → this < length p.names
-this_is_named p w = omega (arith, ap length w.first.1, length-append first_names w.first.0)
-
--- one method more
-pub next_method : (premise : Definition → Verdict (Unit {0})) (xs : List Method) (i : ℕ) (x : Method) → i < length xs
-    → x ≡ get_or xs i x → each premise (map definition xs) ≡ each premise (map definition (drop i xs))
-    → premise (definition x) ≡ Holds tt
-    → each premise (map definition xs) ≡ each premise (map definition (drop (i + 1) xs))
-next_method premise xs i x l e r h =
-    r ∙ ap (λ (ys : List Method). each premise (map definition ys)) (drop_more xs i x l
-    ∙ ap (λ (y : Method). y ∷ drop (i + 1) xs) (sym e))
-    ∙ ap (λ (v : Verdict (Unit {0})). v >> each premise (map definition (drop (i + 1) xs))) h

@@ -1,5 +1,6 @@
 -- What a method knows at its start, and how it ends.
-use Rattle.std.proofs.Common.{◌≡◌, ◌<◌, ◌+◌, ◌-◌, ℕ, nat_eq, Bool, true, false, ◌||◌, if◌then◌else◌, List, [], ◌∷◌, subst, Result, Ok, Err}
+use Rattle.std.proofs.Common.{◌≡◌, ◌<◌, ◌+◌, ◌-◌, ℕ, nat_eq, Bool, true, false, ◌||◌, if◌then◌else◌, List, [], ◌∷◌}
+use Rattle.std.proofs.Common.{subst, Result, Ok, Err}
 use Rattle.std.proofs.Common.{drop, get_or, length, Option, None, Some, refl, sym, ap, ◌∙◌, arith}
 use mathlib.Core.Path.{fun_ext}
 use Rattle.std.specs.Option.{is_some, option_map}
@@ -166,26 +167,6 @@ one_is_added x f stays c w i s = same_context (with_params (x ∷ []) c) (with_p
 
 -- ---- the receiver
 
--- a receiver is added where its name is new
-pub me_is_added : (p : Code) (m : Definition) (me : Me) (f : Form) (stays : Bool) (c : Context) → m.me ≡ Some me
-    → f ≡ me_form p m me → stays ≡ does_stay f me.away → with_me p m c ≡ with_parameter this f stays c
-me_is_added p m me f stays c e i s = same_context (with_me p m c) (with_parameter this f stays c)
-    (fun_ext (λ y. ap (λ (o : Option Local). if nat_eq this y then o else c.local y)
-    (ap (option_map (me_local p m)) e
-    ∙ ap Some (sym (ap (one_local f) s ∙ ap (λ (g : Form). one_local g (does_stay g me.away)) i))))) refl
-
--- where there is none, nothing is added
-pub no_me_is_added : (p : Code) (m : Definition) (c : Context) → m.me ≡ None → c.local this ≡ None
-    → with_me p m c ≡ c
-no_me_is_added p m c e n = same_context (with_me p m c) c (fun_ext (λ y. by_name y (nat_eq this y) refl)) refl
-  where
-    by_name : (y : ℕ) (b : Bool) → nat_eq this y ≡ b
-        → (if b then option_map (me_local p m) m.me else c.local y) ≡ c.local y
-    by_name y false f = refl
-    by_name y true f =
-        let j : this ≡ y = grind (arith, nat_tests, f) in
-        ap (option_map (me_local p m)) e ∙ sym n ∙ ap c.local j
-
 -- ---- the start
 
 started : (p : Code) (m : Definition)
@@ -248,15 +229,6 @@ last_line_returns (x ∷ ys) o e =
     by_last x ys o (ap (slice_get (x ∷ ys)) k ∙ e)
 
 -- ---- what is found
-
--- what holds of each of a list holds of one that is found in it
-pub found_has_it : {A : Type 0} (P : A → Type 0) (xs : List A) (i : ℕ) (x : A) → All P xs → slice_get xs i ≡ Some x
-    → P x
-found_has_it P xs i x a e =
-    let l : i < length xs = slice_get_within xs i x e in
-    let g : Some (get_or xs i x) ≡ Some x = sym (slice_get-get_or xs i x l) ∙ e in
-    let j : get_or xs i x ≡ x = cc in
-    subst P j (All-get_or P xs i x l a)
 
 -- at a method's start no receiver is visible before it is added
 pub no_receiver_yet : (ns : List GroupNeed) (xs ys : List ℕ) (c0 c1 c2 c3 : Context) → c0 ≡ nothing_known

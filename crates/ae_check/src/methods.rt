@@ -1,5 +1,6 @@
 // Methods, from their signatures to their ends.
-ghost use Rattle.std.specs.Prelude.{◌≡◌, ◌||◌, ◌&&◌, not, is_none, true, length, All, None, Some, OnOk, IfOk, IfSome, MatchOption};
+ghost use Rattle.std.specs.Prelude.{◌≡◌, ◌||◌, ◌&&◌, not, is_none, true, length, All, None, Some};
+ghost use Rattle.std.specs.Prelude.{OnOk, IfOk, IfSome, MatchOption};
 ghost use Rattle.std.specs.Prelude.{◌∷◌, [], ◌<◌, nat_eq, is_some};
 ghost use Rattle.ae_tree.specs.Form.{bare_names, form, perm_of};
 ghost use Rattle.ae_tree.specs.Names.{this};
@@ -25,8 +26,8 @@ use ae_rules::{GroupPerm, Held};
 use ae_scope::Scope;
 use ae_text::{Deny, Items, Rule, Spot};
 use ae_tree::{
-    Block, Class, Form, GroupNeed, IO, Kind, Me, Method, Name, NameAt, Need, Param, Perm, PermAt, StmtKind, THIS,
-    Ty,
+    Block, Class, Form, GroupNeed, IO, Kind, Me, Method, Name, NameAt, Need, Param, Perm, PermAt,
+    StmtKind, THIS, Ty,
 };
 use std::alloc::{AllocError, Global};
 
@@ -53,11 +54,7 @@ fn permission_at_start(needs: &[GroupNeed], group: Name) -> GroupPerm
 }
 
 // These groups are known, each with the permission of its need.
-fn know_groups(
-    scope: &mut Scope,
-    needs: &[GroupNeed],
-    groups: &[NameAt],
-) -> Result<(), AllocError>
+fn know_groups(scope: &mut Scope, needs: &[GroupNeed], groups: &[NameAt]) -> Result<(), AllocError>
     requires { AreNamed (length scope.old.groups.items) groups.now }
     ensures context { OnOk result (context_of scope.new
         ≡ with_needed needs.now (bare_names groups.now) (context_of scope.old)) }
@@ -125,12 +122,7 @@ fn add_params(alloc: Global, scope: &mut Scope, params: &[Param]) -> Result<(), 
 }
 
 // The local holds what a parameter that comes back has to hold.
-fn comes_back(
-    scope: &Scope,
-    name: NameAt,
-    is_unique: bool,
-    away: Option<Spot>,
-) -> Result<(), Deny>
+fn comes_back(scope: &Scope, name: NameAt, is_unique: bool, away: Option<Spot>) -> Result<(), Deny>
     ensures { Answers (require (not (is_unique && is_none away) || is_held_alone (held_in (context_of scope.now)
         name.name)) Rule.NotReturned name.at) done result }
 {
@@ -261,9 +253,11 @@ fn returns(method: &Method) -> Result<(), Deny>
     }
 }
 
-/// A method's end: it returns where it has to, and what was lent uniquely comes back.
+/// A method's end. Refused at the method's name, where it has a result and its last statement is no `return`; and at
+/// the receiver or a parameter that is unique and comes back, where it is not held alone. Takes no memory.
 pub fn end_method(tabled: &Tabled, method: &Method, scope: &Scope) -> Result<(), Deny>
-    ensures { Answers (spec.end_method (code_of tabled.now) (definition method.now) (context_of scope.now)) done result }
+    ensures { Answers (spec.end_method (code_of tabled.now) (definition method.now) (context_of scope.now)) done
+        result }
 {
     returns(method)?;
     receiver_comes_back(tabled, method, scope)?;
@@ -271,7 +265,7 @@ pub fn end_method(tabled: &Tabled, method: &Method, scope: &Scope) -> Result<(),
 }
 
 // The class that a method stands in.
-#[tactic(auto, using(crate::proofs::MethodLemmas::found_has_it))]
+#[tactic(auto, using(crate::proofs::from_rules::BelowLemmas::found_has))]
 fn own_class<'a>(tabled: &'a Tabled, method: &Method) -> Option<&'a Class>
     requires { All (ClassNamed (length tabled.now.program.now.names)) tabled.now.program.now.classes }
     ensures kind { MatchOption result (lookup.own_kind (code_of tabled.now) method.now.class ≡ Kind.Ints)
@@ -357,7 +351,8 @@ fn add_me(tabled: &Tabled, method: &Method, scope: &mut Scope) -> Result<(), All
     }
 }
 
-/// What a method knows at its start: the groups of its class, its own and `io`, its receiver and its parameters.
+/// What a method knows at its start: the groups of its class, its own and `io`, its receiver and its parameters. Never
+/// refused.
 pub fn start(tabled: &Tabled, method: &Method, scope: &mut Scope) -> Result<(), Deny>
     requires empty { Empty (length tabled.now.program.now.names) scope.old }
     requires named { MethodNamed (length tabled.now.program.now.names) (definition method.now) }
@@ -388,7 +383,8 @@ fn judge_whole(tabled: &Tabled, method: &Method, scope: &mut Scope) -> Result<()
     end_method(tabled, method, scope)
 }
 
-/// A method, from its signature to its end. Nothing is known after it.
+/// A method, from its signature to its end: refused by the first rule that its statements break, in order, or that its
+/// end breaks. Nothing is known after it; after a refusal what is known is not said.
 pub fn judge_method(tabled: &Tabled, method: &Method, scope: &mut Scope) -> Result<(), Deny>
     requires empty { Empty (length tabled.now.program.now.names) scope.old }
     requires named { MethodNamed (length tabled.now.program.now.names) (definition method.now) }

@@ -9,12 +9,12 @@ use Rattle.ae_text.specs.declared.refusal.Deny.TheVariants as deny
 use Rattle.ae_rules.specs.Verdict.{Verdict, Holds, Broken, ◌>>=◌, ◌>>◌, fine, each, in_turn}
 use Rattle.ae_rules.specs.Answers.{Answers, Leaves}
 
--- a list from the element at a place on
-pub from_this_place : {A : Type 0} (xs : List A) (i : ℕ) (x : A) → i < length xs → x ≡ get_or xs i x
-    → drop i xs ≡ x ∷ drop (i + 1) xs
-from_this_place xs i x l e = drop_more xs i x l ∙ ap (λ y. y ∷ drop (i + 1) xs) (sym e)
+-- the element at a place, and what follows it, are the list from there on
+pub element_and_rest : {A : Type 0} (xs : List A) (i : ℕ) (x : A) → i < length xs → x ≡ get_or xs i x
+    → x ∷ drop (i + 1) xs ≡ drop i xs
+element_and_rest xs i x l e = ap (λ y. y ∷ drop (i + 1) xs) e ∙ sym (drop_more xs i x l)
 
--- the same where elements are copied
+-- a list from a place on, where elements are copied
 pub from_copied_place : {A : Type 0} (xs ys : List A) (i : ℕ) (d : A) → ys ≡ xs → i < length ys
     → drop i xs ≡ get_or ys i d ∷ drop (i + 1) xs
 from_copied_place xs ys i d same l = ap (drop i) (sym same) ∙ drop_more ys i d l

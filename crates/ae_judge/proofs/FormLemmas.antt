@@ -18,27 +18,11 @@ lengths_tell_apart (x ∷ xs) [] h = refl
 lengths_tell_apart (x ∷ xs) (y ∷ ys) h = and_right (nat_eq x y) (same_names xs ys)
     (lengths_tell_apart xs ys (λ e. h (ap suc e)))
 
--- the first two of the rests are compared
-pub names_from_here : (xs ys : List ℕ) (i : ℕ) → i < length xs → i < length ys → same_names (drop i xs) (drop i ys)
-    ≡ (nat_eq (get_or xs i 0) (get_or ys i 0) && same_names (drop (i + 1) xs) (drop (i + 1) ys))
-names_from_here xs ys i l k = ap (λ (zs : List ℕ). same_names zs (drop i ys)) (drop_more xs i 0 l)
-    ∙ ap (λ (zs : List ℕ). same_names (get_or xs i 0 ∷ drop (i + 1) xs) zs) (drop_more ys i 0 k)
-
--- nothing is left to compare
-pub names_at_the_end : (xs ys : List ℕ) (i : ℕ) → length xs ≤ i → length ys ≤ i → same_names (drop i xs) (drop i ys)
-    ≡ true
-names_at_the_end xs ys i l k = ap (λ (zs : List ℕ). same_names zs (drop i ys)) (drop_all i xs l)
-    ∙ ap (same_names []) (drop_all i ys k)
-
 -- the first of the rests is replaced, or the others are looked at
 pub place_from_here : (xs ys : List ℕ) (i g : ℕ) → i < length xs → i < length ys → in_place (drop i xs) (drop i ys) g
     ≡ (if nat_eq (get_or xs i 0) g then get_or ys i 0 else in_place (drop (i + 1) xs) (drop (i + 1) ys) g)
 place_from_here xs ys i g l k = ap (λ (zs : List ℕ). in_place zs (drop i ys) g) (drop_more xs i 0 l)
     ∙ ap (λ (zs : List ℕ). in_place (get_or xs i 0 ∷ drop (i + 1) xs) zs g) (drop_more ys i 0 k)
-
-place_in_none : (xs : List ℕ) (g : ℕ) → in_place xs [] g ≡ g
-place_in_none [] g = refl
-place_in_none (x ∷ xs) g = refl
 
 -- where one of the lists ends a name stays
 pub place_at_the_end : (xs ys : List ℕ) (i g : ℕ) → min (length xs) (length ys) ≤ i → in_place (drop i xs) (drop i ys) g
@@ -49,6 +33,10 @@ place_at_the_end xs ys i g l =
           (drop_all i ys k) ∙ place_in_none (drop i xs) g
       | inr h ↦ ap (λ (zs : List ℕ). in_place zs (drop i ys) g) (drop_all i xs h)
     ]
+  where
+    place_in_none : (zs : List ℕ) (k : ℕ) → in_place zs [] k ≡ k
+    place_in_none [] k = refl
+    place_in_none (z ∷ zs) k = refl
 
 -- a name that is not the first is looked for in the rests
 pub place_passed_by : (xs ys : List ℕ) (i g : ℕ) → i < length xs → i < length ys → (get_or xs i 0 ≡ g → ⊥)

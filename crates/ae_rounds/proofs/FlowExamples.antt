@@ -8,7 +8,7 @@ use Rattle.ae_rounds.specs.Flow.{Work, Plan, TaskEnd, Never, Finished, Stopped, 
 use Rattle.ae_rounds.specs.Works.{IsWork, MayCarry, NoEdge, IsPlan}
 use Rattle.ae_rounds.specs.Flow.{IsEnd, IsOutput, IsGiven, HasAdded, HasDrawn, stamps_in, entries_in, GoesOn, Flow}
 use Rattle.ae_text.specs.Numbers.{times}
-use Rattle.ae_rounds.proofs.from_text.Basics.{none_is_no_some}
+use Rattle.ae_rounds.proofs.from_text.Basics.{none_is_no_some, empty_has_nothing}
 
 -- An output is the number of times that the task went to its cell, and it draws the stamps 5, 6 and 7.
 abbrev work : Work ℕ ℕ ℕ ℕ ℕ
@@ -180,21 +180,17 @@ may_come =
 
 -- ---- what the work keeps to, and the plan meets
 
--- nothing stands in an empty list
-none_in : {A : Type 0} (x : A) → Contains [] x → ⊥
-none_in x (k, l, e) = omega (arith, l)
-
 is_work : IsWork work
 is_work = record {
-  input_stamped = λ x k e c. absurd (none_in e c);
+  input_stamped = λ x k e c. absurd (empty_has_nothing e c);
   output_stamped = λ o k e c. (1, omega arith, is_six e c);
-  body_stamped = λ b k e c. absurd (none_in e c);
-  carry_stamped = λ o n s c. absurd (none_in s c);
+  body_stamped = λ b k e c. absurd (empty_has_nothing e c);
+  carry_stamped = λ o n s c. absurd (empty_has_nothing s c);
   has_began = λ o. (0, omega arith, refl);
   has_ended = λ o. (2, omega arith, refl);
   gives_more = λ x cs o k g. (6 ∷ [], refl);
   pauses_more = λ x cs b k g. absurd g;
-  gives_later = λ x cs o k es e g q c. (λ s d. absurd (none_in s d), λ y d s f. absurd (none_in s f));
+  gives_later = λ x cs o k es e g q c. (λ s d. absurd (empty_has_nothing s d), λ y d s f. absurd (empty_has_nothing s f));
   pauses_later = λ x cs b k es e g. absurd g;
 }
   where
@@ -220,6 +216,6 @@ is_plan = record {
   once = λ i j e g h. absurd (none_is_no_some g);
   ready = λ t x cs m i c. no_carries cs c;
   cells = λ t x cs b k i g. absurd g;
-  inputs_before = λ t x i s c. absurd (none_in s c);
+  inputs_before = λ t x i s c. absurd (empty_has_nothing s c);
   cells_before = old_stamp;
 }

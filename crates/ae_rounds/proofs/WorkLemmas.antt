@@ -62,7 +62,7 @@ entries_are_drawn {I} {C} {O} {B} {E} w h p r t k es e f (x, end, i, j, q) c = b
     by_end (Finished o) j q =
         let g = f.outputs t o (inl j) in
         let l = same_before w k x g.0 (w.output_entries o k) es (one_input p t x g.0 i g.2.0) q in
-        drawn_by w p r t g.0 g.1 (Finished o) (w.stamp e) g.2 j tt
+        (drawn_by) w p r t g.0 g.1 (Finished o) (w.stamp e) g.2 j tt
         (h.output_stamped o k e (behind_in_all (w.input_entries x k) es (w.output_entries o k) e q c))
         (h.gives_later g.0 g.1 o k es e g.3 l c)
     by_end (Stopped o) j q =

@@ -120,7 +120,7 @@ start_group_below p m n i c a g e =
       | inr h ↦ listed_below n m.groups g a h
     ]
 
-this_is_named : (p : Code) → WellShaped p → this < length p.names
+pub this_is_named : (p : Code) → WellShaped p → this < length p.names
 this_is_named p w = subst (λ (xs : List (List ℕ)). this < length xs) (sym w.first.1) (omega (arith))
 
 pub start_below : (p : Code) (m : Definition) → WellShaped p → MethodNamed (length p.names) m

@@ -9,7 +9,7 @@ mod KeepLemmas
 pub mod EdgeLemmas
 pub mod SeenLemmas
 mod VisibleLemmas
-mod PredLemmas
+pub mod PredLemmas
 mod LessLemmas
 mod InstanceLemmas
 pub mod PathLemmas
@@ -24,7 +24,7 @@ mod EffectLemmas
 mod DeclareLemmas
 mod ChangeLemmas
 mod EverywhereLemmas
-mod BelowLemmas
+pub mod BelowLemmas
 pub mod ShapeLemmas
 mod HeldLemmas
 mod CaseLemmas

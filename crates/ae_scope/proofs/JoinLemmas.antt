@@ -7,6 +7,9 @@ use Rattle.std.specs.Option.{is_some, option_map}
 use Rattle.std.proofs.lemmas.List.{length-map, get_or_past}
 use Rattle.std.proofs.lemmas.Bool.{cases_eq, cases_lt}
 use Rattle.std.proofs.lemmas.Option.{slice_get-map}
+use Rattle.ae_scope.proofs.StackLemmas.{stack, bare, bare_hold, bare_rewound, same_stack, stack_is, hold_other, kept_or_compared, alike_itself, each_same, got}
+use Rattle.ae_scope.proofs.from_rules.PredLemmas.{all_at}
+use Rattle.ae_scope.proofs.from_rules.ShapeLemmas.{same_held_is, held_itself}
 use Rattle.ae_scope.specs.declared.scope.Scope.{Scope}
 use Rattle.ae_scope.specs.Scope.{context_of}
 use Rattle.ae_scope.specs.Grows.{Grows}
@@ -24,9 +27,6 @@ use Rattle.ae_scope.specs.Slots.{names, place_in, Tied, local_of, local_in, hold
 use Rattle.ae_scope.specs.Slots.{all_same, replayed}
 use Rattle.ae_scope.proofs.SlotLemmas.{met, held_past}
 use Rattle.ae_scope.proofs.ChangeLemmas.{names_rewound, names_hold}
-use Rattle.ae_scope.proofs.StackLemmas.{stack, bare, bare_hold, bare_rewound, same_stack, stack_is, hold_other}
-use Rattle.ae_scope.proofs.StackLemmas.{kept_or_compared, same_is, is_same, all_below_at}
-use Rattle.ae_scope.proofs.StackLemmas.{alike_itself, each_same, got}
 
 hold_here : (xs : List Slot) (i : ℕ) (h : Held) → i < length xs → held_at (hold_at xs i h) i ≡ h
 hold_here [] i h l = absurd (omega arith)
@@ -130,7 +130,7 @@ place_alike p at os xs ys gs t n m w h i = elim (cases_lt i (length os)) [
         let test : (not (is_some (local_in os x)) || same_held
         (given (local_in xs x) held.None (λ (z : Local). z.held))
         (given (local_in ys x) held.None (λ (z : Local). z.held))) ≡ true =
-        all_below_at (length p.names) (λ (y : ℕ). not (is_some (local_in os y)) || same_held
+        all_at (length p.names) (λ (y : ℕ). not (is_some (local_in os y)) || same_held
         (given (local_in xs y) held.None (λ (z : Local). z.held))
         (given (local_in ys y) held.None (λ (z : Local). z.held))) x h inside in
         let z : same_held s.0.held r.0.held ≡ true = test_says (local_in os x) (local_in xs x)
@@ -138,7 +138,7 @@ place_alike p at os xs ys gs t n m w h i = elim (cases_lt i (length os)) [
         rw (s.2, r.2) z
 
 swap_same : (a b : Held) → same_held a b ≡ true → same_held b a ≡ true
-swap_same a b e = ap (λ (h : Held). same_held h a) (sym (same_is a b e)) ∙ is_same a
+swap_same a b e = ap (λ (h : Held). same_held h a) (sym (same_held_is a b e)) ∙ held_itself a
 
 -- the two comparisons are that of each name
 pub join_compared : (p : Code) (at : List (Option ℕ)) (cs ds : List Change) (xs ys : List Slot) (gs : ℕ

@@ -75,15 +75,6 @@ padded [] k y = no_places k y
 padded (o ∷ old) k zero = refl
 padded (o ∷ old) k (suc y) = padded old k y
 
-pub tied_grown : (old new : List (Option ℕ)) (ns : List ℕ) (b : Bool) (n k : ℕ) → Tied old ns → length old ≤ n
-    → new ≡ (if b then take n old ++ replicate k None else old) → Tied new ns
-tied_grown old new ns false n k t l e = subst (λ (v : List (Option ℕ)). Tied v ns) (sym e) t
-tied_grown old new ns true n k t l e =
-    let f : new ≡ old ++ replicate k None = e ∙ ap (λ (v : List (Option ℕ)). v ++ replicate k None)
-    (take_all n old l) in
-    λ x i. let P : Option ℕ → Type 0 = λ p. (p ≡ Some i) ↔ (slice_get ns i ≡ Some x) in
-    subst P (sym (ap (λ (v : List (Option ℕ)). place_in v x) f ∙ padded old k x)) (t x i)
-
 -- a name that is not visible has no place
 pub no_place : (at : List (Option ℕ)) (xs : List Slot) (x : ℕ) → Tied at (names xs) → local_in xs x ≡ None
     → place_in at x ≡ None

@@ -15,6 +15,10 @@ use Rattle.ae_rules.specs.declared.held.GroupPerm.{GroupPerm}
 use Rattle.ae_rules.specs.Context.{Local, Context, same_held, held_in, all_below, hold_alike, closed}
 use Rattle.ae_rules.specs.Verdict.{given}
 use Rattle.ae_tree.specs.Plain.{Code}
+use Rattle.ae_scope.proofs.from_text.Basics.{first_of_both, second_of_both}
+use Rattle.ae_scope.proofs.from_tree.BelowLemmas.{either_true}
+use Rattle.ae_scope.proofs.from_rules.PredLemmas.{all_at}
+use Rattle.ae_scope.proofs.from_rules.ShapeLemmas.{same_held_is, held_itself}
 use Rattle.ae_scope.specs.declared.slot.Slot.{Slot}
 use Rattle.ae_scope.specs.declared.slot.Change.{Change}
 use Rattle.ae_scope.specs.declared.scope.Scope.{Scope}
@@ -83,9 +87,6 @@ grown_longer s t g =
     length-map (take (length s.locals.items) t.locals.items) (λ (r : Slot). r.name) in
     omega (arith, length-take (length s.locals.items) t.locals.items)
 
-pub trail_longer : (s t : Scope) → Grows s t → length s.trail.items ≤ length t.trail.items
-trail_longer s t g = omega (arith, ap length g.trail, length-take (length s.trail.items) t.trail.items)
-
 pub grows_cut : (s t u : Scope) → Grows s t → u.locals.items ≡ take (length s.locals.items) t.locals.items
     → u.groups.items ≡ t.groups.items → u.trail.items ≡ t.trail.items → length u.at.items ≡ length t.at.items
     → Grows s u
@@ -105,36 +106,6 @@ grows_cut s t u g l e f a =
 
 -- ---- the locals that changed are compared
 
-pub same_is : (a b : Held) → same_held a b ≡ true → a ≡ b
-same_is held.Unique held.Unique e = refl
-same_is (held.Split m) (held.Split n) e = ap held.Split (grind (arith, nat_tests, e))
-same_is held.Immutable held.Immutable e = refl
-same_is held.Lent held.Lent e = refl
-same_is (held.Shared m) (held.Shared n) e = ap held.Shared (grind (arith, nat_tests, e))
-same_is (held.Inner m) (held.Inner n) e = ap held.Inner (grind (arith, nat_tests, e))
-same_is held.None held.None e = refl
-same_is _ _ e = absurd (cc)
-
-itself : (n : ℕ) → nat_eq n n ≡ true
-itself n = grind (arith, nat_tests)
-
-pub is_same : (a : Held) → same_held a a ≡ true
-is_same held.Unique = refl
-is_same (held.Split m) = itself m
-is_same held.Immutable = refl
-is_same held.Lent = refl
-is_same (held.Shared m) = itself m
-is_same (held.Inner m) = itself m
-is_same held.None = refl
-
-pub both_left : (a b : Bool) → (a && b) ≡ true → a ≡ true
-both_left true b e = refl
-both_left false b e = absurd (cc)
-
-pub both_right : (a b : Bool) → (a && b) ≡ true → b ≡ true
-both_right true b e = e
-both_right false b e = absurd (cc)
-
 pub hold_other : (xs : List Slot) (i j : ℕ) (h : Held) → (i ≡ j → ⊥) → held_at (hold_at xs i h) j ≡ held_at xs j
 hold_other [] i j h n = refl
 hold_other (x ∷ xs) zero zero h n = absurd (n refl)
@@ -148,10 +119,10 @@ pub kept_or_compared : (cs : List Change) (xs ys : List Slot) (i : ℕ) → all_
 kept_or_compared [] xs ys i e = inl refl
 kept_or_compared (c ∷ cs) xs ys i e = elim (cases_eq c.slot i) [
   | inl q ↦ inr (let f : held_at xs c.slot ≡ held_at ys c.slot =
-      same_is (held_at xs c.slot) (held_at ys c.slot) (both_left (same_held (held_at xs c.slot) (held_at ys c.slot))
+      same_held_is (held_at xs c.slot) (held_at ys c.slot) (first_of_both (same_held (held_at xs c.slot) (held_at ys c.slot))
       (all_same (now_held cs xs) ys) e) in
       ap (held_at ys) (sym q) ∙ sym f ∙ ap (held_at xs) q)
-  | inr n ↦ elim (kept_or_compared cs xs ys i (both_right (same_held (held_at xs c.slot) (held_at ys c.slot))
+  | inr n ↦ elim (kept_or_compared cs xs ys i (second_of_both (same_held (held_at xs c.slot) (held_at ys c.slot))
       (all_same (now_held cs xs) ys) e)) [
         | inl f ↦ inl (hold_other (rewound cs xs) c.slot i c.held n ∙ f)
         | inr f ↦ inr f
@@ -198,21 +169,10 @@ all_below_all : (n : ℕ) (test : ℕ → Bool) → ((x : ℕ) → test x ≡ tr
 all_below_all zero test h = refl
 all_below_all (suc n) test h = rw (h n) (all_below_all n test h)
 
-pub all_below_at : (n : ℕ) (test : ℕ → Bool) (x : ℕ) → all_below n test ≡ true → x < n → test x ≡ true
-all_below_at zero test x e l = absurd (omega arith)
-all_below_at (suc n) test x e l = elim (cases_eq x n) [
-  | inl q ↦ ap test q ∙ both_left (test n) (all_below n test) e
-  | inr m ↦ all_below_at n test x (both_right (test n) (all_below n test) e) (omega arith)
-]
-
-or_true : (a b : Bool) → b ≡ true → (a || b) ≡ true
-or_true true b e = refl
-or_true false b e = e
-
 pub alike_itself : (p : Code) (o c : Context) → hold_alike p o c c ≡ true
 alike_itself p o c = all_below_all (length p.names) (λ (x : ℕ). not (is_some (o.local x)) || same_held (held_in c x)
-    (held_in c x)) (λ x. or_true (not (is_some (o.local x))) (same_held (held_in c x) (held_in c x))
-    (is_same (held_in c x)))
+    (held_in c x)) (λ x. either_true (not (is_some (o.local x))) (same_held (held_in c x) (held_in c x))
+    (held_itself (held_in c x)))
 
 pub got : (xs : List Slot) (i : ℕ) → i < length xs → (s : Slot) × (slice_get xs i ≡ Some s) × (held_at xs i ≡ s.held)
 got [] i l = absurd (omega arith)
@@ -266,7 +226,7 @@ at_place p at xs ys gs t n w h i = elim (cases_lt i (length xs)) [
         let test : (not (is_some (local_in ys x)) || same_held
         (given (local_in xs x) held.None (λ (q : Local). q.held))
         (given (local_in ys x) held.None (λ (q : Local). q.held))) ≡ true =
-        all_below_at (length p.names) (λ (y : ℕ). not (is_some (local_in ys y)) || same_held
+        all_at (length p.names) (λ (y : ℕ). not (is_some (local_in ys y)) || same_held
         (given (local_in xs y) held.None (λ (q : Local). q.held))
         (given (local_in ys y) held.None (λ (q : Local). q.held))) x h inside in
         let z : same_held s.0.held r.0.held ≡ true = test_says true (local_in xs x) (local_in ys x) s.0 r.0 f g test in

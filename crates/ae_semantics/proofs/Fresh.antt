@@ -270,5 +270,5 @@ fresh_is_stamped p m ints clock e =
       tree_of p m ints,
       ap (λ (o : Option Start). given o None
           (λ (y : Start). Some (Begun (main_entry y).values (all_wait y.method.body)))) (started p m ints x.0 x.1 x.2),
-      stamped p m ints clock,
+      (stamped) p m ints clock,
     )

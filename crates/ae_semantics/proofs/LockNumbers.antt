@@ -146,8 +146,8 @@ mutual
         arith,
         f,
         g,
-        locks_in_least p m n a c,
-        later_least p m n rest v (λ d. locks_least p m n rest d),
+        (locks_in_least) p m n a c,
+        (later_least) p m n rest v (λ d. locks_least p m n rest d),
         times_append n (numbers_in a) (numbers_among rest),
       )
 
@@ -199,7 +199,7 @@ times_some (x ∷ xs) y (zero, l, e) = omega (
 times_some (x ∷ xs) y (suc k, l, e) = omega (
   arith,
   times_cons y.0 x.0 (map (λ (z : ℕ × Located). z.0) xs),
-  times_some xs y (k, omega (arith, l), e),
+  (times_some) xs y (k, omega (arith, l), e),
 )
 
 -- where each number stands once at most, no two of these have one number

@@ -94,7 +94,7 @@ entering_keeps p ints fuel rows k n x inner cells f e h a free flat right none =
     (opened_seen p rows k n x Waiting new f e refl refl a)
     (opening_keeps p ints fuel (seen_in rows) rows k n x Waiting new inner f e h a tt tt refl path none (
       free,
-      no_turn_in_block p news x inner cells flat
+      (no_turn_in_block) p news x inner cells flat
           (fresh_row f e, row_is_there rows k n new f e (inner_path x.passage.here.path inner) path none, right),
     ))
 

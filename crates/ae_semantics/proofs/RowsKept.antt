@@ -54,8 +54,8 @@ stage_kept (x ∷ xs) zero n y flat o (suc j, l, i) m s inner e f =
 stage_kept (x ∷ xs) (suc k) n y flat o (zero, l, i) m s inner e f =
     record { outer = o; there = (0, omega arith, i); path = refl; is = e }
 stage_kept (x ∷ xs) (suc k) n y flat o (suc j, l, i) m s inner e f =
-    let h : KeepsStage (staged k n y xs) o m s =
-    stage_kept xs k n y flat o (j, omega (arith, l), i) m s inner e f in
+    let h : KeepsStage (staged k n y xs) o m s
+    = stage_kept xs k n y flat o (j, omega (arith, l), i) m s inner e f in
     record {
       outer = h.outer;
       there = (suc h.there.0, omega (arith, h.there.1), h.there.2);

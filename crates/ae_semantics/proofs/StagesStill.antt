@@ -218,7 +218,7 @@ right_still p table rows news still x more sub (Loop t fuel now gained) h =
     (h.0, before_turn_still p table x more t fuel now gained h.1)
 right_still p table rows news still x more sub (InTurn t fuel gained) h = (
   h.0,
-  in_turn_still p table x more t fuel gained rows news (inner_path x.passage.here.path (OfTurn t)) still h.1,
+  (in_turn_still) p table x more t fuel gained rows news (inner_path x.passage.here.path (OfTurn t)) still h.1,
 )
 right_still p table rows news still x more sub (Paused start stack now gained) h =
     (h.0, rests_still p table x more start stack now gained h.1)

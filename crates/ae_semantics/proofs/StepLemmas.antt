@@ -152,7 +152,7 @@ stage_put p table rows news still fuel here all j (Next at a rest) (y ∷ ys) fo
     let g : IsUndone y = subst IsUndone (sym (ap (λ (z : RowStatement × RowStage). z.1) i)) u in (
       subst (λ (z : RowStatement). IsStageRight p table news z new) (sym (ap (λ
           (z : RowStatement × RowStage). z.0) i)) r,
-      all_follow p table rows news still fuel (knowing (after p here.method at a here.context) here) all (suc j) j rest
+      (all_follow) p table rows news still fuel (knowing (after p here.method at a here.context) here) all (suc j) j rest
           ys found unfinished barred y new
           (undone_follows (scene_uses p all j) found j unfinished barred y new g
           (not_through (scene_uses p all j) found j unfinished barred new w)) h.1,

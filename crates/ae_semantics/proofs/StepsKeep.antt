@@ -87,8 +87,8 @@ quiet_keeps p ints fuel rows k n x new e f h a w none right =
 -- ---- the steps
 
 pub leaving_out_keeps : LeavingOutKeeps
-leaving_out_keeps p ints fuel rows k n x h a b =
-    quiet_keeps p ints fuel rows k n x LeftOut refl refl h a tt refl b
+leaving_out_keeps p ints fuel rows k n x h a b
+    = quiet_keeps p ints fuel rows k n x LeftOut refl refl h a tt refl b
 
 -- a run that has nothing behind it
 then_nothing : {W : Type 0} (r : Run W) → r ≡ and_then r (λ s n. Went s n)
@@ -140,7 +140,7 @@ looping_keeps p ints fuel rows k n x m e number b loop h a free found =
           found = found;
           marks = [];
           comes = λ more i. (
-            loop_comes (stops_at p (by_query more)) x.fuel x.passage.here x.at m.state (notes_from m) x.action e number
+            (loop_comes) (stops_at p (by_query more)) x.fuel x.passage.here x.at m.state (notes_from m) x.action e number
                 b loop,
             loop_comes (flow_machine p more) x.fuel x.passage.here x.at m.state (notes_from m) x.action e number b loop,
           );

@@ -63,8 +63,8 @@ done_for_program laws command text taken left p (w.Usage kind) c short a n d = a
 done_for_program laws command text taken left p w.ReadFault c short a n d = absurd (n refl)
 done_for_program laws command text taken left p (w.Refused r) c short a n d =
     absurd (never_refused laws command text taken left r p c short a d)
-done_for_program laws command text taken left p w.Checked c short a n (t, d) =
-    done_for_one laws command text taken left p w.Checked c t a.0 d
+done_for_program laws command text taken left p w.Checked c short a n (t, d)
+    = done_for_one laws command text taken left p w.Checked c t a.0 d
 done_for_program laws command text taken left p (w.Graph graph) c short a n (t, d) =
     done_for_one laws command text taken left p (w.Graph graph) c t a.0 d
 done_for_program laws command text taken left p (w.Ran report) c short a n (t, d) =

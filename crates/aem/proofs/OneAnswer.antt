@@ -98,8 +98,8 @@ two_causes laws command text r s at spot (NoProgram a) (NoProgram b) = two_token
 two_causes laws command text r s at spot (NoProgram a) (Rejected q z y) = absurd (token_alone laws text r at q a z)
 two_causes laws command text r s at spot (Rejected p z x) (NoTokens b) = absurd (fault_alone laws text s spot p b z)
 two_causes laws command text r s at spot (Rejected p z x) (NoProgram b) = absurd (token_alone laws text s spot p b z)
-two_causes laws command text r s at spot (Rejected p a x) (Rejected q b y) =
-    two_programs laws command text r s at spot p q a b x y
+two_causes laws command text r s at spot (Rejected p a x) (Rejected q b y)
+    = two_programs laws command text r s at spot p q a b x y
 
 -- a program of the mode's forms that the rules accept breaks none
 program_unbroken : Laws → (command : Command) (p : Code) (r : Rule) (at : Spot) → IsOfMode command p → Accepts p
@@ -219,8 +219,8 @@ one_done_for command p a w.Memory _ i x y = absurd i
 -- and so is what the accepted program of a text comes to
 one_done_for_source : Laws → (command : Command) (text : List ℕ) (a b : What) → IsTold a → IsTold b
     → IsDoneForSource command text a → IsDoneForSource command text b → a ≡ b
-one_done_for_source laws command text a b i j (p, s, _, _, x) (q, z, _, _, y) =
-    one_done_for command p a b i j x (subst (λ k. IsDoneFor command k b) (one_source laws text p q s z) y)
+one_done_for_source laws command text a b i j (p, s, _, _, x) (q, z, _, _, y)
+    = one_done_for command p a b i j x (subst (λ k. IsDoneFor command k b) (one_source laws text p q s z) y)
 
 -- a text that was read to its end is refused, or has an accepted program
 data Settled (command : Command) (taken : List ℕ) (left : Option (List ℕ)) (what : What) : Type 0 where
@@ -248,13 +248,13 @@ one_settled laws command taken left a b _ _ (IsRefusal r e x) (IsResult t y) =
     absurd (refused_or_done laws command taken left r b x t y)
 one_settled laws command taken left a b _ _ (IsResult t x) (IsRefusal s f y) =
     absurd (refused_or_done laws command taken left s a y t x)
-one_settled laws command taken left a b i j (IsResult t x) (IsResult u y) =
-    one_done_for_source laws command taken a b i j x y
+one_settled laws command taken left a b i j (IsResult t x) (IsResult u y)
+    = one_done_for_source laws command taken a b i j x y
 
 one_done : Laws → (command : Command) (taken : List ℕ) (left : Option (List ℕ)) (a b : What) → IsTold a → IsTold b
     → IsDone command taken left a → IsDone command taken left b → a ≡ b
-one_done laws command taken left a b i j x y =
-    one_settled laws command taken left a b i j (settled command taken left a i x) (settled command taken left b j y)
+one_done laws command taken left a b i j x y
+    = one_settled laws command taken left a b i j (settled command taken left a i x) (settled command taken left b j y)
 
 one_by : Laws → (asked : Result Command UsageKind) (taken : List ℕ) (left : Option (List ℕ)) (a b : What) → IsTold a
     → IsTold b → ByCommand asked taken left a → ByCommand asked taken left b → a ≡ b

@@ -6,8 +6,8 @@ ghost use Rattle.ae_tree.specs.Limits.{Within};
 ghost use Rattle.ae_tree.specs.Judgement.{Accepted};
 
 use crate::built::is_built;
-use crate::names::first_broken;
 use crate::modes::body_of;
+use crate::names::first_broken;
 use crate::top::{aeminium, read_program};
 use ae_graph::{BlockGraph, footprint};
 use ae_meaning::{Ending, Meant, evaluate};

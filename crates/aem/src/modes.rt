@@ -16,7 +16,8 @@ use ae_check::{check_program, uses_no_groups};
 use ae_classes::build;
 use ae_graph::graph_text;
 use ae_rules::{
-    a_built_program_declares_one_method, preds_are_edges, todays_judgement_is_a_case, todays_uses_are_a_case,
+    a_built_program_declares_one_method, preds_are_edges, todays_judgement_is_a_case,
+    todays_uses_are_a_case,
 };
 use ae_run::run;
 use ae_text::{Deny, Gate, Refusal, Rule, Spot};

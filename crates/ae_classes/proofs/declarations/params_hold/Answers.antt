@@ -1,9 +1,9 @@
-use Rattle.std.proofs.Common.{drop, ◌+◌}
+use Rattle.std.proofs.Common.{drop, sym, ◌+◌}
 use Rattle.ae_tree.specs.Shown.{code}
 use Rattle.ae_rules.specs.Verdict.{in_turn}
 use Rattle.ae_rules.specs.Lookups.{has_name}
 use Rattle.ae_rules.specs.Table.{param_holds}
-use Rattle.ae_classes.proofs.TurnLemmas.{a_turn_breaks, one_turn_more, left_by_that_error, from_this_place}
+use Rattle.ae_classes.proofs.TurnLemmas.{a_turn_breaks, one_turn_more, left_by_that_error, element_and_rest}
 use Rattle.ae_classes.proofs.declarations.params_hold.Goals as goal
 
 pub returns-in_err-param_holds : goal.returns-in_err-param_holds
@@ -16,8 +16,8 @@ returns-in_err-param_holds c =
     (a_turn_breaks f c.param-item.result (drop (i + 1) params) (drop i params)
     (in_turn f params (has_name c.args.earlier.now)) (has_name c.loop-param.earlier)
     (has_name c.param_holds.new.earlier)
-    c.in_err-param_holds.field-0.0 (from_this_place params i c.param-item.result c.loop-param-test.true
-    c.param-item.is)
+    c.in_err-param_holds.field-0.0
+    (sym (element_and_rest params i c.param-item.result c.loop-param-test.true c.param-item.is))
     c.loop-param.invariant c.in_err-param_holds.ensures)
     c.from_residual.ensures.1
 
@@ -29,5 +29,6 @@ loop-param-preserved c =
     one_turn_more f c.param-item.result (drop (i + 1) params) (drop i params)
     (in_turn f params (has_name c.args.earlier.now)) (has_name c.loop-param.earlier)
     (has_name c.param_holds.new.earlier)
-    (from_this_place params i c.param-item.result c.loop-param-test.true c.param-item.is) c.loop-param.invariant
+    (sym (element_and_rest params i c.param-item.result c.loop-param-test.true c.param-item.is))
+    c.loop-param.invariant
     c.in_ok-param_holds.ensures

@@ -1,4 +1,4 @@
-use Rattle.std.proofs.Common.{ap, subst, ◌∙◌, ◌+◌, ℕ, drop}
+use Rattle.std.proofs.Common.{ap, sym, subst, ◌∙◌, ◌+◌, ℕ, drop}
 use Rattle.ae_text.specs.declared.refusal.Rule.TheVariants as rule
 use Rattle.ae_rules.specs.declared.table.Member.{Member}
 use Rattle.ae_rules.specs.declared.table.Member.TheVariants as member
@@ -6,7 +6,7 @@ use Rattle.ae_rules.specs.Verdict.{in_turn}
 use Rattle.ae_rules.specs.Table.{is_new, no_names}
 use Rattle.ae_classes.specs.Named.{named_in, HasOneMore}
 use Rattle.ae_classes.specs.Classes.{field_names}
-use Rattle.ae_classes.proofs.TurnLemmas.{one_turn_more, from_this_place}
+use Rattle.ae_classes.proofs.TurnLemmas.{one_turn_more, element_and_rest}
 use Rattle.ae_classes.proofs.MapLemmas.{one_more_name_is_there, one_more_name_counts}
 use Rattle.ae_classes.proofs.ClauseLemmas.{new_name_joins, place_of_one_more}
 use Rattle.ae_classes.proofs.members.fields_by_name.Goals as goal
@@ -25,7 +25,8 @@ loop-place-preserved c =
       rest = one_turn_more (is_new rule.DuplicateMember) d.name (field_names (drop (i + 1) fields))
           (field_names (drop i fields)) (in_turn (is_new rule.DuplicateMember) (field_names fields) no_names)
           (named_in m)
-          (named_in n) (ap field_names (from_this_place fields i d c.loop-place-test.true c.index-fields-place.is))
+          (named_in n) (ap field_names
+          (sym (element_and_rest fields i d c.loop-place-test.true c.index-fields-place.is)))
           c.loop-place.invariant.rest
           (new_name_joins rule.DuplicateMember d.name (named_in m) (named_in n) c.in_ok-unless_named.ensures
           (one_more_name_is_there m n d.name.name (member.Field i) more));

@@ -6,7 +6,7 @@ use Rattle.ae_tree.specs.Shown.{code}
 use Rattle.ae_rules.specs.Verdict.{each}
 use Rattle.ae_rules.specs.Table.{members_differ}
 use Rattle.ae_rules.specs.Lookups.{class_at}
-use Rattle.ae_classes.proofs.TurnLemmas.{one_premise_more, from_this_place}
+use Rattle.ae_classes.proofs.TurnLemmas.{one_premise_more, element_and_rest}
 use Rattle.ae_classes.proofs.ClauseLemmas.{one_class_more_has_members}
 use Rattle.ae_classes.proofs.members.members_differ.Goals as goal
 
@@ -26,7 +26,7 @@ loop-class-preserved c =
       rest = one_premise_more (members_differ p) k (drop (i + 1) classes) (drop i classes) (each
           (members_differ p) classes)
           (ap (drop i) (sym c.as_slice-class-items.ensures)
-          ∙ from_this_place items i k c.loop-class-test.true c.class-item.is
+          ∙ sym (element_and_rest items i k c.loop-class-test.true c.class-item.is)
           ∙ ap (λ (xs : List Class). k ∷ drop (i + 1) xs) c.as_slice-class-items.ensures)
           c.loop-class.invariant.rest c.in_ok-members_of.ensures.answer;
       count = ap length c.in_ok-push.ensures.ok ∙ length-append c.loop-class.members (c.in_ok-members_of.field-0 ∷ [])
