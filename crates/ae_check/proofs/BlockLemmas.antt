@@ -1,15 +1,15 @@
 -- A block's statements, its end, and what is compared after it.
-use Rattle.std.proofs.Common.{◌≡◌, ◌≤◌, ◌<◌, ◌+◌, ℕ, List, ◌∷◌, take, drop, get_or, arith, Bool, true, false, ◌&&◌}
-use Rattle.std.proofs.Common.{length, refl, sym, ap, subst, ◌∙◌}
+use Rattle.std.proofs.Common.{◌≡◌, ◌<◌, ◌+◌, ℕ, List, ◌∷◌, take, drop, get_or, arith, Bool, true}
+use Rattle.std.proofs.Common.{length, refl, sym, ap, ◌∙◌}
 use Rattle.std.specs.Prelude.{⊤}
 use Rattle.std.proofs.lemmas.List.{drop_more, length-take}
 use Rattle.ae_text.specs.declared.refusal.Spot.{Spot}
 use Rattle.ae_text.specs.declared.refusal.Rule.{Rule}
 use Rattle.ae_tree.specs.declared.tree.Stmt.{Stmt}
 use Rattle.ae_tree.specs.Plain.{Lines, End, Next, Code, Definition}
-use Rattle.ae_tree.specs.Plain.{Action, Declares, Assigns, Stores, StoresAt, Calls, Chooses, ChoosesElse, Repeats}
+use Rattle.ae_tree.specs.Plain.{Declares, Assigns, Stores, StoresAt, Calls, Chooses, ChoosesElse, Repeats}
 use Rattle.ae_tree.specs.Plain.{Groups, Splits, Locks, Freezes, Shares, Prints, PrintsText, Asserts, Returns}
-use Rattle.ae_tree.specs.Shown.{shows, action, lines_from}
+use Rattle.ae_tree.specs.Shown.{action, lines_from}
 use Rattle.ae_rules.specs.Verdict.{Verdict, Holds, ◌>>=◌, ◌>>◌, fine, require}
 use Rattle.ae_rules.specs.Context.{Context, closed, hold_alike}
 use Rattle.ae_rules.specs.Statements.{judge_statement, judge_lines, groups_stay}
@@ -18,9 +18,7 @@ use Rattle.ae_scope.specs.Slots.{local_in, all_same, now_held, rewound}
 use Rattle.ae_scope.specs.Scope.{context_of}
 use Rattle.ae_scope.specs.Grows.{Grows, before}
 use Rattle.ae_check.specs.Blocks.{block_verdict, body_verdict, meets, fits, all_fit}
-use Rattle.ae_check.proofs.from_text.Basics.{first_of_both, second_of_both}
-use Rattle.ae_check.proofs.from_scope.GrowLemmas.{grows_same}
-use Rattle.ae_check.proofs.from_scope.ReplayLemmas.{grows_then}
+use Rattle.ae_check.proofs.from_text.Basics.{second_of_both}
 use Rattle.ae_check.proofs.from_scope.ContextLemmas.{same_context, groups_in}
 use Rattle.ae_check.proofs.from_scope.StackLemmas.{grown_longer, before_is, compared}
 

@@ -1,10 +1,9 @@
 -- Two branches from one scope, compared, and what the statements with blocks come to.
-use Rattle.std.proofs.Common.{◌≡◌, ℕ, Bool, true, false, ◌&&◌, List, take, drop, length, arith, Result, Ok, Err}
+use Rattle.std.proofs.Common.{◌≡◌, ℕ, Bool, true, false, ◌&&◌, List, drop, length, arith, Result, Ok, Err}
 use Rattle.std.proofs.Common.{Option, Some, None, refl, sym, ap, subst, ◌∙◌}
 use Rattle.std.specs.Prelude.{⊤, OnOk}
 use Rattle.std.specs.Result.{IsErrAnd}
 use Rattle.ae_text.specs.declared.refusal.Spot.{Spot}
-use Rattle.ae_text.specs.declared.refusal.Rule.{Rule}
 use Rattle.ae_text.specs.declared.refusal.Rule.TheVariants as rule
 use Rattle.ae_text.specs.declared.refusal.Deny.{Deny}
 use Rattle.ae_text.specs.declared.refusal.Deny.TheVariants as deny

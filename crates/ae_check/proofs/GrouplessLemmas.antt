@@ -1,6 +1,6 @@
 -- In a program without groups, whose names are those of its text, each method fits.
-use Rattle.std.proofs.Common.{◌≡◌, ◌<◌, ◌+◌, ℕ, Bool, true, false, ◌&&◌, List, [], ◌∷◌, ◌++◌, map, drop, get_or, length, zero, suc}
-use Rattle.std.proofs.Common.{Option, Some, refl, sym, ap, ◌∙◌, arith}
+use Rattle.std.proofs.Common.{◌≡◌, ◌<◌, ◌+◌, ℕ, Bool, true, false, ◌&&◌, List, [], ◌∷◌, map, drop, get_or, length, zero, suc}
+use Rattle.std.proofs.Common.{Some, refl, sym, ap, ◌∙◌, arith}
 use Rattle.std.specs.List.{list_all, slice_get}
 use Rattle.std.specs.Option.{option_map}
 use Rattle.std.proofs.lemmas.Bool.{lt-ltb}
@@ -95,7 +95,7 @@ method_fits p xs i x w u q l e =
     let g : is_groupless_method m ≡ true =
     found_passes is_groupless_method p.methods i m
     (second_of_both (list_all is_groupless_class p.classes) (list_all is_groupless_method p.methods) u) at in
-    lines_fit (length p.names) m.body (method_is_named p xs i x w q l e).body 
+    lines_fit (length p.names) m.body (method_is_named p xs i x w q l e).body
     (last_of_six (given m.result true is_groupless_type) (is_empty m.groups) (given m.me true is_groupless_me)
     (list_all is_groupless_param m.params) (has_groupless_needs m) (are_groupless m.body) g)
 

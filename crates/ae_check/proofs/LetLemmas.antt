@@ -1,5 +1,5 @@
 -- The judgement of a `let` from its parts.
-use Rattle.std.proofs.Common.{◌≡◌, Bool, false, not, Result, Ok, Err, refl, sym, ap, subst, ◌∙◌}
+use Rattle.std.proofs.Common.{◌≡◌, Bool, false, not, Err, sym, ap, ◌∙◌}
 use Rattle.std.specs.Prelude.{⊤}
 use Rattle.ae_text.specs.declared.refusal.Rule.TheVariants as rule
 use Rattle.ae_text.specs.declared.refusal.Deny.{Deny}

@@ -1,5 +1,5 @@
 -- What a method knows at its start, step by step.
-use Rattle.std.specs.Prelude.{ℕ, nat_eq, if◌then◌else◌, List, Option, None, Some, option_map, ⊤}
+use Rattle.std.specs.Prelude.{ℕ, nat_eq, if◌then◌else◌, List, None, Some, option_map, ⊤}
 use Rattle.ae_tree.specs.declared.tree.Param.{Param}
 use Rattle.ae_tree.specs.declared.tree.GroupNeed.{GroupNeed}
 use Rattle.ae_tree.specs.Names.{this}

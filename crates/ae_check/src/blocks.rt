@@ -46,11 +46,7 @@ fn meet(
 }
 
 // What is held now where something was changed since then. The changes are undone.
-fn take_back(
-    tabled: &Tabled,
-    scope: &mut Scope,
-    changes: usize,
-) -> Result<Vec<Change>, AllocError>
+fn take_back(tabled: &Tabled, scope: &mut Scope, changes: usize) -> Result<Vec<Change>, AllocError>
     requires { changes ≤ length scope.old.trail.items }
     ensures held { IfOk result (λ v. v.items
         ≡ now_held (drop changes scope.old.trail.items) scope.old.locals.items) }

@@ -6,8 +6,8 @@ ghost use Rattle.ae_rules.specs.Verdict.{given};
 ghost use Rattle.ae_check.specs.Groupless as spec;
 
 use ae_tree::{
-    Block, Class, Field, GroupNeed, IO, KindAt, MAIN, Method, Need, Param, PermAt, Program, Rhs, Stmt,
-    StmtKind, Ty,
+    Block, Class, Field, GroupNeed, IO, KindAt, MAIN, Method, Need, Param, PermAt, Program, Rhs,
+    Stmt, StmtKind, Ty,
 };
 
 fn is_groupless_perm(perm: PermAt) -> bool
@@ -62,7 +62,8 @@ fn is_groupless(stmt: &Stmt) -> bool
             None => are_groupless(then),
         },
         StmtKind::While(_, block) => are_groupless(block),
-        StmtKind::Group(_) | StmtKind::Split(..) | StmtKind::Atomic(..) | StmtKind::Share(..) => false,
+        StmtKind::Group(_) | StmtKind::Split(..) | StmtKind::Atomic(..) | StmtKind::Share(..) =>
+            false,
         StmtKind::Field(..)
         | StmtKind::Index(..)
         | StmtKind::Freeze(_)
@@ -114,9 +115,7 @@ fn has_groupless_needs(method: &Method) -> bool
     if method.needs.is_empty() {
         return true;
     }
-    method.class.is_none()
-        && method.name.name == MAIN
-        && are_exclusive_io(method.needs.as_slice())
+    method.class.is_none() && method.name.name == MAIN && are_exclusive_io(method.needs.as_slice())
 }
 
 fn is_groupless_param(param: &Param) -> bool
@@ -218,5 +217,6 @@ fn are_groupless_methods(methods: &[Method]) -> bool
 pub fn uses_no_groups(program: &Program) -> bool
     ensures { result ≡ spec.uses_no_groups (code program.now) }
 {
-    are_groupless_classes(program.classes.as_slice()) && are_groupless_methods(program.methods.as_slice())
+    are_groupless_classes(program.classes.as_slice())
+        && are_groupless_methods(program.methods.as_slice())
 }

@@ -25,8 +25,8 @@ use ae_rules::{GroupPerm, Held};
 use ae_scope::Scope;
 use ae_text::{Deny, Items, Rule, Spot};
 use ae_tree::{
-    Block, Class, Form, GroupNeed, IO, Kind, Me, Method, Name, NameAt, Need, Param, Perm, PermAt, StmtKind, THIS,
-    Ty,
+    Block, Class, Form, GroupNeed, IO, Kind, Me, Method, Name, NameAt, Need, Param, Perm, PermAt,
+    StmtKind, THIS, Ty,
 };
 use std::alloc::{AllocError, Global};
 
@@ -53,11 +53,7 @@ fn permission_at_start(needs: &[GroupNeed], group: Name) -> GroupPerm
 }
 
 // These groups are known, each with the permission of its need.
-fn know_groups(
-    scope: &mut Scope,
-    needs: &[GroupNeed],
-    groups: &[NameAt],
-) -> Result<(), AllocError>
+fn know_groups(scope: &mut Scope, needs: &[GroupNeed], groups: &[NameAt]) -> Result<(), AllocError>
     requires { AreNamed (length scope.old.groups.items) groups.now }
     ensures context { OnOk result (context_of scope.new
         ≡ with_needed needs.now (bare_names groups.now) (context_of scope.old)) }
@@ -125,12 +121,7 @@ fn add_params(alloc: Global, scope: &mut Scope, params: &[Param]) -> Result<(), 
 }
 
 // The local holds what a parameter that comes back has to hold.
-fn comes_back(
-    scope: &Scope,
-    name: NameAt,
-    is_unique: bool,
-    away: Option<Spot>,
-) -> Result<(), Deny>
+fn comes_back(scope: &Scope, name: NameAt, is_unique: bool, away: Option<Spot>) -> Result<(), Deny>
     ensures { Answers (require (not (is_unique && is_none away) || is_held_alone (held_in (context_of scope.now)
         name.name)) Rule.NotReturned name.at) done result }
 {

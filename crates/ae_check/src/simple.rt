@@ -209,12 +209,7 @@ pub fn judge_return(
 }
 
 /// A write to a field.
-pub fn store(
-    tabled: &Tabled,
-    scope: &mut Scope,
-    path: &Path,
-    expr: &Expr,
-) -> Result<(), Deny>
+pub fn store(tabled: &Tabled, scope: &mut Scope, path: &Path, expr: &Expr) -> Result<(), Deny>
     ensures answer { Leaves (spec.judge_store (code_of tabled.now) (context_of scope.old) path.now
         (expression expr.now) (expression_spot (expression expr.now))) (context_of scope.new) result }
     ensures grows { OnOk result (Grows scope.old scope.new) }

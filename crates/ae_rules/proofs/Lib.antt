@@ -19,13 +19,13 @@ mod TruthLemmas
 pub mod AnswerLemmas
 mod OrderLemmas
 mod BlockLemmas
-mod GoneLemmas
+pub mod GoneLemmas
 mod EffectLemmas
 mod DeclareLemmas
 mod ChangeLemmas
 mod EverywhereLemmas
 mod BelowLemmas
-mod ShapeLemmas
+pub mod ShapeLemmas
 mod HeldLemmas
 mod CaseLemmas
 mod CaseUseLemmas

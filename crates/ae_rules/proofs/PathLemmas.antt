@@ -57,7 +57,7 @@ pub first_holds : {A B : Type 0} (v : Verdict A) (next : A → Verdict B) (y : B
 first_holds (Holds x) next y e = (x, refl, e)
 first_holds (Broken rule at) next y e = absurd (cc)
 
-each_holds : {A : Type 0} (premise : A → Verdict ⊤) (xs : List A) (y : ⊤) (n : ℕ) (x : A) → each premise xs ≡ Holds y
+pub each_holds : {A : Type 0} (premise : A → Verdict ⊤) (xs : List A) (y : ⊤) (n : ℕ) (x : A) → each premise xs ≡ Holds y
     → slice_get xs n ≡ Some x → (z : ⊤) × (premise x ≡ Holds z)
 each_holds premise [] y n x e h = absurd (cc)
 each_holds premise (w ∷ xs) y zero x e h =

@@ -101,7 +101,7 @@ form_receiver p w f.Bool x k e = absurd (cc)
 form_receiver p w (f.Object q l) x k e = kind_receiver p w l x k e
 
 -- the method that is called has a receiver exactly where the call has one
-callee_receiver : (p : Code) → WellShaped p → (c : Context) (on : Option Path) (x : NameAt) (k : Callee)
+pub callee_receiver : (p : Code) → WellShaped p → (c : Context) (on : Option Path) (x : NameAt) (k : Callee)
     → judge_callee p c on x ≡ Holds k → is_some k.method.me ≡ is_some on
 callee_receiver p w c None x k e =
     let r = called_by_number p [] [] (top_number p x.name) k

@@ -1,4 +1,4 @@
-use Rattle.std.proofs.Common.{◌≡◌, ℕ, List, Err, length, true, arith, take, sym, ap, subst, ◌∙◌}
+use Rattle.std.proofs.Common.{◌≡◌, ℕ, Err, length, arith, take, sym, ap, subst, ◌∙◌}
 use Rattle.ae_tree.specs.Plain.{Lines}
 use Rattle.ae_tree.specs.Shown.{definition, action, braced, lines_from, lines-out}
 use Rattle.ae_rules.specs.Answers.{Leaves}
@@ -46,8 +46,12 @@ judge_lines-loop-stmt-preserved t c =
 
 pub judge_block-cut-requires : goal.judge_block-cut-requires
 judge_block-cut-requires t c =
-    omega (arith, c.mark-mark.ensures.locals, grown_longer c.args.scope.now c.judge_lines.new.scope
-    c.in_ok-judge_lines.ensures.grows)
+    omega (
+      arith,
+      c.mark-mark.ensures.locals,
+      grown_longer c.args.scope.now c.judge_lines.new.scope
+          c.in_ok-judge_lines.ensures.grows,
+    )
 
 pub judge_block-returns-clause-answer : goal.judge_block-returns-clause-answer
 judge_block-returns-clause-answer t c =
@@ -80,8 +84,8 @@ judge_body-returns-clause-answer t c =
     subst (λ (v : Verdict Context). Leaves v (context_of c.meet.new.scope) c.meet.result)
     (ap (λ (n : ℕ). meets p n u c.args.rule c.args.at) c.mark-mark.ensures.changes
     ∙ sym (body_is_compared p (definition c.args.method.now) (braced c.args.block.now).lines c.args.rule c.args.at
-        c.args.scope.now u c.in_ok-judge_block.ensures.answer c.in_ok-judge_block.ensures.grows
-        c.in_ok-judge_block.ensures.length))
+    c.args.scope.now u c.in_ok-judge_block.ensures.answer c.in_ok-judge_block.ensures.grows
+    c.in_ok-judge_block.ensures.length))
     c.meet.ensures.answer
 
 pub judge_stmt-returns-in_err-judge_block-in-Some-2-clause-answer :
@@ -96,17 +100,17 @@ judge_stmt-returns-in_err-judge_block-in-Some-2-clause-answer t c =
     let z = context_of c.judge_block-in-Some.new.scope in
     let e = c.in_err-judge_block-in-Some-2.field-0.0 in
     let a : Alike s r = back_to s u r c.mark-mark.result.changes c.mark-mark.ensures.changes
-        c.in_ok-judge_block-in-Some.ensures.grows c.in_ok-judge_block-in-Some.ensures.length
-        c.in_ok-first-in-Some.ensures.locals c.in_ok-first-in-Some.ensures.groups
-        c.in_ok-first-in-Some.ensures.table c.in_ok-first-in-Some.ensures.trail in
+    c.in_ok-judge_block-in-Some.ensures.grows c.in_ok-judge_block-in-Some.ensures.length
+    c.in_ok-first-in-Some.ensures.locals c.in_ok-first-in-Some.ensures.groups
+    c.in_ok-first-in-Some.ensures.table c.in_ok-first-in-Some.ensures.trail in
     failure_is_handed_on (judge_statement p m at (action c.args.stmt.now.kind) (context_of s)) z _ e
     c.from_residual-in_err-judge_block-in-Some-2.ensures.1
     (answers_the_same (judge_statement p m at (action c.args.stmt.now.kind) (context_of s))
     (choice_verdict p m (braced c.in-If.then).lines (braced c.in-Some.other).lines at (context_of s)) z (Err e)
     (blocks_decide p m at (context_of s) c.args.stmt.now.kind c.in-If.expr c.in-If.then c.in-Some.other
-        c.in-If.otherwise c.in-If.is c.in-Some.is c.in_ok-is_value-in-Some.ensures)
+    c.in-If.otherwise c.in-If.is c.in-Some.is c.in_ok-is_value-in-Some.ensures)
     (second_block_fails p m (braced c.in-If.then).lines (braced c.in-Some.other).lines at s u r z e
-        c.in_ok-judge_block-in-Some.ensures.answer a c.in_err-judge_block-in-Some-2.ensures.answer))
+    c.in_ok-judge_block-in-Some.ensures.answer a c.in_err-judge_block-in-Some-2.ensures.answer))
 
 pub judge_stmt-returns-in_ok-judge_block-in-Some-2-clause-answer :
     goal.judge_stmt-returns-in_ok-judge_block-in-Some-2-clause-answer
@@ -120,19 +124,19 @@ judge_stmt-returns-in_ok-judge_block-in-Some-2-clause-answer t c =
     let w = c.judge_block-in-Some.new.scope in
     let n = c.mark-mark.result.changes in
     let a : Alike s r = back_to s u r n c.mark-mark.ensures.changes c.in_ok-judge_block-in-Some.ensures.grows
-        c.in_ok-judge_block-in-Some.ensures.length c.in_ok-first-in-Some.ensures.locals
-        c.in_ok-first-in-Some.ensures.groups c.in_ok-first-in-Some.ensures.table
-        c.in_ok-first-in-Some.ensures.trail in
+    c.in_ok-judge_block-in-Some.ensures.length c.in_ok-first-in-Some.ensures.locals
+    c.in_ok-first-in-Some.ensures.groups c.in_ok-first-in-Some.ensures.table
+    c.in_ok-first-in-Some.ensures.trail in
     let b : Branched s u n c.as_slice.result.now w = branched_so s u r w n c.as_slice.result.now
-        c.mark-mark.ensures.changes c.in_ok-judge_block-in-Some.ensures.grows
-        c.in_ok-judge_block-in-Some.ensures.length
-        (c.as_slice.ensures.value ∙ c.in_ok-first-in-Some.ensures.held) a
-        c.in_ok-judge_block-in-Some-2.ensures.grows c.in_ok-judge_block-in-Some-2.ensures.length in
+    c.mark-mark.ensures.changes c.in_ok-judge_block-in-Some.ensures.grows
+    c.in_ok-judge_block-in-Some.ensures.length
+    (c.as_slice.ensures.value ∙ c.in_ok-first-in-Some.ensures.held) a
+    c.in_ok-judge_block-in-Some-2.ensures.grows c.in_ok-judge_block-in-Some-2.ensures.length in
     answers_the_same _ _ (context_of c.join.new.scope) c.join.result
     (blocks_decide p m at (context_of s) c.args.stmt.now.kind c.in-If.expr c.in-If.then c.in-Some.other
-        c.in-If.otherwise c.in-If.is c.in-Some.is c.in_ok-is_value-in-Some.ensures
+    c.in-If.otherwise c.in-If.is c.in-Some.is c.in_ok-is_value-in-Some.ensures
     ∙ both_blocks_hold p m (braced c.in-If.then).lines (braced c.in-Some.other).lines at s u r w
-        c.in_ok-judge_block-in-Some.ensures.answer a c.in_ok-judge_block-in-Some-2.ensures.answer)
+    c.in_ok-judge_block-in-Some.ensures.answer a c.in_ok-judge_block-in-Some-2.ensures.answer)
     (c.join.ensures.answer s u b)
 
 pub judge_stmt-returns-in_ok-judge_block-in-Some-2-clause-grows :
@@ -144,21 +148,21 @@ judge_stmt-returns-in_ok-judge_block-in-Some-2-clause-grows t c =
     let w = c.judge_block-in-Some.new.scope in
     let n = c.mark-mark.result.changes in
     let a : Alike s r = back_to s u r n c.mark-mark.ensures.changes c.in_ok-judge_block-in-Some.ensures.grows
-        c.in_ok-judge_block-in-Some.ensures.length c.in_ok-first-in-Some.ensures.locals
-        c.in_ok-first-in-Some.ensures.groups c.in_ok-first-in-Some.ensures.table
-        c.in_ok-first-in-Some.ensures.trail in
+    c.in_ok-judge_block-in-Some.ensures.length c.in_ok-first-in-Some.ensures.locals
+    c.in_ok-first-in-Some.ensures.groups c.in_ok-first-in-Some.ensures.table
+    c.in_ok-first-in-Some.ensures.trail in
     c.join.ensures.grows s u (branched_so s u r w n c.as_slice.result.now c.mark-mark.ensures.changes
-        c.in_ok-judge_block-in-Some.ensures.grows c.in_ok-judge_block-in-Some.ensures.length
-        (c.as_slice.ensures.value ∙ c.in_ok-first-in-Some.ensures.held) a
-        c.in_ok-judge_block-in-Some-2.ensures.grows c.in_ok-judge_block-in-Some-2.ensures.length)
+    c.in_ok-judge_block-in-Some.ensures.grows c.in_ok-judge_block-in-Some.ensures.length
+    (c.as_slice.ensures.value ∙ c.in_ok-first-in-Some.ensures.held) a
+    c.in_ok-judge_block-in-Some-2.ensures.grows c.in_ok-judge_block-in-Some-2.ensures.length)
 
 pub judge_stmt-returns-in_ok-is_value-in-None-clause-answer :
     goal.judge_stmt-returns-in_ok-is_value-in-None-clause-answer
 judge_stmt-returns-in_ok-is_value-in-None-clause-answer t c =
     answers_the_same _ _ (context_of c.judge_body.new.scope) c.judge_body.result
     (lone_block_decides (code_of c.args.tabled.now) (definition c.args.method.now) c.args.stmt.now.at
-        (context_of c.args.scope.now) c.args.stmt.now.kind c.in-If.expr c.in-If.then c.in-If.otherwise c.in-If.is
-        c.in-None.is c.in_ok-is_value-in-None.ensures)
+    (context_of c.args.scope.now) c.args.stmt.now.kind c.in-If.expr c.in-If.then c.in-If.otherwise c.in-If.is
+    c.in-None.is c.in_ok-is_value-in-None.ensures)
     c.judge_body.ensures.answer
 
 pub judge_stmt-returns-in_ok-is_value-in-While-clause-answer :
@@ -166,6 +170,6 @@ pub judge_stmt-returns-in_ok-is_value-in-While-clause-answer :
 judge_stmt-returns-in_ok-is_value-in-While-clause-answer t c =
     answers_the_same _ _ (context_of c.judge_body-in-While.new.scope) c.judge_body-in-While.result
     (loop_block_decides (code_of c.args.tabled.now) (definition c.args.method.now) c.args.stmt.now.at
-        (context_of c.args.scope.now) c.args.stmt.now.kind c.in-While.expr c.in-While.block c.in-While.is
-        c.in_ok-is_value-in-While.ensures)
+    (context_of c.args.scope.now) c.args.stmt.now.kind c.in-While.expr c.in-While.block c.in-While.is
+    c.in_ok-is_value-in-While.ensures)
     c.judge_body-in-While.ensures.answer

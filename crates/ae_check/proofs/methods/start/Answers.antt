@@ -49,6 +49,6 @@ returns-clause-context c =
     subst (λ (k : Context). Leaves (Holds k) (context_of c.add_params.new.scope) c.add_params.result)
     (ap (λ (xs : List Param). with_params xs c4) c.as_slice-2.ensures
     ∙ sym (starts_so (code_of c.args.tabled.now) m c0 (context_of c.know.new.self) c2
-        (context_of c.know_groups.new.scope) c4 (with_params m.params c4) c.requires.empty.context first
-        c.in_ok-know_own_groups.ensures.context third c.in_ok-add_me.ensures.context refl))
+    (context_of c.know_groups.new.scope) c4 (with_params m.params c4) c.requires.empty.context first
+    c.in_ok-know_own_groups.ensures.context third c.in_ok-add_me.ensures.context refl))
     c.add_params.ensures.context

@@ -14,8 +14,8 @@ returns-in-Ok-clause-answer c =
     let h : Holds (form c.args.ty.now) ≡ Holds c.in_ok-form.form = c.in_ok-form.ensures in
     let i : c.in_ok-form.form ≡ form c.args.ty.now = cc in
     right_side_decides (code_of c.args.tabled.now) (context_of c.args.scope.now) c.args.ty.now c.args.x
-        (right_side c.args.rhs.now) c.in_ok-form.form c.in_ok-forms_type.ensures
-        (sym c.is_visible.ensures ∙ c.if-is_visible.false) i
+    (right_side c.args.rhs.now) c.in_ok-form.form c.in_ok-forms_type.ensures
+    (sym c.is_visible.ensures ∙ c.if-is_visible.false) i
     ∙ ap (λ (v : Verdict Context). v >>= λ d. Holds (with_local c.args.x.name c.in_ok-form.form d)) c.in-Ok.ensures
 
 pub returns-in-Err-clause-answer : goal.returns-in-Err-clause-answer
@@ -29,4 +29,4 @@ returns-in-Err-clause-answer c =
     first_part_fails (judge_let p k c.args.ty.now c.args.x e) (judge_right p k f e)
     (λ d. Holds (with_local c.args.x.name f d)) c.in-Err.fail
     (right_side_decides p k c.args.ty.now c.args.x e f c.in_ok-forms_type.ensures
-        (sym c.is_visible.ensures ∙ c.if-is_visible.false) i) c.in-Err.ensures
+    (sym c.is_visible.ensures ∙ c.if-is_visible.false) i) c.in-Err.ensures

@@ -1,0 +1,11 @@
+-- The lemmas of the crates below that this one goes by, and its own.
+pub use Rattle.ae_rules.proofs as from_rules
+pub use Rattle.ae_text.proofs as from_text
+pub mod FormLemmas
+pub mod LookupLemmas
+pub mod WalkLemmas
+pub mod MovedLemmas
+pub mod ReceiverLemmas
+pub mod MemberLemmas
+pub mod GivenLemmas
+pub mod CalledLemmas

@@ -1,0 +1,12 @@
+use Rattle.std.proofs.Common.{◌≡◌, drop}
+use Rattle.ae_rules.specs.Verdict.{in_turn}
+use Rattle.ae_rules.specs.Walks.{step, walk}
+use Rattle.ae_scope.specs.Scope.{context_of}
+use Rattle.ae_judge.specs.Tabled.{code_of}
+use Rattle.ae_judge.specs.Views.{place_of}
+use Rattle.ae_judge.proofs.walks.walk_along.Given as goal
+
+-- the rest decides
+abbrev pub invariant-loop-x : goal.invariant-loop-x
+invariant-loop-x l = walk (code_of l.tabled) (context_of l.scope) (record { root = l.root; steps = l.steps })
+    ≡ in_turn (step (code_of l.tabled) (context_of l.scope) l.root.at) (drop l.x-index l.steps) (place_of l.place)
