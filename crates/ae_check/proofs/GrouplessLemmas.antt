@@ -1,5 +1,6 @@
 -- In a program without groups, whose names are those of its text, each method fits.
-use Rattle.std.proofs.Common.{◌≡◌, ◌<◌, ◌+◌, ℕ, Bool, true, false, ◌&&◌, List, [], ◌∷◌, map, drop, get_or, length, zero, suc}
+use Rattle.std.proofs.Common.{◌≡◌, ◌<◌, ◌+◌, ℕ, Bool, true, false, ◌&&◌, List, [], ◌∷◌, map, drop, get_or, length}
+use Rattle.std.proofs.Common.{zero, suc}
 use Rattle.std.proofs.Common.{Some, refl, sym, ap, ◌∙◌, arith}
 use Rattle.std.specs.List.{list_all, slice_get}
 use Rattle.std.specs.Option.{option_map}
@@ -16,7 +17,8 @@ use Rattle.ae_tree.specs.WellShaped.{InBlocks, EachStatement, ActionNamed, Metho
 use Rattle.ae_rules.specs.Verdict.{Verdict, Holds, ◌>>◌, each, given}
 use Rattle.ae_rules.specs.Lookups.{is_empty}
 use Rattle.ae_check.specs.Blocks.{fits, all_fit}
-use Rattle.ae_check.specs.Groupless.{is_groupless, are_groupless, is_groupless_type, is_groupless_me, is_groupless_param}
+use Rattle.ae_check.specs.Groupless.{is_groupless, are_groupless, is_groupless_type, is_groupless_me}
+use Rattle.ae_check.specs.Groupless.{is_groupless_param}
 use Rattle.ae_check.specs.Groupless.{is_groupless_class, is_groupless_method, has_groupless_needs, UsesNoGroups}
 use Rattle.ae_check.proofs.from_text.Basics.{first_of_both, second_of_both}
 use Rattle.ae_check.proofs.MethodLemmas.{found_has_it}
@@ -35,7 +37,8 @@ mutual
   statement_fits n (Calls i) named inside g = refl
   statement_fits n (Chooses e k b) named inside g = lines_fit n b inside g
   statement_fits n (ChoosesElse e k b l b') named inside g =
-      both_are (all_fit n b) (all_fit n b') (lines_fit n b inside.0 (first_of_both (are_groupless b) (are_groupless b') g))
+      both_are (all_fit n b) (all_fit n b') (lines_fit n b inside.0
+      (first_of_both (are_groupless b) (are_groupless b') g))
       (lines_fit n b' inside.1 (second_of_both (are_groupless b) (are_groupless b') g))
   statement_fits n (Repeats e k b) named inside g = lines_fit n b inside g
   statement_fits n (Groups x) named inside g = absurd (cc)

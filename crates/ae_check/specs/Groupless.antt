@@ -80,7 +80,8 @@ is_exclusive_io n = is_exclusive n.need && nat_eq io n.group.name
 
 -- the needs of a method: `exclusive io` alone, and only of a `main` at the top
 abbrev pub has_groupless_needs : Definition → Bool
-has_groupless_needs m = is_empty m.needs || is_none m.class && nat_eq main m.name.name && list_all is_exclusive_io m.needs
+has_groupless_needs m = is_empty m.needs || is_none m.class && nat_eq main m.name.name
+    && list_all is_exclusive_io m.needs
 
 abbrev pub is_groupless_me : Me → Bool
 is_groupless_me x = is_groupless_perm x.perm

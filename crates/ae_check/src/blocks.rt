@@ -158,7 +158,8 @@ fn judge_body(
     meet(tabled, scope, mark.changes, rule, at)
 }
 
-/// A statement: its premises in order, and what is known after it.
+/// A statement of a method: refused by its first premise that fails, with its rule and place. After a refusal what is
+/// known is not said.
 #[cycle(statements)]
 #[tactic(auto, using(crate::proofs::FitLemmas::statements))]
 pub fn judge_stmt(
@@ -209,6 +210,7 @@ pub fn judge_stmt(
         StmtKind::PrintText(_) => prints(scope, at),
         StmtKind::Assert(expr) => is_value(tabled, scope, Scalar::Bool, expr),
         StmtKind::Return(expr) => judge_return(tabled, method, scope, expr, at),
+        // none of these fits
         StmtKind::Group(_) | StmtKind::Split(..) | StmtKind::Atomic(..) | StmtKind::Share(..) => {
             Err(deny(Rule::NotBuilt, at))
         }

@@ -1,5 +1,6 @@
 // Methods, from their signatures to their ends.
-ghost use Rattle.std.specs.Prelude.{◌≡◌, ◌||◌, ◌&&◌, not, is_none, true, length, All, None, Some, OnOk, IfOk, IfSome, MatchOption};
+ghost use Rattle.std.specs.Prelude.{◌≡◌, ◌||◌, ◌&&◌, not, is_none, true, length, All, None, Some};
+ghost use Rattle.std.specs.Prelude.{OnOk, IfOk, IfSome, MatchOption};
 ghost use Rattle.std.specs.Prelude.{◌∷◌, [], ◌<◌, nat_eq, is_some};
 ghost use Rattle.ae_tree.specs.Form.{bare_names, form, perm_of};
 ghost use Rattle.ae_tree.specs.Names.{this};
@@ -252,9 +253,11 @@ fn returns(method: &Method) -> Result<(), Deny>
     }
 }
 
-/// A method's end: it returns where it has to, and what was lent uniquely comes back.
+/// A method's end. Refused at the method's name, where it has a result and its last statement is no `return`; and at
+/// the receiver or a parameter that is unique and comes back, where it is not held alone. Takes no memory.
 pub fn end_method(tabled: &Tabled, method: &Method, scope: &Scope) -> Result<(), Deny>
-    ensures { Answers (spec.end_method (code_of tabled.now) (definition method.now) (context_of scope.now)) done result }
+    ensures { Answers (spec.end_method (code_of tabled.now) (definition method.now) (context_of scope.now)) done
+        result }
 {
     returns(method)?;
     receiver_comes_back(tabled, method, scope)?;
@@ -348,7 +351,8 @@ fn add_me(tabled: &Tabled, method: &Method, scope: &mut Scope) -> Result<(), All
     }
 }
 
-/// What a method knows at its start: the groups of its class, its own and `io`, its receiver and its parameters.
+/// What a method knows at its start: the groups of its class, its own and `io`, its receiver and its parameters. Never
+/// refused.
 pub fn start(tabled: &Tabled, method: &Method, scope: &mut Scope) -> Result<(), Deny>
     requires empty { Empty (length tabled.now.program.now.names) scope.old }
     requires named { MethodNamed (length tabled.now.program.now.names) (definition method.now) }
@@ -379,7 +383,8 @@ fn judge_whole(tabled: &Tabled, method: &Method, scope: &mut Scope) -> Result<()
     end_method(tabled, method, scope)
 }
 
-/// A method, from its signature to its end. Nothing is known after it.
+/// A method, from its signature to its end: refused by the first rule that its statements break, in order, or that its
+/// end breaks. Nothing is known after it; after a refusal what is known is not said.
 pub fn judge_method(tabled: &Tabled, method: &Method, scope: &mut Scope) -> Result<(), Deny>
     requires empty { Empty (length tabled.now.program.now.names) scope.old }
     requires named { MethodNamed (length tabled.now.program.now.names) (definition method.now) }

@@ -86,7 +86,8 @@ fn may_let(
     }
 }
 
-/// `let`: a new local of a type, with what its right side comes to.
+/// `let`: a new local of a type. Refused where the type may not be written, where the name is visible, and where the
+/// right side may not go into it. After a refusal what is known is not said.
 #[tactic(auto, using(ae_scope::proofs::ReplayLemmas::grown))]
 pub fn judge_let(
     tabled: &Tabled,
@@ -133,7 +134,8 @@ fn may_assign(tabled: &Tabled, scope: &Scope, x: NameAt, rhs: &Rhs) -> Result<As
     }
 }
 
-/// An assignment to a local that is no parameter that stays.
+/// An assignment. Refused where no local has the name, where it is a parameter that stays, and where the right side may
+/// not go into it. After a refusal what is known is not said.
 #[tactic(auto, using(ae_scope::proofs::ReplayLemmas::grown))]
 pub fn judge_assign(tabled: &Tabled, scope: &mut Scope, x: NameAt, rhs: &Rhs) -> Result<(), Deny>
     ensures answer { Leaves (spec.judge_assign (code_of tabled.now) (context_of scope.old) x (right_side rhs.now))
@@ -146,7 +148,7 @@ pub fn judge_assign(tabled: &Tabled, scope: &mut Scope, x: NameAt, rhs: &Rhs) ->
     Ok(())
 }
 
-/// What is printed goes to `io`.
+/// What is printed goes to `io`. Refused where `io` may not be reached. Takes no memory.
 pub fn prints(scope: &Scope, at: Spot) -> Result<(), Deny>
     ensures { Leaves (spec.prints (context_of scope.now) at) (context_of scope.now) result }
 {
@@ -175,7 +177,8 @@ fn holds_alone(scope: &Scope, x: NameAt) -> Result<(), Deny>
     }
 }
 
-/// `freeze`: an object held alone is held by everyone, and changed by no one.
+/// `freeze`: an object held alone is held by everyone, and changed by no one. Refused where the name is no local's, no
+/// object's, or that of an object that is not held alone. After a refusal what is known is not said.
 pub fn judge_freeze(scope: &mut Scope, x: NameAt) -> Result<(), Deny>
     ensures answer { Leaves (spec.judge_freeze (context_of scope.old) x) (context_of scope.new) result }
     ensures grows { OnOk result (Grows scope.old scope.new) }
@@ -185,7 +188,8 @@ pub fn judge_freeze(scope: &mut Scope, x: NameAt) -> Result<(), Deny>
     Ok(())
 }
 
-/// `return` of a method that has a result.
+/// `return`. Refused where the method is `void`, and where the expression may not go into its result. After a refusal
+/// what is known is not said.
 pub fn judge_return(
     tabled: &Tabled,
     method: &Method,
@@ -208,7 +212,7 @@ pub fn judge_return(
     }
 }
 
-/// A write to a field.
+/// A write to a field: what moves holds nothing any more. After a refusal what is known is not said.
 pub fn store(tabled: &Tabled, scope: &mut Scope, path: &Path, expr: &Expr) -> Result<(), Deny>
     ensures answer { Leaves (spec.judge_store (code_of tabled.now) (context_of scope.old) path.now
         (expression expr.now) (expression_spot (expression expr.now))) (context_of scope.new) result }

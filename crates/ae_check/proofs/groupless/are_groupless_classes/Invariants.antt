@@ -5,4 +5,5 @@ use Rattle.ae_check.proofs.groupless.are_groupless_classes.Given as goal
 
 -- the rest decides
 abbrev pub invariant-loop-class : goal.invariant-loop-class
-invariant-loop-class l = list_all is_groupless_class l.classes ≡ list_all is_groupless_class (drop l.class-index l.classes)
+invariant-loop-class l = list_all is_groupless_class l.classes
+    ≡ list_all is_groupless_class (drop l.class-index l.classes)

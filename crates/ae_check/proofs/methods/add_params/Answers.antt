@@ -23,4 +23,5 @@ loop-param-preserved c =
 pub returns-clause-context : goal.returns-clause-context
 returns-clause-context c = ap Holds (c.loop-param.invariant.rest
     ∙ ap (λ (xs : List Param). with_params xs (context_of c.loop-param.scope))
-    (drop_all c.loop-param.param-index c.args.params.now c.loop-param-test.false) ∙ none_added (context_of c.loop-param.scope))
+    (drop_all c.loop-param.param-index c.args.params.now c.loop-param-test.false)
+    ∙ none_added (context_of c.loop-param.scope))
