@@ -265,7 +265,7 @@ pub fn end_method(tabled: &Tabled, method: &Method, scope: &Scope) -> Result<(),
 }
 
 // The class that a method stands in.
-#[tactic(auto, using(crate::proofs::from_rules::BelowLemmas::found_has))]
+#[tactic(auto, using(ae_rules::proofs::BelowLemmas::found_has))]
 fn own_class<'a>(tabled: &'a Tabled, method: &Method) -> Option<&'a Class>
     requires { All (ClassNamed (length tabled.now.program.now.names)) tabled.now.program.now.classes }
     ensures kind { MatchOption result (lookup.own_kind (code_of tabled.now) method.now.class ≡ Kind.Ints)

@@ -143,7 +143,7 @@ same_held_is (held.Inner g) (held.Inner h) e = ap held.Inner (eqb-true g h e)
 same_held_is held.None held.None e = refl
 same_held_is _ _ e = absurd (cc)
 
-held_itself : (h : Held) → same_held h h ≡ true
+pub held_itself : (h : Held) → same_held h h ≡ true
 held_itself held.Unique = refl
 held_itself (held.Split n) = eq-eqb n n refl
 held_itself held.Immutable = refl

@@ -1,6 +1,5 @@
 -- The lemmas of the crates below that this one goes by, and its own.
 pub use Rattle.ae_text.proofs as from_text
-pub use Rattle.ae_tree.proofs as from_tree
 pub use Rattle.ae_rules.proofs as from_rules
 pub mod SlotLemmas
 pub mod ChangeLemmas

@@ -16,7 +16,6 @@ use Rattle.ae_rules.specs.Context.{Local, Context, same_held, held_in, all_below
 use Rattle.ae_rules.specs.Verdict.{given}
 use Rattle.ae_tree.specs.Plain.{Code}
 use Rattle.ae_scope.proofs.from_text.Basics.{first_of_both, second_of_both}
-use Rattle.ae_scope.proofs.from_tree.BelowLemmas.{either_true}
 use Rattle.ae_scope.proofs.from_rules.PredLemmas.{all_at}
 use Rattle.ae_scope.proofs.from_rules.ShapeLemmas.{same_held_is, held_itself}
 use Rattle.ae_scope.specs.declared.slot.Slot.{Slot}
@@ -171,8 +170,12 @@ all_below_all (suc n) test h = rw (h n) (all_below_all n test h)
 
 pub alike_itself : (p : Code) (o c : Context) → hold_alike p o c c ≡ true
 alike_itself p o c = all_below_all (length p.names) (λ (x : ℕ). not (is_some (o.local x)) || same_held (held_in c x)
-    (held_in c x)) (λ x. either_true (not (is_some (o.local x))) (same_held (held_in c x) (held_in c x))
+    (held_in c x)) (λ x. or_alike (not (is_some (o.local x))) (same_held (held_in c x) (held_in c x))
     (held_itself (held_in c x)))
+  where
+    or_alike : (a b : Bool) → b ≡ true → (a || b) ≡ true
+    or_alike true b e = refl
+    or_alike false b e = e
 
 pub got : (xs : List Slot) (i : ℕ) → i < length xs → (s : Slot) × (slice_get xs i ≡ Some s) × (held_at xs i ≡ s.held)
 got [] i l = absurd (omega arith)
