@@ -2,7 +2,7 @@
 use Rattle.std.specs.Prelude.{◌≡◌, ℕ, ℤ, List, [], ◌∷◌, None, option_map}
 use Rattle.ae_tree.specs.declared.tree.Decl.TheVariants as decl
 use Rattle.ae_tree.specs.Plain.{Code}
-use Rattle.ae_tree.specs.Judgement.{Accepted}
+use Rattle.ae_rules.specs.Judgement.{Accepted}
 use Rattle.ae_meaning.specs.declared.report.Ending as today_ending
 use Rattle.ae_meaning.specs.declared.report.Ending.TheVariants as ends_today
 use Rattle.ae_meaning.specs.Meaning as today

@@ -2,7 +2,7 @@
 ghost use Rattle.std.specs.Prelude.{◌≡◌, ◌<◌, ◌≤◌, ◌^◌, List, [], length, IfOk, IsSome, Some, count_by};
 ghost use Rattle.ae_tree.specs.Shown.{code, braced, lines_from};
 ghost use Rattle.ae_tree.specs.Limits.{statement_count, Within};
-ghost use Rattle.ae_tree.specs.Judgement.{Accepted};
+ghost use Rattle.ae_rules.specs.Judgement.{Accepted};
 ghost use Rattle.ae_rules.specs.BuiltUses.{block_of};
 ghost use Rattle.ae_graph.specs.Graph.{IsGraph, AreSuccs, preds_in, edges_from, is_free};
 

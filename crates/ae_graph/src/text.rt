@@ -3,7 +3,7 @@ ghost use Rattle.std.specs.Prelude.{◌≡◌, ◌<◌, ◌≤◌, ◌^◌, ◌+
 ghost use Rattle.std.specs.Fmt.{decimal};
 ghost use Rattle.ae_tree.specs.Shown.{definition, code};
 ghost use Rattle.ae_tree.specs.Limits.{statement_count, Within};
-ghost use Rattle.ae_tree.specs.Judgement.{Accepted};
+ghost use Rattle.ae_rules.specs.Judgement.{Accepted};
 ghost use Rattle.ae_graph.specs.Graph.{Graph, IsGraph};
 ghost use Rattle.ae_graph.specs.GraphText.{written_name, spaced, line_text, lines_text, block_text, method_text};
 ghost use Rattle.ae_graph.specs.GraphText.{IsGraphText, PutsMethod};

@@ -2,7 +2,7 @@
 ghost use Rattle.std.specs.Prelude.{◌≡◌, ◌++◌, IfOk, OnOk, IsSome, MatchOption, map, Some, None};
 ghost use Rattle.std.specs.Option.{option_to_list};
 ghost use Rattle.ae_tree.specs.Shown.{expression, right_side, action, braced, code};
-ghost use Rattle.ae_tree.specs.Judgement.{Accepted};
+ghost use Rattle.ae_rules.specs.Judgement.{Accepted};
 ghost use Rattle.ae_rules.specs.BuiltUses.{block_of, statement_at};
 ghost use Rattle.ae_rules.specs.Edges.{are_compatible};
 ghost use Rattle.ae_graph.specs.Footprint.{HasFootprint, IsFootprint, statement_of, names_in, names_right, read_by};

@@ -16,8 +16,8 @@ use Rattle.ae_tree.specs.Plain.{Groups, Splits, Locks, Freezes, Shares, Prints, 
 use Rattle.ae_tree.specs.Names.{io, main}
 use Rattle.ae_tree.specs.Grammar.{level}
 use Rattle.ae_tree.specs.Built.{IsBuiltExpression, IsBuiltAction, AreBuilt}
-use Rattle.ae_tree.specs.Judgement.{Scope, nobody, visible_also, Verdict, Holds, Broken, then_judge, visible, free}
-use Rattle.ae_tree.specs.Judgement.{judge_expression, judge_action, judge, judge_methods, IsHeld, Accepted}
+use Rattle.ae_rules.specs.Judgement.{Scope, nobody, visible_also, Verdict, Holds, Broken, then_judge, visible, free}
+use Rattle.ae_rules.specs.Judgement.{judge_expression, judge_action, judge, judge_methods, IsHeld, Accepted}
 use Rattle.ae_meaning.specs.declared.report.Ending.{Ending}
 use Rattle.ae_meaning.specs.declared.report.Meant.{Meant}
 use Rattle.ae_meaning.specs.Values.{Env, today_with, TodayOutcome, Fine, Traps, Lacks, then_value, today_found}

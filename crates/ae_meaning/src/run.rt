@@ -3,7 +3,7 @@ ghost use Rattle.std.specs.Prelude.{◌≡◌, ◌≢◌, ◌++◌, ◌∷◌, [
 ghost use Rattle.std.specs.Fmt.{signed_decimal};
 ghost use Rattle.ae_tree.specs.Plain.{End};
 ghost use Rattle.ae_tree.specs.Shown.{expression, right_side, action, braced, definition, code};
-ghost use Rattle.ae_tree.specs.Judgement.{Accepted};
+ghost use Rattle.ae_rules.specs.Judgement.{Accepted};
 ghost use Rattle.ae_meaning.specs.Values.{today_value};
 ghost use Rattle.ae_meaning.specs.Meaning.{today_one, today_many, main_body, begin, meaning_of_run, today_seq};
 ghost use Rattle.ae_meaning.specs.Running.{env_of, held, FindsValue, sought, AnswersAs};

@@ -21,10 +21,10 @@ use Rattle.ae_tree.specs.Plain.{Code}
 use Rattle.ae_tree.specs.Plain.{Action, Declares, Assigns, Stores, StoresAt, Calls, Chooses, ChoosesElse, Repeats}
 use Rattle.ae_tree.specs.Plain.{Groups, Splits, Locks, Freezes, Shares, Prints, PrintsText, Asserts, Returns}
 use Rattle.ae_tree.specs.Built.{IsBuiltExpression, IsBuiltRight, IsBuiltAction, AreBuilt, IsMain, Built}
-use Rattle.ae_tree.specs.Judgement.{Scope, nobody, visible_also, then_judge, visible, free, judge_expression}
-use Rattle.ae_tree.specs.Judgement.{today_judge_right as judge_right_small, judge_action, judge, judge_methods}
-use Rattle.ae_tree.specs.Judgement.{IsHeld}
-use Rattle.ae_tree.specs.Judgement.{Verdict as Small, Holds as Fits, Broken as Fails}
+use Rattle.ae_rules.specs.Judgement.{Scope, nobody, visible_also, then_judge, visible, free, judge_expression}
+use Rattle.ae_rules.specs.Judgement.{today_judge_right as judge_right_small, judge_action, judge, judge_methods}
+use Rattle.ae_rules.specs.Judgement.{IsHeld}
+use Rattle.ae_rules.specs.Judgement.{Verdict as Small, Holds as Fits, Broken as Fails}
 use Rattle.ae_rules.specs.declared.held.Held.TheVariants as held
 use Rattle.ae_rules.specs.declared.held.GroupPerm.{GroupPerm}
 use Rattle.ae_rules.specs.declared.held.GroupPerm.TheVariants as group

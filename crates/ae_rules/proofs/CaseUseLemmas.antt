@@ -20,9 +20,9 @@ use Rattle.ae_tree.specs.Plain.{Code}
 use Rattle.ae_tree.specs.Plain.{Action, Declares, Assigns, Stores, StoresAt, Calls, Chooses, ChoosesElse, Repeats}
 use Rattle.ae_tree.specs.Plain.{Groups, Splits, Locks, Freezes, Shares, Prints, PrintsText, Asserts, Returns}
 use Rattle.ae_tree.specs.Built.{IsBuiltExpression, IsBuiltRight, IsBuiltAction, AreBuilt, Built}
-use Rattle.ae_tree.specs.Judgement.{Accepted, Scope, nobody, then_judge, today_judge_right as judge_right_small}
-use Rattle.ae_tree.specs.Judgement.{judge_action, judge, judge_methods, IsHeld}
-use Rattle.ae_tree.specs.Judgement.{Verdict as Small, Holds as Fits, Broken as Fails}
+use Rattle.ae_rules.specs.Judgement.{Accepted, Scope, nobody, then_judge, today_judge_right as judge_right_small}
+use Rattle.ae_rules.specs.Judgement.{judge_action, judge, judge_methods, IsHeld}
+use Rattle.ae_rules.specs.Judgement.{Verdict as Small, Holds as Fits, Broken as Fails}
 use Rattle.ae_rules.specs.BuiltUses.{reads_local as reads_name, reads_right, read_if, use_of, statement_at, use_at}
 use Rattle.ae_rules.specs.Verdict.{Verdict, Holds, Broken, judged}
 use Rattle.ae_rules.specs.Context.{Local, Context}

@@ -8,7 +8,7 @@ use Rattle.ae_rules.specs.declared.uses.Resource.{Resource}
 use Rattle.ae_tree.specs.Plain.{Definition, Code}
 use Rattle.ae_tree.specs.Grammar.{Derives}
 use Rattle.ae_tree.specs.Built.{Built}
-use Rattle.ae_tree.specs.Judgement.{Accepted, TodayBreaks}
+use Rattle.ae_rules.specs.Judgement.{Accepted, TodayBreaks}
 use Rattle.ae_rules.specs.BuiltUses.{use_at}
 use Rattle.ae_rules.specs.Judges.{Accepts, FirstBroken}
 use Rattle.ae_rules.specs.Blocks.{Scene, scene, scene_uses}

@@ -26,4 +26,5 @@ pub mod Effects
 pub mod Laws
 pub mod BlockLaws
 pub mod Roots
+pub mod Judgement
 pub mod Cases

@@ -8,7 +8,7 @@ use Rattle.ae_tree.specs.declared.tree.Program.{Program}
 use Rattle.ae_tree.specs.Names.{main}
 use Rattle.ae_tree.specs.Plain.{Lines, Definition, Code}
 use Rattle.ae_tree.specs.Shown.{lines_from, lines-out, definition, code}
-use Rattle.ae_tree.specs.Judgement.{Accepted}
+use Rattle.ae_rules.specs.Judgement.{Accepted}
 use Rattle.ae_rules.specs.BuiltUses.{block_in, block_of}
 use Rattle.ae_meaning.specs.Meaning.{today_many, begin, meaning_of_run, main_body, today_seq}
 use Rattle.ae_run.proofs.from_meaning.Fits.{main_is}

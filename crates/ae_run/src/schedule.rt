@@ -2,7 +2,7 @@
 ghost use Rattle.std.specs.Prelude.{◌≡◌, ◌<◌, ◌≤◌, ℕ, length, IfOk, Some, IsSome};
 ghost use Rattle.ae_tree.specs.Shown.{code, lines_from};
 ghost use Rattle.ae_tree.specs.Limits.{Within};
-ghost use Rattle.ae_tree.specs.Judgement.{Accepted};
+ghost use Rattle.ae_rules.specs.Judgement.{Accepted};
 ghost use Rattle.ae_graph.specs.Graph.{IsGraph};
 ghost use Rattle.ae_meaning.specs.Meaning.{today_many, begin, meaning_of_run, today_seq};
 ghost use Rattle.ae_run.specs.Course.{IsOnCourse, IsOver};

@@ -5,7 +5,6 @@ pub mod Grammar
 pub mod Limits
 pub mod Refused
 pub mod Built
-pub mod Judgement
 pub mod Form
 pub mod WellShaped
 pub mod FreeThis

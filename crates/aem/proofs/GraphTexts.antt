@@ -14,7 +14,7 @@ use Rattle.ae_tree.specs.Limits.{statement_count}
 use Rattle.ae_rules.specs.Edges.{BlockUses, IsRising, Preds}
 use Rattle.ae_rules.specs.BuiltUses.{use_at}
 use Rattle.ae_tree.specs.Built.{IsBuiltAction, AreBuilt, Built}
-use Rattle.ae_tree.specs.Judgement.{Accepted}
+use Rattle.ae_rules.specs.Judgement.{Accepted}
 use Rattle.ae_tree.specs.declared.tree.Class.{Class}
 use Rattle.ae_rules.specs.Verdict.{Verdict, Holds, Broken, given, judged}
 use Rattle.ae_rules.specs.Lookups.{class_at}

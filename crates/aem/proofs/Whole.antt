@@ -3,7 +3,7 @@ use Rattle.std.proofs.Common.{◌≡◌, inr, Result, Err, ℕ, List, [], ◌++�
 use Rattle.std.specs.Prelude.{option_map}
 use Rattle.ae_tree.specs.Plain.{Code, Lines}
 use Rattle.ae_tree.specs.Built.{Built}
-use Rattle.ae_tree.specs.Judgement.{Accepted, Verdict, Holds, Broken, nobody, then_judge, judge, judge_methods, IsHeld}
+use Rattle.ae_rules.specs.Judgement.{Accepted, Verdict, Holds, Broken, nobody, then_judge, judge, judge_methods, IsHeld}
 use Rattle.ae_rules.specs.Cases.{BuiltDeclaresOne, DeclaresOne, TodaysJudgementIsACase}
 use Rattle.ae_rules.specs.Judges.{Accepts}
 use Rattle.ae_meaning.specs.declared.report.RunReport.{RunReport}

@@ -2,7 +2,7 @@
 use Rattle.std.specs.Prelude.{◌≡◌, ℕ, nat_eq, Option, None, Some}
 use Rattle.std.specs.HashSet.{HashSet, contains}
 use Rattle.ae_text.specs.declared.refusal.Refusal.{Refusal}
-use Rattle.ae_tree.specs.Judgement.{Scope, Verdict, Holds, Broken, IsHeld}
+use Rattle.ae_rules.specs.Judgement.{Scope, Verdict, Holds, Broken, IsHeld}
 
 -- the names of a set are visible
 abbrev pub scope : {S : Type 0} → HashSet ℕ S → Scope

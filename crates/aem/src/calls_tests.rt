@@ -3,7 +3,7 @@ ghost use Rattle.std.specs.Prelude.{◌≡◌, true, IfOk};
 ghost use Rattle.ae_tree.specs.Shown.{code};
 ghost use Rattle.ae_tree.specs.Built.{Built};
 ghost use Rattle.ae_tree.specs.Limits.{Within};
-ghost use Rattle.ae_tree.specs.Judgement.{Accepted};
+ghost use Rattle.ae_rules.specs.Judgement.{Accepted};
 
 use crate::built::is_built;
 use crate::modes::body_of;

@@ -1,8 +1,8 @@
 // The names of a program: which are declared, and which are visible where they are used.
 ghost use Rattle.std.specs.Prelude.{◌≡◌, ◌↔◌, IsTrue, IfOk};
 ghost use Rattle.ae_tree.specs.Shown.{expression, right_side, action, lines_from};
-ghost use Rattle.ae_tree.specs.Judgement.{nobody, visible, free, visible_also, judge, judge_action, judge_expression};
-ghost use Rattle.ae_tree.specs.Judgement.{today_judge_right};
+ghost use Rattle.ae_rules.specs.Judgement.{nobody, visible, free, visible_also, judge, judge_action, judge_expression};
+ghost use Rattle.ae_rules.specs.Judgement.{today_judge_right};
 ghost use Rattle.ae_tree.specs.Names.{io};
 ghost use Rattle.aem.specs.Names.{scope, FoundBroken, FoundIn};
 

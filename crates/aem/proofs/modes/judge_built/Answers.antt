@@ -1,6 +1,6 @@
 use Rattle.std.proofs.Common.{subst}
 use Rattle.ae_tree.specs.Shown.{code, lines_from}
-use Rattle.ae_tree.specs.Judgement.{nobody, judge}
+use Rattle.ae_rules.specs.Judgement.{nobody, judge}
 use Rattle.aem.specs.Names.{FoundIn}
 use Rattle.aem.proofs.Whole.{accepts, broken}
 use Rattle.aem.proofs.modes.judge_built.Goals as goal

@@ -1,6 +1,6 @@
 use Rattle.std.proofs.Common.{◌≡◌, drop}
 use Rattle.ae_tree.specs.Shown.{lines_from}
-use Rattle.ae_tree.specs.Judgement.{nobody, judge}
+use Rattle.ae_rules.specs.Judgement.{nobody, judge}
 use Rattle.aem.specs.Names.{scope}
 use Rattle.aem.proofs.names.first_broken.Given as goal
 
