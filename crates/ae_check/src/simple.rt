@@ -13,9 +13,8 @@ ghost use Rattle.ae_scope.specs.Scope.{context_of};
 ghost use Rattle.ae_scope.specs.Grows.{Grows};
 ghost use Rattle.ae_check.specs.Simple.{assigned, called, introduced};
 
-use ae_judge::{
-    Tabled, deny, forms_type, into, judge_call, judge_right, judge_store, judge_store_at,
-};
+use ae_calls::{judge_call, judge_right};
+use ae_judge::{Tabled, deny, forms_type, into, judge_store, judge_store_at};
 use ae_rules::Held;
 use ae_scope::{Scope, held_of};
 use ae_text::{Deny, Rule, Spot};

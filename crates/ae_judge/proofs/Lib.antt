@@ -4,8 +4,4 @@ pub use Rattle.ae_text.proofs as from_text
 pub mod FormLemmas
 pub mod LookupLemmas
 pub mod WalkLemmas
-pub mod MovedLemmas
 pub mod ReceiverLemmas
-pub mod MemberLemmas
-pub mod GivenLemmas
-pub mod CalledLemmas

@@ -1,6 +1,4 @@
 -- What the answers of this crate show.
-use Rattle.std.specs.Prelude.{ℕ, nat_eq}
-use Rattle.std.specs.HashSet.{HashSet, contains}
 use Rattle.ae_tree.specs.declared.form.Form.{Form}
 use Rattle.ae_tree.specs.declared.form.Form.TheVariants as f
 use Rattle.ae_rules.specs.Walks.{Place as PlaceThere}
@@ -8,10 +6,7 @@ use Rattle.ae_rules.specs.Expressions.{Operands as OperandsThere}
 use Rattle.ae_rules.specs.Expressions.{Numbers, Truths, Equals}
 use Rattle.ae_rules.specs.Into.{Source as SourceThere}
 use Rattle.ae_rules.specs.Into.{Null, From}
-use Rattle.ae_rules.specs.Lookups.{Names}
-use Rattle.ae_rules.specs.Calls.{Roots as RootsThere}
 use Rattle.ae_judge.specs.declared.walks.Place.{Place}
-use Rattle.ae_judge.specs.declared.roots.Roots.{Roots}
 use Rattle.ae_judge.specs.declared.values.Scalar.{Scalar}
 use Rattle.ae_judge.specs.declared.values.Scalar.TheVariants as scalar
 use Rattle.ae_judge.specs.declared.values.Operands.{Operands}
@@ -38,11 +33,3 @@ operands_of operands.Equals = Equals
 abbrev pub source_of : Source → SourceThere
 source_of source.Null = Null
 source_of (source.From path) = From path.now
-
--- a set of names
-abbrev pub set_of_names : {S : Type 0} → HashSet ℕ S → Names
-set_of_names set x = contains nat_eq set x
-
--- the roots so far
-abbrev pub roots_of : Roots → RootsThere
-roots_of r = record { used = set_of_names r.used; alone = set_of_names r.alone }
