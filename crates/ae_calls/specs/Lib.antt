@@ -2,5 +2,4 @@ pub mod Roots
 pub mod Made
 pub mod Callee
 pub mod Param
-pub mod Needs
 pub mod Called

@@ -16,6 +16,7 @@ use Rattle.ae_rules.specs.Statements.{judge_statement, judge_lines}
 use Rattle.ae_rules.specs.Blocks.{Scene}
 use Rattle.ae_meaning.specs.Values as today_values
 use Rattle.ae_meaning.specs.Meaning as today
+use Rattle.ae_meaning.specs.Judged.{Integers}
 use Rattle.ae_semantics.specs.Values.{Val, OfInt}
 use Rattle.ae_semantics.specs.Places.{Outcome, Fine, ◌>>=◌, Bound, State, with_bound}
 use Rattle.ae_semantics.specs.Expressions.{value}
@@ -30,7 +31,7 @@ use Rattle.ae_semantics.specs.Meaning.{many}
 use Rattle.ae_semantics.specs.Equations.{one-Declares, one-Assigns, one-Prints, many-End, many-Next}
 use Rattle.ae_semantics.specs.Means.{source_machine, pieces_bytes}
 use Rattle.ae_cases.specs.Laws.{as_whole}
-use Rattle.ae_cases.proofs.Judged.{Integers, integers-declared, integers-held, let_is, Assigned, assign_is, print_is}
+use Rattle.ae_cases.proofs.from_meaning.Judged.{integers-declared, integers-held, let_is, Assigned, assign_is, print_is}
 use Rattle.ae_cases.proofs.Values.{held, outcome, SameLocals, same_value}
 use Rattle.ae_cases.proofs.from_rules.PathLemmas.{first_holds}
 
@@ -149,7 +150,7 @@ action_alike : (p : Code) (b : Option (Below (List Seen))) (here : Where) (at : 
     → AlikeRuns (today.today_and_then (today.today_one at x t) rest)
     (and_then (one (source_machine p) b here at x s n) more)
 action_alike p b here at (Declares (ty.Int place) x (Value e)) d i c h t s n l k rest more a =
-    let after_it : c ≡ declared x.name form_of.Int here.context = let_is p here.context c place x e h in
+    let after_it : c ≡ declared x.name form_of.Int here.context = (let_is p here.context c place x e h).0 in
     let known : Integers c = subst Integers (sym after_it) (integers-declared here.context x.name i) in
     rw (one-Declares (source_machine p) b here at (ty.Int place) x (Value e) s n)
     (set_alike p b here at x.name e d.1 t s n l k rest more (λ v. a known
@@ -161,7 +162,7 @@ action_alike p b here at (Declares (ty.Int z) x (Zeros e place)) d i c h t s n l
 action_alike p b here at (Declares (ty.Int z) x (Made q gs args place)) d i c h t s n l k rest more a = absurd d.1
 action_alike p b here at (Declares (ty.Int z) x (Returned q)) d i c h t s n l k rest more a = absurd d.1
 action_alike p b here at (Assigns x (Value e)) d i c h t s n l k rest more a =
-    let j : Assigned here.context x.name c = assign_is p here.context c i x e h in
+    let j : Assigned p here.context x.name e c = assign_is p here.context c i x e h in
     let known : Integers c = subst Integers (sym j.after)
     (integers-held here.context x.name (held_of j.local.form) i) in
     rw (one-Assigns (source_machine p) b here at x (Value e) s n)
@@ -174,7 +175,7 @@ action_alike p b here at (Assigns x (Returned q)) d i c h t s n l k rest more a 
 action_alike p b here at (Prints e) d i c h t s n l k rest more a =
     rw (one-Prints (source_machine p) b here at e s n)
     (print_alike p here at e d t s n l k rest more
-    (λ v m w. a (subst Integers (sym (print_is p here.context c at e h)) i) (today.today_printed v t) s m l w))
+    (λ v m w. a (subst Integers (sym (print_is p here.context c at e h).0) i) (today.today_printed v t) s m l w))
 action_alike p b here at (Stores path e) d i c h t s n l k rest more a = absurd d
 action_alike p b here at (StoresAt path z e) d i c h t s n l k rest more a = absurd d
 action_alike p b here at (Calls q) d i c h t s n l k rest more a = absurd d

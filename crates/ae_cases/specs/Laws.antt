@@ -1,8 +1,9 @@
 -- The meaning of the programs that run today is a case of the meaning of the whole language.
-use Rattle.std.specs.Prelude.{◌≡◌, ℕ, ℤ, List, [], ◌∷◌, None, option_map}
-use Rattle.ae_tree.specs.declared.tree.Decl.TheVariants as decl
+use Rattle.std.specs.Prelude.{◌≡◌, ℕ, ℤ, List, None, option_map}
 use Rattle.ae_tree.specs.Plain.{Code}
-use Rattle.ae_rules.specs.Judgement.{Accepted}
+use Rattle.ae_tree.specs.WellShaped.{WellShaped}
+use Rattle.ae_tree.specs.Built.{Built}
+use Rattle.ae_rules.specs.Judges.{Accepts}
 use Rattle.ae_meaning.specs.declared.report.Ending as today_ending
 use Rattle.ae_meaning.specs.declared.report.Ending.TheVariants as ends_today
 use Rattle.ae_meaning.specs.Meaning as today
@@ -23,7 +24,7 @@ pub record IsAsToday (m : today.Meaning) (w : whole.Meant) : Type 0 where
   pub out : pieces_bytes w.log ≡ m.out
   pub unsplit : w.cell ≡ None
 
--- an accepted program whose one declaration is its method comes to the same by both meanings
+-- a well-shaped and accepted program of the forms that run comes to the same by both meanings
 abbrev pub TodayIsACase : Type 0
-TodayIsACase = (p : Code) → Accepted p → p.decls ≡ decl.Method 0 ∷ [] → (ints : List ℤ) (fuel : ℕ)
+TodayIsACase = (p : Code) → WellShaped p → Accepts p → Built p → (ints : List ℤ) (fuel : ℕ)
     → IsAsToday (today.today_seq p ints fuel) (whole.seq p ints fuel)

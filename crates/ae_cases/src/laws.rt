@@ -1,11 +1,8 @@
 // The meaning of the programs that run today, against the meaning of the whole language.
 ghost use Rattle.ae_cases.specs.Laws.{TodayIsACase};
 
-use ae_rules::todays_judgement_is_a_case;
-
-/// A program that runs today has the same ending and prints the same bytes by the meaning of the whole language.
+/// An accepted program that runs today has the same ending and prints the same bytes by the meaning of the whole
+/// language.
 pub fn today_is_a_case()
     ensures { TodayIsACase }
-{
-    todays_judgement_is_a_case();
-}
+{}

@@ -1,6 +1,7 @@
 -- Two branches from one scope, compared, and what the statements with blocks come to.
-use Rattle.std.proofs.Common.{◌≡◌, ℕ, Bool, true, false, ◌&&◌, List, drop, length, arith, Result, Ok, Err}
-use Rattle.std.proofs.Common.{Option, Some, None, refl, sym, ap, subst, ◌∙◌}
+use Rattle.std.proofs.Common.{◌≡◌, ℕ, Bool, true, false, ◌&&◌, List, [], ◌∷◌, take, drop, length, arith, Result, Ok}
+use Rattle.std.proofs.Common.{Err}
+use Rattle.std.proofs.Common.{Option, Some, refl, sym, ap, subst, ◌∙◌}
 use Rattle.std.specs.Prelude.{⊤, OnOk}
 use Rattle.std.specs.Result.{IsErrAnd}
 use Rattle.ae_text.specs.declared.refusal.Spot.{Spot}
@@ -13,7 +14,7 @@ use Rattle.ae_tree.specs.declared.tree.StmtKind.{StmtKind}
 use Rattle.ae_tree.specs.declared.tree.StmtKind.TheVariants as stmt
 use Rattle.ae_tree.specs.declared.form.Form.TheVariants as formed
 use Rattle.ae_tree.specs.Plain.{Action, Lines, Definition, Code}
-use Rattle.ae_tree.specs.Shown.{expression, action, action-If_else, action-While, braced}
+use Rattle.ae_tree.specs.Shown.{expression, action, action-If_else, braced}
 use Rattle.ae_rules.specs.Answers.{Leaves}
 use Rattle.ae_rules.specs.Verdict.{Verdict, Holds, ◌>>=◌, ◌>>◌, fine, require}
 use Rattle.ae_rules.specs.Context.{Context, hold_alike}
@@ -24,13 +25,17 @@ use Rattle.ae_scope.specs.declared.slot.Slot.{Slot}
 use Rattle.ae_scope.specs.declared.slot.Change.{Change}
 use Rattle.ae_scope.specs.Slots.{Tied, names, local_in, all_same, now_held, rewound, replayed}
 use Rattle.ae_scope.specs.Scope.{context_of}
-use Rattle.ae_scope.specs.Grows.{Grows}
-use Rattle.ae_check.specs.Blocks.{Branched, block_verdict, body_verdict, choice_verdict}
-use Rattle.ae_check.proofs.FitLemmas.{lone_choice_is_shown}
+use Rattle.ae_scope.specs.declared.slot.Mark.{Mark}
+use Rattle.ae_scope.specs.Grows.{Marks}
+use Rattle.ae_check.specs.Blocks.{Branched, Ended, block_verdict, choice_verdict}
+use Rattle.std.proofs.lemmas.List.{length-map, take_all}
+use Rattle.ae_rules.specs.declared.held.Held.{Held}
+use Rattle.ae_scope.specs.Slots.{hold_at}
+use Rattle.ae_check.proofs.from_scope.ChangeLemmas.{names_rewound, names_hold}
 use Rattle.ae_check.proofs.from_text.Basics.{first_of_both, second_of_both}
 use Rattle.ae_check.proofs.from_scope.ReplayLemmas.{grows_then}
 use Rattle.ae_check.proofs.from_scope.ContextLemmas.{same_context, groups_in}
-use Rattle.ae_check.proofs.from_scope.StackLemmas.{stack, stack_is}
+use Rattle.ae_check.proofs.from_scope.StackLemmas.{stack, stack_is, groups_are}
 use Rattle.ae_check.proofs.from_scope.JoinLemmas.{Alike, same_scope, grows_alike, joined, join_compared, replayed_is}
 
 -- where a test is a comparison that makes two contexts one, either of them stays
@@ -40,38 +45,44 @@ either_stays true at c d h = ap Holds (h refl)
 either_stays false at c d h = refl
 
 -- what is known after the second branch was taken back and the first done again
-pub record Rejoined (s u : Scope) (n : ℕ) (first second : List Change) (w q v : Scope) (x y : Bool) : Type 0 where
-  pub branched : Branched s u n first w
+pub record Rejoined (s u : Scope) (mark : Mark) (first second : List Change) (w q v : Scope) (x y : Bool) : Type 0 where
+  pub branched : Branched s u mark first w
   pub same : x ≡ all_same first w.locals.items
-  pub noted : second ≡ now_held (drop n w.trail.items) w.locals.items
+  pub noted : second ≡ now_held (drop mark.changes w.trail.items) w.locals.items
   pub back : Alike s q
   pub again : v.locals.items ≡ replayed first q.locals.items
-  pub grows : Grows q v
+  pub groups : v.groups.perms.items ≡ s.groups.perms.items
   pub same_too : y ≡ all_same second v.locals.items
 
 -- the two comparisons decide whether the branches meet, and then the first context is the second
-pub branches_meet_so : (p : Code) (at : Spot) (s u w q v : Scope) (n : ℕ) (first second : List Change) (x y : Bool)
-    → length s.at.items ≡ length p.names → Rejoined s u n first second w q v x y
+pub branches_meet_so : (p : Code) (at : Spot) (s u w q v : Scope) (mark : Mark) (first second : List Change) (x y :
+    Bool)
+    → length s.at.items ≡ length p.names → Rejoined s u mark first second w q v x y
     → branches_meet p (context_of s) at (context_of u) (context_of w)
     ≡ (require (x && y) rule.BranchesDiffer at >> Holds (context_of v))
-branches_meet_so p at s u w q v n first second x y bound j =
+branches_meet_so p at s u w q v mark first second x y bound j =
     let b = j.branched in
+    let n = mark.changes in
     let cs = drop n u.trail.items in
     let ds = drop n w.trail.items in
     let xs = u.locals.items in
     let ys = w.locals.items in
-    let gs = groups_in s.groups.items in
+    let gs = groups_in s.groups.perms.items in
     let f : rewound cs xs ≡ s.locals.items =
-    ap (λ (k : ℕ). rewound (drop k u.trail.items) xs) b.mark ∙ stack_is s u b.first_grows b.first_length in
+    ap (λ (k : ℕ). rewound (drop k u.trail.items) xs) b.marks.changes ∙ stack_is s u b.first_ended.grows
+    b.first_ended.locals in
     let g : rewound ds ys ≡ s.locals.items =
-    ap (λ (k : ℕ). rewound (drop k w.trail.items) ys) b.mark ∙ stack_is s w b.second_grows b.second_length in
+    ap (λ (k : ℕ). rewound (drop k w.trail.items) ys) b.marks.changes ∙ stack_is s w b.second_ended.grows
+    b.second_ended.locals in
     let h : v.locals.items ≡ xs =
     j.again ∙ ap (λ (k : List Change). replayed k q.locals.items) b.noted
     ∙ ap (replayed (now_held cs xs)) (j.back.locals ∙ sym f) ∙ replayed_is cs xs in
     let cu : context_of u ≡ stack xs gs =
-    same_context (context_of u) (stack xs gs) refl (ap groups_in b.first_grows.groups) in
+    same_context (context_of u) (stack xs gs) refl (ap groups_in (groups_are s u b.first_ended.grows
+    b.first_ended.group_trail)) in
     let cw : context_of w ≡ stack ys gs =
-    same_context (context_of w) (stack ys gs) refl (ap groups_in b.second_grows.groups) in
+    same_context (context_of w) (stack ys gs) refl (ap groups_in (groups_are s w b.second_ended.grows
+    b.second_ended.group_trail)) in
     let co : context_of s ≡ stack (rewound cs xs) gs =
     same_context (context_of s) (stack (rewound cs xs) gs) (ap local_in (sym f)) refl in
     let t : Tied s.at.items (names (rewound cs xs)) =
@@ -90,7 +101,7 @@ branches_meet_so p at s u w q v n first second x y bound j =
     let one : (x && y) ≡ true → context_of w ≡ context_of v = λ e.
     same_context (context_of w) (context_of v) (ap local_in (joined cs ds xs ys (f ∙ sym g)
     (sym x_is ∙ first_of_both x y e) (sym y_is ∙ second_of_both x y e) ∙ sym h))
-    (ap groups_in (b.second_grows.groups ∙ sym (j.grows.groups ∙ j.back.groups))) in
+    (ap groups_in (groups_are s w b.second_ended.grows b.second_ended.group_trail ∙ sym j.groups)) in
     ap (λ (k : Bool). require k rule.BranchesDiffer at >> Holds (context_of w)) alike
     ∙ either_stays (x && y) at (context_of w) (context_of v) one
 
@@ -101,9 +112,7 @@ then_this_stays z at x v (Ok _) e h = e ∙ ap (λ (w : Verdict (Unit {0})). w >
 then_this_stays z at x v (Err deny.Memory) e h = tt
 then_this_stays z at x v (Err (deny.Refused f)) e h = e ∙ ap (λ (w : Verdict (Unit {0})). w >> Holds x) h
 
--- ---- what a statement with blocks is
-
--- the condition holds, and then the blocks decide
+-- the condition of a choice holds, and then its blocks decide
 pub blocks_decide : (p : Code) (m : Definition) (at : Spot) (c : Context) (kind : StmtKind) (e : Expr)
     (then other : Block) (o : Option Block) → kind ≡ stmt.If e then o → o ≡ Some other
     → is_value p c formed.Bool (expression e) ≡ fine
@@ -112,21 +121,6 @@ blocks_decide p m at c kind e then other o k l v =
     ap (λ (x : StmtKind). judge_statement p m at (action x) c) (k ∙ ap (λ (x : Option Block). stmt.If e then x) l)
     ∙ ap (λ (x : Action). judge_statement p m at x c) (action-If_else e then other)
     ∙ ap (λ (x : Verdict ⊤). x >> choice_verdict p m (braced then).lines (braced other).lines at c) v
-
-pub lone_block_decides : (p : Code) (m : Definition) (at : Spot) (c : Context) (kind : StmtKind) (e : Expr)
-    (then : Block) (o : Option Block) → kind ≡ stmt.If e then o → o ≡ None
-    → is_value p c formed.Bool (expression e) ≡ fine → judge_statement p m at (action kind) c
-    ≡ body_verdict p m (braced then).lines rule.BranchesDiffer at c
-lone_block_decides p m at c kind e then o k l v =
-    ap (λ (x : Action). judge_statement p m at x c) (lone_choice_is_shown kind e then o k l)
-    ∙ ap (λ (x : Verdict ⊤). x >> body_verdict p m (braced then).lines rule.BranchesDiffer at c) v
-
-pub loop_block_decides : (p : Code) (m : Definition) (at : Spot) (c : Context) (kind : StmtKind) (e : Expr)
-    (b : Block) → kind ≡ stmt.While e b → is_value p c formed.Bool (expression e) ≡ fine
-    → judge_statement p m at (action kind) c ≡ body_verdict p m (braced b).lines rule.LoopChanges at c
-loop_block_decides p m at c kind e b k v =
-    ap (λ (x : Action). judge_statement p m at x c) (ap action k ∙ action-While e b)
-    ∙ ap (λ (x : Verdict ⊤). x >> body_verdict p m (braced b).lines rule.LoopChanges at c) v
 
 -- an answer to what is the same
 pub answers_the_same : {A : Type 0} (v w : Verdict A) (x : A) (r : Result (Unit {0}) Deny) → v ≡ w → Leaves w x r
@@ -175,14 +169,44 @@ both_blocks_hold p m b b' at s u r w e a h =
     ∙ ap (λ (v : Verdict Context). v >>= λ d'. branches_meet p (context_of s) at (context_of u) d') h
 
 -- what is known once both were judged
-pub branched_so : (s u r w : Scope) (n : ℕ) (first : List Change) → n ≡ length s.trail.items → Grows s u
-    → length u.locals.items ≡ length s.locals.items → first ≡ now_held (drop n u.trail.items) u.locals.items
-    → Alike s r → Grows r w → length w.locals.items ≡ length r.locals.items → Branched s u n first w
-branched_so s u r w n first e g l k a h m = record {
-  mark = e;
-  first_grows = g;
-  first_length = l;
-  noted = k;
-  second_grows = grows_then s r w (grows_alike s r a) h;
-  second_length = m ∙ ap length a.locals;
+pub branched_so : (s u r w : Scope) (mark : Mark) (first : List Change) → Marks s mark → Ended s u
+    → first ≡ now_held (drop mark.changes u.trail.items) u.locals.items → Alike s r → Ended r w
+    → Branched s u mark first w
+branched_so s u r w mark first k e n a f = record {
+  marks = k;
+  first_ended = e;
+  noted = n;
+  second_ended = record {
+    grows = grows_then s r w (grows_alike s r a) f.grows;
+    locals = f.locals ∙ ap length a.locals;
+    group_trail = f.group_trail ∙ a.group_trail;
+  };
 }
+
+-- the mark of a scope is that of one that is alike
+pub marks_alike : (s r : Scope) (mark : Mark) → Marks s mark → Alike s r → Marks r mark
+marks_alike s r mark k a = record {
+  locals = k.locals ∙ ap length (sym a.locals);
+  changes = k.changes ∙ ap length (sym a.trail);
+  groups = k.groups ∙ ap length (sym a.group_trail);
+}
+
+-- ---- as many locals as before
+
+pub as_many_taken_back : (cs : List Change) (xs : List Slot) → length (rewound cs xs) ≡ length xs
+as_many_taken_back cs xs =
+    sym (length-map (rewound cs xs) (λ (r : Slot). r.name)) ∙ ap length (names_rewound cs xs)
+    ∙ length-map xs (λ (r : Slot). r.name)
+
+as_many_held : (xs : List Slot) (i : ℕ) (h : Held) → length (hold_at xs i h) ≡ length xs
+as_many_held xs i h =
+    sym (length-map (hold_at xs i h) (λ (r : Slot). r.name)) ∙ ap length (names_hold xs i h)
+    ∙ length-map xs (λ (r : Slot). r.name)
+
+as_many_replayed : (cs : List Change) (xs : List Slot) → length (replayed cs xs) ≡ length xs
+as_many_replayed [] xs = refl
+as_many_replayed (c ∷ cs) xs = as_many_replayed cs (hold_at xs c.slot c.held) ∙ as_many_held xs c.slot c.held
+
+-- what is done again adds no local
+pub as_many_done_again : (cs : List Change) (xs : List Slot) → take (length xs) (replayed cs xs) ≡ replayed cs xs
+as_many_done_again cs xs = take_all (length xs) (replayed cs xs) (omega (arith, as_many_replayed cs xs))

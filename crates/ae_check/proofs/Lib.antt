@@ -4,8 +4,12 @@ pub use Rattle.ae_rules.proofs as from_rules
 pub use Rattle.ae_scope.proofs as from_scope
 mod MovedLemmas
 mod LetLemmas
-mod FitLemmas
+mod ShareLemmas
+mod NamedLemmas
+mod ReadyLemmas
+mod StartLemmas
+mod EscapeLemmas
 mod BlockLemmas
 mod BranchLemmas
 mod MethodLemmas
-mod GrouplessLemmas
+mod ProgramLemmas

@@ -4,10 +4,8 @@ use Rattle.std.proofs.Common.{subst, Result, Ok, Err}
 use Rattle.std.proofs.Common.{drop, get_or, length, Option, None, Some, refl, sym, ap, ◌∙◌, arith}
 use mathlib.Core.Path.{fun_ext}
 use Rattle.std.specs.Option.{is_some, option_map}
-use Rattle.std.specs.List.{All, slice_get}
+use Rattle.std.specs.List.{slice_get}
 use Rattle.std.proofs.lemmas.List.{drop_more}
-use Rattle.std.proofs.lemmas.List.Elements.{All-get_or}
-use Rattle.std.proofs.lemmas.Option.{slice_get-get_or, slice_get_within}
 use Rattle.std.proofs.lemmas.Bool.Decides.{nat_tests}
 use Rattle.std.specs.Prelude.{⊤}
 use Rattle.std.specs.Result.{IsErrAnd}
@@ -28,11 +26,11 @@ use Rattle.ae_rules.specs.Verdict.{Verdict, Holds, Broken, ◌>>=◌, ◌>>◌, 
 use Rattle.ae_rules.specs.Statements.{judge_lines, end_block}
 use Rattle.ae_rules.specs.Lookups.{has_name, groups_of, own_kind}
 use Rattle.ae_rules.specs.Context.{Local, Context, held_of}
-use Rattle.ae_rules.specs.Calls.{me_form}
 use Rattle.ae_rules.specs.Judges.{start, me_local, param_local, param_called, does_stay, is_return, returns}
 use Rattle.ae_rules.specs.Judges.{end_method, judge_method}
 use Rattle.ae_scope.specs.Scope.{nothing_known, with_parameter, with_known}
-use Rattle.ae_check.specs.Methods.{needed, with_needed, with_params, with_me, whole_verdict}
+use Rattle.ae_groups.specs.Contexts.{needed}
+use Rattle.ae_check.specs.Methods.{with_needed, with_params, with_me, whole_verdict}
 use Rattle.ae_check.proofs.from_text.Basics.{first_of_neither}
 use Rattle.ae_check.proofs.from_scope.ContextLemmas.{same_context}
 

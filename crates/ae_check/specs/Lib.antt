@@ -1,4 +1,4 @@
-pub mod Groupless
+pub mod Ready
 pub mod Simple
 pub mod Blocks
 pub mod Methods

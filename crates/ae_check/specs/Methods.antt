@@ -4,18 +4,13 @@ use Rattle.ae_tree.specs.declared.tree.Param.{Param}
 use Rattle.ae_tree.specs.declared.tree.GroupNeed.{GroupNeed}
 use Rattle.ae_tree.specs.Names.{this}
 use Rattle.ae_tree.specs.Plain.{Definition, Code}
-use Rattle.ae_rules.specs.declared.held.GroupPerm.{GroupPerm}
-use Rattle.ae_rules.specs.declared.held.GroupPerm.TheVariants as group
 use Rattle.ae_rules.specs.Verdict.{Verdict, ◌>>=◌, given}
 use Rattle.ae_rules.specs.Lookups.{has_name}
 use Rattle.ae_rules.specs.Context.{Local, Context}
-use Rattle.ae_rules.specs.Judges.{permission_needed, need_for, me_local, param_local, param_called, end_method}
+use Rattle.ae_groups.specs.Contexts.{needed}
+use Rattle.ae_rules.specs.Judges.{me_local, param_local, param_called, end_method}
 use Rattle.ae_code.specs.declared.checked.Checked.{Checked}
 use Rattle.ae_check.specs.Blocks.{block_verdict}
-
--- the permission of a known group
-abbrev pub needed : List GroupNeed → ℕ → GroupPerm
-needed ns g = given (need_for ns g) group.None (λ (n : GroupNeed). permission_needed n.need)
 
 -- more groups are known, each with the permission of its need
 abbrev pub with_needed : List GroupNeed → List ℕ → Context → Context

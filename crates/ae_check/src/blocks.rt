@@ -1,6 +1,8 @@
 // Blocks: their statements in order, and what is compared after them.
-ghost use Rattle.std.specs.Prelude.{◌≡◌, ◌≤◌, ◌&&◌, true, length, take, drop, IfOk, OnOk};
-ghost use Rattle.ae_tree.specs.Shown.{action, braced, definition};
+ghost use Rattle.std.specs.Prelude.{◌≡◌, ◌≤◌, ◌&&◌, length, take, drop, IfOk, OnOk};
+ghost use Rattle.ae_text.specs.declared.refusal.Spot.{Spot};
+ghost use Rattle.ae_tree.specs.Plain as plain;
+ghost use Rattle.ae_tree.specs.Shown.{action, braced, definition, expression};
 ghost use Rattle.ae_rules.specs.Answers.{Leaves};
 ghost use Rattle.ae_rules.specs.Verdict.{require};
 ghost use Rattle.ae_rules.specs.Statements as spec;
@@ -9,16 +11,19 @@ ghost use Rattle.ae_scope.specs.declared.scope.Scope.{Scope};
 ghost use Rattle.ae_scope.specs.Scope.{context_of};
 ghost use Rattle.ae_scope.specs.Slots.{now_held, rewound};
 ghost use Rattle.ae_scope.specs.Grows.{Grows};
-ghost use Rattle.ae_check.specs.Blocks.{Branched, block_verdict, body_verdict, meets, fits, all_fit};
+ghost use Rattle.ae_check.specs.Ready.{IsReady, StaysReady, StatementNamed, LinesNamed};
+ghost use Rattle.ae_check.specs.Blocks.{Began, Branched, Ended, block_verdict, body_verdict, inside_verdict};
+ghost use Rattle.ae_check.specs.Blocks.{keeps_held};
 
-use crate::laws::{branch_fits, choices_fit, loop_fits};
+use crate::escapes::groups_stay;
+use crate::laws::{context_is_ready, lines_are_named};
 use crate::simple::{
-    call, judge_assign, judge_freeze, judge_let, judge_return, prints, store, store_at,
+    call, judge_assign, judge_freeze, judge_let, judge_return, judge_share, prints, store, store_at,
 };
 use ae_judge::{Scalar, Tabled, deny, is_value, judge_value};
-use ae_scope::{Change, Scope};
+use ae_scope::{Change, Mark, Scope};
 use ae_text::{Deny, Rule, Spot};
-use ae_tree::{Block, Method, Stmt, StmtKind};
+use ae_tree::{Block, Expr, Method, NameAt, Stmt, StmtKind};
 use std::alloc::AllocError;
 
 // After these changes each local from before holds the same. They are undone.
@@ -31,10 +36,11 @@ fn meet(
 ) -> Result<(), Deny>
     requires within { changes ≤ length scope.old.trail.items }
     requires table { length scope.old.at.items ≡ length tabled.now.program.now.names }
-    ensures answer { Leaves (meets (code_of tabled.now) changes scope.old rule at) (context_of scope.new) result }
+    ensures answer { Leaves (keeps_held (code_of tabled.now) changes scope.old rule at) (context_of scope.new) result }
     ensures locals { OnOk result (scope.new.locals.items
         ≡ rewound (drop changes scope.old.trail.items) scope.old.locals.items) }
-    ensures groups { OnOk result (scope.new.groups.items ≡ scope.old.groups.items) }
+    ensures groups { OnOk result (scope.new.groups.perms.items ≡ scope.old.groups.perms.items) }
+    ensures group_trail { OnOk result (scope.new.group_trail.items ≡ scope.old.group_trail.items) }
     ensures table { OnOk result (length scope.new.at.items ≡ length scope.old.at.items) }
     ensures trail { OnOk result (scope.new.trail.items ≡ take changes scope.old.trail.items) }
 {
@@ -52,7 +58,8 @@ fn take_back(tabled: &Tabled, scope: &mut Scope, changes: usize) -> Result<Vec<C
         ≡ now_held (drop changes scope.old.trail.items) scope.old.locals.items) }
     ensures locals { OnOk result (scope.new.locals.items
         ≡ rewound (drop changes scope.old.trail.items) scope.old.locals.items) }
-    ensures groups { OnOk result (scope.new.groups.items ≡ scope.old.groups.items) }
+    ensures groups { OnOk result (scope.new.groups.perms.items ≡ scope.old.groups.perms.items) }
+    ensures group_trail { OnOk result (scope.new.group_trail.items ≡ scope.old.group_trail.items) }
     ensures table { OnOk result (length scope.new.at.items ≡ length scope.old.at.items) }
     ensures trail { OnOk result (scope.new.trail.items ≡ take changes scope.old.trail.items) }
 {
@@ -76,26 +83,29 @@ fn agree(same: bool, same_too: bool, at: Spot) -> Result<(), Deny>
 fn join(
     tabled: &Tabled,
     scope: &mut Scope,
-    changes: usize,
+    begun: Mark,
     first: &[Change],
     at: Spot,
 ) -> Result<(), Deny>
-    requires within { changes ≤ length scope.old.trail.items }
+    requires locals { begun.locals ≤ length scope.old.locals.items }
+    requires changes { begun.changes ≤ length scope.old.trail.items }
+    requires groups { begun.groups ≤ length scope.old.group_trail.items }
     requires table { length scope.old.at.items ≡ length tabled.now.program.now.names }
-    ensures answer { (s u : Scope) → Branched s u changes first.now scope.old → Leaves (spec.branches_meet
+    ensures answer { (s u : Scope) → Branched s u begun first.now scope.old → Leaves (spec.branches_meet
         (code_of tabled.now) (context_of s) at (context_of u) (context_of scope.old)) (context_of scope.new) result }
-    ensures grows { (s u : Scope) → Branched s u changes first.now scope.old → OnOk result (Grows s scope.new) }
+    ensures grows { (s u : Scope) → Branched s u begun first.now scope.old → OnOk result (Grows s scope.new) }
 {
     let same = scope.holds(first);
-    let second = take_back(tabled, scope, changes)?;
+    let second = take_back(tabled, scope, begun.changes)?;
     scope.replay(first)?;
+    scope.end_block(begun);
     let same_too = scope.holds(second.as_slice());
     agree(same, same_too, at)
 }
 
 // The statements of a block, in order.
 #[cycle(statements)]
-#[tactic(auto, using(crate::proofs::FitLemmas::lines))]
+#[tactic(auto, using(crate::proofs::NamedLemmas::lines))]
 fn judge_lines(
     tabled: &Tabled,
     method: &Method,
@@ -103,7 +113,9 @@ fn judge_lines(
     block: &Block,
 ) -> Result<(), Deny>
     requires table { length scope.old.at.items ≡ length tabled.now.program.now.names }
-    requires fits { all_fit (length tabled.now.program.now.names) (braced block.now).lines ≡ true }
+    requires stays { StaysReady (code_of tabled.now) (definition method.now) }
+    requires ready { IsReady (code_of tabled.now) (context_of scope.old) }
+    requires named { LinesNamed (length tabled.now.program.now.names) (braced block.now).lines }
     ensures answer { Leaves (spec.judge_lines (code_of tabled.now) (definition method.now) (braced block.now).lines
         (context_of scope.old)) (context_of scope.new) result }
     ensures grows { OnOk result (Grows scope.old scope.new) }
@@ -114,9 +126,37 @@ fn judge_lines(
     Ok(())
 }
 
+// A block's statements, from its beginning, and its end.
+#[cycle(statements)]
+#[tactic(auto, using(crate::proofs::NamedLemmas::statements))]
+fn judge_inside(
+    tabled: &Tabled,
+    method: &Method,
+    scope: &mut Scope,
+    block: &Block,
+    mark: Mark,
+) -> Result<(), Deny>
+    requires table { length scope.old.at.items ≡ length tabled.now.program.now.names }
+    requires stays { StaysReady (code_of tabled.now) (definition method.now) }
+    requires ready { IsReady (code_of tabled.now) (context_of scope.old) }
+    requires named { LinesNamed (length tabled.now.program.now.names) (braced block.now).lines }
+    requires locals { mark.locals ≤ length scope.old.locals.items }
+    requires changes { mark.changes ≤ length scope.old.trail.items }
+    requires groups { mark.groups ≤ length scope.old.group_trail.items }
+    ensures answer { (s : Scope) → Began (code_of tabled.now) s mark scope.old → Leaves (inside_verdict
+        (code_of tabled.now) (definition method.now) (braced block.now).lines (context_of s) (context_of scope.old))
+        (context_of scope.new) result }
+    ensures ended { (s : Scope) → Began (code_of tabled.now) s mark scope.old → OnOk result (Ended s scope.new) }
+{
+    judge_lines(tabled, method, scope, block)?;
+    groups_stay(tabled, scope, mark, block)?;
+    scope.end_block(mark);
+    Ok(())
+}
+
 // A block and its end.
 #[cycle(statements)]
-#[tactic(auto, using(crate::proofs::FitLemmas::statements))]
+#[tactic(auto, using(crate::proofs::NamedLemmas::statements))]
 pub(crate) fn judge_block(
     tabled: &Tabled,
     method: &Method,
@@ -124,21 +164,20 @@ pub(crate) fn judge_block(
     block: &Block,
 ) -> Result<(), Deny>
     requires table { length scope.old.at.items ≡ length tabled.now.program.now.names }
-    requires fits { all_fit (length tabled.now.program.now.names) (braced block.now).lines ≡ true }
+    requires stays { StaysReady (code_of tabled.now) (definition method.now) }
+    requires ready { IsReady (code_of tabled.now) (context_of scope.old) }
+    requires named { LinesNamed (length tabled.now.program.now.names) (braced block.now).lines }
     ensures answer { Leaves (block_verdict (code_of tabled.now) (definition method.now) (braced block.now).lines
         (context_of scope.old)) (context_of scope.new) result }
-    ensures grows { OnOk result (Grows scope.old scope.new) }
-    ensures length { OnOk result (length scope.new.locals.items ≡ length scope.old.locals.items) }
+    ensures ended { OnOk result (Ended scope.old scope.new) }
 {
     let mark = scope.mark();
-    judge_lines(tabled, method, scope, block)?;
-    scope.cut(mark.locals);
-    Ok(())
+    judge_inside(tabled, method, scope, block, mark)
 }
 
 // A block after which each local from outside holds the same as before.
 #[cycle(statements)]
-#[tactic(auto, using(crate::proofs::FitLemmas::statements))]
+#[tactic(auto, using(crate::proofs::NamedLemmas::statements))]
 fn judge_body(
     tabled: &Tabled,
     method: &Method,
@@ -148,7 +187,9 @@ fn judge_body(
     at: Spot,
 ) -> Result<(), Deny>
     requires table { length scope.old.at.items ≡ length tabled.now.program.now.names }
-    requires fits { all_fit (length tabled.now.program.now.names) (braced block.now).lines ≡ true }
+    requires stays { StaysReady (code_of tabled.now) (definition method.now) }
+    requires ready { IsReady (code_of tabled.now) (context_of scope.old) }
+    requires named { LinesNamed (length tabled.now.program.now.names) (braced block.now).lines }
     ensures answer { Leaves (body_verdict (code_of tabled.now) (definition method.now) (braced block.now).lines rule at
         (context_of scope.old)) (context_of scope.new) result }
     ensures grows { OnOk result (Grows scope.old scope.new) }
@@ -158,10 +199,106 @@ fn judge_body(
     meet(tabled, scope, mark.changes, rule, at)
 }
 
-/// A statement of a method: refused by its first premise that fails, with its rule and place. After a refusal what is
-/// known is not said.
+// A choice with one branch.
 #[cycle(statements)]
-#[tactic(auto, using(crate::proofs::FitLemmas::statements))]
+#[tactic(auto, using(crate::proofs::NamedLemmas::statements))]
+fn judge_branch(
+    tabled: &Tabled,
+    method: &Method,
+    scope: &mut Scope,
+    then: &Block,
+    expr: &Expr,
+    at: Spot,
+) -> Result<(), Deny>
+    requires table { length scope.old.at.items ≡ length tabled.now.program.now.names }
+    requires stays { StaysReady (code_of tabled.now) (definition method.now) }
+    requires ready { IsReady (code_of tabled.now) (context_of scope.old) }
+    requires named { LinesNamed (length tabled.now.program.now.names) (braced then.now).lines }
+    ensures answer { Leaves (spec.judge_statement (code_of tabled.now) (definition method.now) at
+        (plain.Chooses (expression expr.now) (braced then.now).no (braced then.now).lines) (context_of scope.old))
+        (context_of scope.new) result }
+    ensures grows { OnOk result (Grows scope.old scope.new) }
+{
+    is_value(tabled, scope, Scalar::Bool, expr)?;
+    judge_body(tabled, method, scope, then, Rule::BranchesDiffer, at)
+}
+
+// A loop.
+#[cycle(statements)]
+#[tactic(auto, using(crate::proofs::NamedLemmas::statements))]
+fn judge_loop(
+    tabled: &Tabled,
+    method: &Method,
+    scope: &mut Scope,
+    block: &Block,
+    expr: &Expr,
+    at: Spot,
+) -> Result<(), Deny>
+    requires table { length scope.old.at.items ≡ length tabled.now.program.now.names }
+    requires stays { StaysReady (code_of tabled.now) (definition method.now) }
+    requires ready { IsReady (code_of tabled.now) (context_of scope.old) }
+    requires named { LinesNamed (length tabled.now.program.now.names) (braced block.now).lines }
+    ensures answer { Leaves (spec.judge_statement (code_of tabled.now) (definition method.now) at
+        (plain.Repeats (expression expr.now) (braced block.now).no (braced block.now).lines) (context_of
+        scope.old)) (context_of scope.new) result }
+    ensures grows { OnOk result (Grows scope.old scope.new) }
+{
+    is_value(tabled, scope, Scalar::Bool, expr)?;
+    judge_body(tabled, method, scope, block, Rule::LoopChanges, at)
+}
+
+// A split block: inside it its groups are shared.
+#[cycle(statements)]
+#[tactic(auto, using(crate::proofs::NamedLemmas::statements))]
+fn judge_split(
+    tabled: &Tabled,
+    method: &Method,
+    scope: &mut Scope,
+    groups: &[NameAt],
+    block: &Block,
+) -> Result<(), Deny>
+    requires table { length scope.old.at.items ≡ length tabled.now.program.now.names }
+    requires stays { StaysReady (code_of tabled.now) (definition method.now) }
+    requires ready { IsReady (code_of tabled.now) (context_of scope.old) }
+    requires named { LinesNamed (length tabled.now.program.now.names) (braced block.now).lines }
+    ensures answer { (at : Spot) → Leaves (spec.judge_statement (code_of tabled.now) (definition method.now) at
+        (plain.Splits groups.now (braced block.now).no (braced block.now).lines) (context_of scope.old))
+        (context_of scope.new) result }
+    ensures grows { OnOk result (Grows scope.old scope.new) }
+{
+    let mark = scope.mark();
+    scope.enter_split(groups)?;
+    judge_inside(tabled, method, scope, block, mark)
+}
+
+// An atomic block: inside it its group is protected, and every other shared group is held back.
+#[cycle(statements)]
+#[tactic(auto, using(crate::proofs::NamedLemmas::statements))]
+fn judge_atomic(
+    tabled: &Tabled,
+    method: &Method,
+    scope: &mut Scope,
+    group: NameAt,
+    block: &Block,
+) -> Result<(), Deny>
+    requires table { length scope.old.at.items ≡ length tabled.now.program.now.names }
+    requires stays { StaysReady (code_of tabled.now) (definition method.now) }
+    requires ready { IsReady (code_of tabled.now) (context_of scope.old) }
+    requires named { LinesNamed (length tabled.now.program.now.names) (braced block.now).lines }
+    ensures answer { (at : Spot) → Leaves (spec.judge_statement (code_of tabled.now) (definition method.now) at
+        (plain.Locks group (braced block.now).no (braced block.now).lines) (context_of scope.old)) (context_of
+        scope.new) result }
+    ensures grows { OnOk result (Grows scope.old scope.new) }
+{
+    let mark = scope.mark();
+    scope.enter_atomic(group)?;
+    judge_inside(tabled, method, scope, block, mark)
+}
+
+/// A statement of a method, with those in its blocks: refused by its first premise that fails, with its rule and place.
+/// After a refusal what is known is not said.
+#[cycle(statements)]
+#[tactic(auto, using(crate::proofs::NamedLemmas::statements))]
 pub fn judge_stmt(
     tabled: &Tabled,
     method: &Method,
@@ -169,7 +306,9 @@ pub fn judge_stmt(
     stmt: &Stmt,
 ) -> Result<(), Deny>
     requires table { length scope.old.at.items ≡ length tabled.now.program.now.names }
-    requires fits { fits (length tabled.now.program.now.names) (action stmt.now.kind) ≡ true }
+    requires stays { StaysReady (code_of tabled.now) (definition method.now) }
+    requires ready { IsReady (code_of tabled.now) (context_of scope.old) }
+    requires named { StatementNamed (length tabled.now.program.now.names) (action stmt.now.kind) }
     ensures answer { Leaves (spec.judge_statement (code_of tabled.now) (definition method.now) stmt.now.at
         (action stmt.now.kind) (context_of scope.old)) (context_of scope.new) result }
     ensures grows { OnOk result (Grows scope.old scope.new) }
@@ -183,26 +322,36 @@ pub fn judge_stmt(
         StmtKind::Call(invoked) => call(tabled, scope, invoked),
         StmtKind::If(expr, then, otherwise) => match otherwise {
             Some(other) => {
-                choices_fit(tabled, stmt, expr, then, other);
                 is_value(tabled, scope, Scalar::Bool, expr)?;
                 let mark = scope.mark();
+                lines_are_named(tabled, then);
                 judge_block(tabled, method, scope, then)?;
                 let first = take_back(tabled, scope, mark.changes)?;
+                lines_are_named(tabled, other);
+                context_is_ready(tabled, scope);
                 judge_block(tabled, method, scope, other)?;
-                join(tabled, scope, mark.changes, first.as_slice(), at)
+                join(tabled, scope, mark, first.as_slice(), at)
             }
             None => {
-                branch_fits(tabled, stmt, expr, then);
-                is_value(tabled, scope, Scalar::Bool, expr)?;
-                judge_body(tabled, method, scope, then, Rule::BranchesDiffer, at)
+                lines_are_named(tabled, then);
+                judge_branch(tabled, method, scope, then, expr, at)
             }
         },
         StmtKind::While(expr, block) => {
-            loop_fits(tabled, stmt, expr, block);
-            is_value(tabled, scope, Scalar::Bool, expr)?;
-            judge_body(tabled, method, scope, block, Rule::LoopChanges, at)
+            lines_are_named(tabled, block);
+            judge_loop(tabled, method, scope, block, expr, at)
+        }
+        StmtKind::Group(group) => scope.declare_group(*group),
+        StmtKind::Split(groups, block) => {
+            lines_are_named(tabled, block);
+            judge_split(tabled, method, scope, groups.as_slice(), block)
+        }
+        StmtKind::Atomic(group, block) => {
+            lines_are_named(tabled, block);
+            judge_atomic(tabled, method, scope, *group, block)
         }
         StmtKind::Freeze(x) => judge_freeze(scope, *x),
+        StmtKind::Share(x, group) => judge_share(scope, *x, *group),
         StmtKind::PrintExpr(expr) => {
             judge_value(tabled, scope, expr)?;
             prints(scope, at)
@@ -210,9 +359,5 @@ pub fn judge_stmt(
         StmtKind::PrintText(_) => prints(scope, at),
         StmtKind::Assert(expr) => is_value(tabled, scope, Scalar::Bool, expr),
         StmtKind::Return(expr) => judge_return(tabled, method, scope, expr, at),
-        // none of these fits
-        StmtKind::Group(_) | StmtKind::Split(..) | StmtKind::Atomic(..) | StmtKind::Share(..) => {
-            Err(deny(Rule::NotBuilt, at))
-        }
     }
 }

@@ -1,32 +1,35 @@
-// What fits in a statement that fits.
-ghost use Rattle.std.specs.Prelude.{◌≡◌, true, length, None, Some};
-ghost use Rattle.ae_tree.specs.Shown.{action, braced};
-ghost use Rattle.ae_check.specs.Blocks.{fits, all_fit};
+// What is known of each context in which statements are judged.
+ghost use Rattle.std.specs.Prelude.{length};
+ghost use Rattle.ae_tree.specs.Shown.{braced};
+ghost use Rattle.ae_judge.specs.Tabled.{code_of};
+ghost use Rattle.ae_scope.specs.Scope.{context_of};
+ghost use Rattle.ae_check.specs.Ready.{IsReady, JudgingStaysReady, LinesNamed};
 
 use ae_judge::Tabled;
-use ae_tree::{Block, Expr, Stmt, StmtKind};
+use ae_rules::{judging_keeps_right, lines_add_what_they_declare, statements_keep_what_is_visible};
+use ae_scope::Scope;
+use ae_tree::Block;
 
-/// Both blocks of a choice fit.
-#[tactic(auto, using(crate::proofs::FitLemmas::insides))]
-pub fn choices_fit(tabled: &Tabled, stmt: &Stmt, expr: &Expr, then: &Block, other: &Block)
-    requires is { stmt.now.kind ≡ StmtKind.If expr.now then.now (Some other.now) }
-    requires fits { fits (length tabled.now.program.now.names) (action stmt.now.kind) ≡ true }
-    ensures first { all_fit (length tabled.now.program.now.names) (braced then.now).lines ≡ true }
-    ensures second { all_fit (length tabled.now.program.now.names) (braced other.now).lines ≡ true }
+/// In each method of a well-shaped program whose declarations hold only names of the program are visible, of each
+/// local is
+/// held what may be, and the groups of the forms of locals are known: at its start, after each judged statement, and at
+/// the beginning of its split and atomic blocks.
+pub fn judging_stays_ready()
+    ensures { JudgingStaysReady }
+{
+    judging_keeps_right();
+    lines_add_what_they_declare();
+    statements_keep_what_is_visible();
+}
+
+/// The statements of a block name only names of the program: said where a statement is taken apart.
+pub fn lines_are_named(tabled: &Tabled, block: &Block)
+    requires { LinesNamed (length tabled.now.program.now.names) (braced block.now).lines }
+    ensures { LinesNamed (length tabled.now.program.now.names) (braced block.now).lines }
 {}
 
-/// The one block of a choice fits.
-#[tactic(auto, using(crate::proofs::FitLemmas::insides))]
-pub fn branch_fits(tabled: &Tabled, stmt: &Stmt, expr: &Expr, then: &Block)
-    requires is { stmt.now.kind ≡ StmtKind.If expr.now then.now None }
-    requires fits { fits (length tabled.now.program.now.names) (action stmt.now.kind) ≡ true }
-    ensures { all_fit (length tabled.now.program.now.names) (braced then.now).lines ≡ true }
-{}
-
-/// The block of a loop fits.
-#[tactic(auto, using(crate::proofs::FitLemmas::insides))]
-pub fn loop_fits(tabled: &Tabled, stmt: &Stmt, expr: &Expr, block: &Block)
-    requires is { stmt.now.kind ≡ StmtKind.While expr.now block.now }
-    requires fits { fits (length tabled.now.program.now.names) (action stmt.now.kind) ≡ true }
-    ensures { all_fit (length tabled.now.program.now.names) (braced block.now).lines ≡ true }
+/// What is known is ready for the next statement: said where changes were taken back.
+pub fn context_is_ready(tabled: &Tabled, scope: &Scope)
+    requires { IsReady (code_of tabled.now) (context_of scope.now) }
+    ensures { IsReady (code_of tabled.now) (context_of scope.now) }
 {}

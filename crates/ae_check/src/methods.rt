@@ -15,51 +15,30 @@ ghost use Rattle.ae_rules.specs.Judges as spec;
 ghost use Rattle.ae_rules.specs.Lookups as lookup;
 ghost use Rattle.ae_judge.specs.Tabled.{code_of};
 ghost use Rattle.ae_scope.specs.Scope.{Empty, context_of};
-ghost use Rattle.ae_check.specs.Blocks.{all_fit};
+ghost use Rattle.ae_check.specs.Ready.{IsReady, StaysReady};
 ghost use Rattle.ae_scope.specs.Grows.{Grows};
-ghost use Rattle.ae_check.specs.Methods.{needed, whole_verdict, with_me, with_needed, with_params};
+ghost use Rattle.ae_check.specs.Methods.{whole_verdict, with_me, with_needed, with_params};
 
 use crate::blocks::judge_block;
 use crate::simple::form_at;
+use ae_groups::permission_at_start;
 use ae_judge::{Tabled, deny};
-use ae_rules::{GroupPerm, Held};
+use ae_rules::Held;
 use ae_scope::Scope;
 use ae_text::{Deny, Items, Rule, Spot};
 use ae_tree::{
-    Block, Class, Form, GroupNeed, IO, Kind, Me, Method, Name, NameAt, Need, Param, Perm, PermAt,
+    Block, Class, Form, GroupNeed, IO, Kind, Me, Method, Name, NameAt, Param, Perm, PermAt,
     StmtKind, THIS, Ty,
 };
 use std::alloc::{AllocError, Global};
 
-fn permission_needed(need: Need) -> GroupPerm
-    ensures { result ≡ spec.permission_needed need }
-{
-    match need {
-        Need::Exclusive => GroupPerm::Exclusive,
-        Need::Shared => GroupPerm::Shared,
-        Need::Protected => GroupPerm::Protected,
-    }
-}
-
-// The permission of a known group at a method's start.
-fn permission_at_start(needs: &[GroupNeed], group: Name) -> GroupPerm
-    ensures { result ≡ needed needs.now group }
-{
-    for need in needs {
-        if need.group.name == group {
-            return permission_needed(need.need);
-        }
-    }
-    GroupPerm::None
-}
-
 // These groups are known, each with the permission of its need.
 fn know_groups(scope: &mut Scope, needs: &[GroupNeed], groups: &[NameAt]) -> Result<(), AllocError>
-    requires { AreNamed (length scope.old.groups.items) groups.now }
+    requires { AreNamed (length scope.old.groups.perms.items) groups.now }
     ensures context { OnOk result (context_of scope.new
         ≡ with_needed needs.now (bare_names groups.now) (context_of scope.old)) }
     ensures table { OnOk result (length scope.new.at.items ≡ length scope.old.at.items) }
-    ensures groups { OnOk result (length scope.new.groups.items ≡ length scope.old.groups.items) }
+    ensures groups { OnOk result (length scope.new.groups.perms.items ≡ length scope.old.groups.perms.items) }
 {
     for group in groups {
         scope.know(group.name, permission_at_start(needs, group.name))?;
@@ -97,7 +76,7 @@ fn add_param(alloc: Global, scope: &mut Scope, param: &Param) -> Result<(), Deny
     ensures context { Leaves (Holds (with_params (param.now ∷ []) (context_of scope.old))) (context_of scope.new)
         result }
     ensures table { OnOk result (length scope.new.at.items ≡ length scope.old.at.items) }
-    ensures groups { OnOk result (length scope.new.groups.items ≡ length scope.old.groups.items) }
+    ensures groups { OnOk result (length scope.new.groups.perms.items ≡ length scope.old.groups.perms.items) }
 {
     if is_taken(scope, param.name.name) {
         return Ok(());
@@ -113,7 +92,7 @@ fn add_params(alloc: Global, scope: &mut Scope, params: &[Param]) -> Result<(), 
     requires { All (ParamNamed (length scope.old.at.items)) params.now }
     ensures context { Leaves (Holds (with_params params.now (context_of scope.old))) (context_of scope.new) result }
     ensures table { OnOk result (length scope.new.at.items ≡ length scope.old.at.items) }
-    ensures groups { OnOk result (length scope.new.groups.items ≡ length scope.old.groups.items) }
+    ensures groups { OnOk result (length scope.new.groups.perms.items ≡ length scope.old.groups.perms.items) }
 {
     for param in params {
         add_param(alloc, scope, param)?;
@@ -284,11 +263,11 @@ fn own_class<'a>(tabled: &'a Tabled, method: &Method) -> Option<&'a Class>
 // The groups of a method's class are known.
 fn know_own_groups(tabled: &Tabled, method: &Method, scope: &mut Scope) -> Result<(), AllocError>
     requires classes { All (ClassNamed (length tabled.now.program.now.names)) tabled.now.program.now.classes }
-    requires groups { length scope.old.groups.items ≡ length tabled.now.program.now.names }
+    requires groups { length scope.old.groups.perms.items ≡ length tabled.now.program.now.names }
     ensures context { OnOk result (context_of scope.new ≡ with_needed method.now.needs
         (lookup.groups_of (lookup.own_kind (code_of tabled.now) method.now.class)) (context_of scope.old)) }
     ensures table { OnOk result (length scope.new.at.items ≡ length scope.old.at.items) }
-    ensures groups { OnOk result (length scope.new.groups.items ≡ length scope.old.groups.items) }
+    ensures groups { OnOk result (length scope.new.groups.perms.items ≡ length scope.old.groups.perms.items) }
 {
     match own_class(tabled, method) {
         Some(class) => know_groups(scope, method.needs.as_slice(), class.groups.as_slice()),
@@ -339,7 +318,7 @@ fn add_me(tabled: &Tabled, method: &Method, scope: &mut Scope) -> Result<(), All
     ensures context { OnOk result (context_of scope.new
         ≡ with_me (code_of tabled.now) (definition method.now) (context_of scope.old)) }
     ensures table { OnOk result (length scope.new.at.items ≡ length scope.old.at.items) }
-    ensures groups { OnOk result (length scope.new.groups.items ≡ length scope.old.groups.items) }
+    ensures groups { OnOk result (length scope.new.groups.perms.items ≡ length scope.old.groups.perms.items) }
 {
     match method.me {
         Some(me) => {
@@ -361,7 +340,7 @@ pub fn start(tabled: &Tabled, method: &Method, scope: &mut Scope) -> Result<(), 
     ensures context { Leaves (Holds (spec.start (code_of tabled.now) (definition method.now))) (context_of scope.new)
         result }
     ensures table { OnOk result (length scope.new.at.items ≡ length tabled.now.program.now.names) }
-    ensures groups { OnOk result (length scope.new.groups.items ≡ length tabled.now.program.now.names) }
+    ensures groups { OnOk result (length scope.new.groups.perms.items ≡ length tabled.now.program.now.names) }
 {
     let needs = method.needs.as_slice();
     scope.know(IO, permission_at_start(needs, IO))?;
@@ -374,7 +353,9 @@ pub fn start(tabled: &Tabled, method: &Method, scope: &mut Scope) -> Result<(), 
 // A method's body and its end, from its start.
 fn judge_whole(tabled: &Tabled, method: &Method, scope: &mut Scope) -> Result<(), Deny>
     requires table { length scope.old.at.items ≡ length tabled.now.program.now.names }
-    requires fits { all_fit (length tabled.now.program.now.names) (braced method.now.body).lines ≡ true }
+    requires stays { StaysReady (code_of tabled.now) (definition method.now) }
+    requires ready { IsReady (code_of tabled.now) (context_of scope.old) }
+    requires named { MethodNamed (length tabled.now.program.now.names) (definition method.now) }
     ensures answer { Answers (whole_verdict (code_of tabled.now) (definition method.now) (context_of scope.old)) done
         result }
     ensures grows { OnOk result (Grows scope.old scope.new) }
@@ -390,7 +371,7 @@ pub fn judge_method(tabled: &Tabled, method: &Method, scope: &mut Scope) -> Resu
     requires named { MethodNamed (length tabled.now.program.now.names) (definition method.now) }
     requires classes { All (ClassNamed (length tabled.now.program.now.names)) tabled.now.program.now.classes }
     requires names { this < length tabled.now.program.now.names }
-    requires fits { all_fit (length tabled.now.program.now.names) (braced method.now.body).lines ≡ true }
+    requires stays { StaysReady (code_of tabled.now) (definition method.now) }
     ensures answer { Answers (spec.judge_method (code_of tabled.now) (definition method.now)) done result }
     ensures empty { OnOk result (Empty (length tabled.now.program.now.names) scope.new) }
 {

@@ -14,7 +14,9 @@ ghost use Rattle.ae_scope.specs.Grows.{Grows};
 ghost use Rattle.ae_check.specs.Simple.{assigned, called, introduced};
 
 use ae_calls::{judge_call, judge_right};
-use ae_judge::{Tabled, deny, forms_type, into, judge_store, judge_store_at};
+use ae_judge::{
+    Tabled, deny, forms_type, group_access, into, is_group, judge_store, judge_store_at,
+};
 use ae_rules::Held;
 use ae_scope::{Scope, held_of};
 use ae_text::{Deny, Rule, Spot};
@@ -184,6 +186,22 @@ pub fn judge_freeze(scope: &mut Scope, x: NameAt) -> Result<(), Deny>
 {
     holds_alone(scope, x)?;
     scope.hold(x.name, Held::Immutable)?;
+    Ok(())
+}
+
+/// `share`: an object held alone becomes a member of a group. Refused where the name is no local's, no object's, or
+/// that
+/// of an object that is not held alone; and where the group is not known, is `io`, or may not be reached. After a
+/// refusal
+/// what is known is not said.
+pub fn judge_share(scope: &mut Scope, x: NameAt, group: NameAt) -> Result<(), Deny>
+    ensures answer { Leaves (spec.judge_share (context_of scope.old) x group) (context_of scope.new) result }
+    ensures grows { OnOk result (Grows scope.old scope.new) }
+{
+    holds_alone(scope, x)?;
+    is_group(scope, group)?;
+    group_access(scope, group.name, group.at)?;
+    scope.hold(x.name, Held::Shared(group.name))?;
     Ok(())
 }
 

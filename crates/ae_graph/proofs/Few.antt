@@ -1,39 +1,74 @@
 -- How many statements stand in the blocks of a program within the limits.
-use Rattle.std.proofs.Common.{arith, ◌≡◌, ◌<◌, ◌≤◌, ℕ, zero, suc, nat_eq, if◌then◌else◌, Bool, true, false, List, []}
-use Rattle.std.proofs.Common.{◌∷◌, map, length, get_or, Option, None, Some, ap, sym, ◌∙◌, subst}
+use Rattle.std.proofs.Common.{◌≤◌, ◌≡◌, ℕ, ◌-◌, false, List, [], ◌∷◌, Some}
 use Rattle.std.specs.List.{All}
-use Rattle.std.proofs.lemmas.List.Elements.{All-head, All-tail}
-use Rattle.std.proofs.lemmas.List.{length-map, get_or-map}
+use Rattle.std.proofs.lemmas.List.Elements.{All-append, All-nil, All-cons}
 use Rattle.ae_tree.specs.declared.limits.Limit.TheVariants as limit
-use Rattle.ae_tree.specs.declared.tree.Method.{Method}
-use Rattle.ae_tree.specs.Plain.{Lines, Definition, Code}
-use Rattle.ae_tree.specs.Shown.{definition}
-use Rattle.ae_tree.specs.Limits.{statement_count, KeepsBlock, KeepsMethod, Within}
-use Rattle.ae_rules.specs.BuiltUses.{block_in, block_of}
+use Rattle.ae_tree.specs.Limits.{statement_count, KeepsIn, EachKeeps, KeepsMethod, Within}
+use Rattle.ae_tree.specs.Plain.{Action, Declares, Assigns, Stores, StoresAt, Calls, Chooses, ChoosesElse, Repeats}
+use Rattle.ae_tree.specs.Plain.{Groups, Splits, Locks, Freezes, Shares, Prints, PrintsText, Asserts, Returns, Lines}
+use Rattle.ae_tree.specs.Plain.{End, Next, Definition, Code}
+use Rattle.ae_rules.specs.Verdict.{Verdict, Holds, Broken, judged}
+use Rattle.ae_rules.specs.Lookups.{method_at}
+use Rattle.ae_rules.specs.Context.{Context}
+use Rattle.ae_rules.specs.Statements.{while_split, judge_statement}
+use Rattle.ae_rules.specs.Judges.{start}
+use Rattle.ae_graph.proofs.from_rules.BelowLemmas.{found_has}
+use Rattle.ae_rules.specs.Blocks.{Opened, block_at, scenes_in, scenes_among, scenes}
 
-body_is_few : (m : Definition) → KeepsMethod limit.Statements m → statement_count m.body ≤ 1024
-body_is_few m h = let k : KeepsBlock limit.Statements 63 m.body = h.1 in k.0
+-- the block has at most 1,024 statements
+abbrev pub IsFewIn : Opened → Type 0
+IsFewIn x = statement_count x.1.lines ≤ 1024
 
-found_is_few : (ms : List Definition) → All (KeepsMethod limit.Statements) ms → (m n : ℕ) (b : Lines)
-    → block_in ms m n ≡ Some b → statement_count b ≤ 1024
-found_is_few [] h m n b e = absurd (cc)
-found_is_few (d ∷ ds) h zero n b e = by (nat_eq d.no n) e
-  where
-    by : (t : Bool) → (if t then Some d.body else None) ≡ Some b → statement_count b ≤ 1024
-    by true f = let same : d.body ≡ b = cc in subst (λ (x : Lines). statement_count x ≤ 1024) same
-        (body_is_few d (All-head (KeepsMethod limit.Statements) d ds h))
-    by false f = absurd (cc)
-found_is_few (d ∷ ds) h (suc m) n b e = found_is_few ds (All-tail (KeepsMethod limit.Statements) d ds h) m n b e
+no_blocks : All IsFewIn []
+no_blocks = All-nil IsFewIn
 
--- a block of a program within the limits
-pub block_is_few : (p : Code) → Within p → (m n : ℕ) (b : Lines) → block_of p m n ≡ Some b → statement_count b ≤ 1024
-block_is_few p w = found_is_few p.methods (w limit.Statements)
+-- a block, and those inside it
+one_block : (k : ℕ) (m : Definition) (b : Lines) (c : Context) (xs : List Opened) → statement_count b ≤ 1024
+    → All IsFewIn xs → All IsFewIn ((k, block_at m b c) ∷ xs)
+one_block k m b c xs f h = All-cons IsFewIn (k, block_at m b c) xs f h
 
--- the body of each of its methods
-pub each_body_is_few : (ms : List Method) → All (KeepsMethod limit.Statements) (map definition ms)
-    → (i : ℕ) (m : Method) → i < length ms → m ≡ get_or ms i m → statement_count (definition m).body ≤ 1024
-each_body_is_few ms h i m l e =
-    let k : KeepsMethod limit.Statements (get_or (map definition ms) i (definition m)) = h i (definition m)
-    (omega (arith, l, length-map ms definition)) in
-    body_is_few (definition m) (subst (KeepsMethod limit.Statements)
-    (get_or-map definition ms i m (definition m) l ∙ ap definition (sym e)) k)
+if_judged : (v : Verdict Context) (f : Context → List Opened) → ((d : Context) → All IsFewIn (f d))
+    → All IsFewIn (judged v [] f)
+if_judged (Holds d) f h = h d
+if_judged (Broken rule at) f h = no_blocks
+
+mutual
+  few_in : (p : Code) (m : Definition) (n : ℕ) (a : Action) → KeepsIn limit.Statements n a → (c : Context)
+      → All IsFewIn (scenes_in p m false a c)
+  few_in p m n (Declares t x e) h c = no_blocks
+  few_in p m n (Assigns x e) h c = no_blocks
+  few_in p m n (Stores q e) h c = no_blocks
+  few_in p m n (StoresAt q i e) h c = no_blocks
+  few_in p m n (Calls i) h c = no_blocks
+  few_in p m n (Chooses e k b) h c = one_block k m b c _ h.2 (few_among p m (n - 1) b h.3 c)
+  few_in p m n (ChoosesElse e k b l d) h c =
+      All-append IsFewIn ((k, block_at m b c) ∷ scenes_among p m false b c)
+      ((l, block_at m d c) ∷ scenes_among p m false d c)
+      (one_block k m b c _ h.2.0 (few_among p m (n - 1) b h.2.1 c))
+      (one_block l m d c _ h.3 (few_among p m (n - 1) d h.4 c))
+  few_in p m n (Repeats e k b) h c = one_block k m b c _ h.2 (few_among p m (n - 1) b h.3 c)
+  few_in p m n (Groups g) h c = no_blocks
+  few_in p m n (Splits gs k b) h c = one_block k m b (while_split gs c) _ h.1
+      (few_among p m (n - 1) b h.2 (while_split gs c))
+  few_in p m n (Locks g k b) h c = no_blocks
+  few_in p m n (Freezes x) h c = no_blocks
+  few_in p m n (Shares x g) h c = no_blocks
+  few_in p m n (Prints e) h c = no_blocks
+  few_in p m n (PrintsText s) h c = no_blocks
+  few_in p m n (Asserts e) h c = no_blocks
+  few_in p m n (Returns e) h c = no_blocks
+
+  few_among : (p : Code) (m : Definition) (n : ℕ) (b : Lines) → EachKeeps limit.Statements n b → (c : Context)
+      → All IsFewIn (scenes_among p m false b c)
+  few_among p m n End h c = no_blocks
+  few_among p m n (Next at a rest) h c = All-append IsFewIn (scenes_in p m false a c) _ (few_in p m n a h.0 c)
+      (if_judged (judge_statement p m at a c) (scenes_among p m false rest)
+      (λ d. few_among p m n rest h.1 d))
+
+-- in a program within the limits the blocks of each method that are not inside an atomic block have few statements
+pub blocks_are_few : (p : Code) → Within p → (k : ℕ) (m : Definition) → method_at p k ≡ Some m
+    → All IsFewIn (scenes p m)
+blocks_are_few p w k m e =
+    let h : KeepsMethod limit.Statements m = found_has (KeepsMethod limit.Statements) p.methods k m (w limit.Statements) e in
+    one_block m.no m m.body (start p m) (scenes_among p m false m.body (start p m)) h.1.0
+    (few_among p m 63 m.body h.1.1 (start p m))

@@ -1,39 +1,28 @@
 -- The lists of a graph, one after another.
 use Rattle.std.proofs.Common.{◌≡◌, ◌≢◌, ℕ, zero, suc, ◌+◌, ◌<◌, ◌⊎◌, inl, inr, Bool, true, false, nat_eq, nat_lt}
-use Rattle.std.proofs.Common.{◌||◌, List, [], ◌∷◌, ◌++◌, length, get_or, take, set, Some, refl, sym, ap, ◌∙◌, subst}
-use Rattle.std.proofs.Common.{arith, append_assoc, add-one}
+use Rattle.std.proofs.Common.{◌||◌, List, [], ◌∷◌, ◌++◌, length, get_or, take, set, refl, sym, ap, ◌∙◌, subst}
+use Rattle.std.proofs.Common.{arith, append_assoc}
 use Rattle.std.specs.List.{Contains, All}
 use Rattle.std.proofs.Common.{add-zero, zero-add}
 use Rattle.std.proofs.lemmas.List.{append-nil, get_or_default, get_or-set_same, get_or-set_other, length-set}
 use Rattle.std.proofs.lemmas.List.{take_more, get_or_append_left, get_or_push, length-append}
-use Rattle.std.proofs.lemmas.List.Elements.{All-get_or, All-same, All-weaker, All-from_get_or, Contains-get_or}
+use Rattle.std.proofs.lemmas.List.Elements.{All-get_or, All-from_get_or, Contains-get_or}
 use Rattle.std.proofs.lemmas.List.Elements.{Contains-append_left, Contains-push, Contains-push_cases}
 use Rattle.std.proofs.lemmas.List.Folds.{list_any-append}
 use Rattle.std.proofs.lemmas.Grind.{common_steps}
 use Rattle.std.proofs.lemmas.Bool.Decides.{nat_tests}
 use Rattle.ae_text.specs.declared.refusal.Edge.{Edge}
-use Rattle.ae_tree.specs.declared.tree.Stmt.{Stmt}
-use Rattle.ae_tree.specs.Plain.{Lines}
-use Rattle.ae_tree.specs.Shown.{action, lines_from}
-use Rattle.ae_tree.specs.Limits.{statement_count}
-use Rattle.ae_rules.specs.BuiltUses.{ArePreds, statement_at}
-use Rattle.ae_rules.specs.Edges.{IsRising}
+use Rattle.ae_rules.specs.Edges.{BlockUses, IsRising, Preds}
+use Rattle.std.proofs.lemmas.Option.{slice_get_read}
+use Rattle.ae_rules.specs.declared.uses.Footprint.{Footprint}
+use Rattle.ae_uses.specs.Footprint.{IsFootprintOf}
+use Rattle.ae_uses.specs.Opened.{AreFootprints}
 use Rattle.ae_graph.specs.Graph.{Graph, preds_in, edges_to, edges_from, AreSuccs}
 use Rattle.ae_graph.specs.Succs.{AreEarlier, is_among, joined, JoinsWaiters}
-use Rattle.ae_graph.proofs.Elements.{here, there, has_from, from_has}
+use Rattle.ae_graph.proofs.from_uses.Elements.{here, there, has_from, from_has}
 use Rattle.std.proofs.lemmas.Bool.{false_from_ne_true}
 use Rattle.ae_graph.proofs.from_text.Basics.{empty_has_nothing}
 use Rattle.std.proofs.Math.Bool.{or-false}
-
-pub count_lines : (xs : List Stmt) → statement_count (lines_from xs) ≡ length xs
-count_lines [] = refl
-count_lines (x ∷ xs) = add-one (statement_count (lines_from xs)) ∙ ap suc (count_lines xs)
-
-pub statement_get : (xs : List Stmt) (i : ℕ) (x : Stmt) → i < length xs → x ≡ get_or xs i x
-    → statement_at (lines_from xs) i ≡ Some (action x.kind)
-statement_get [] i x h e = absurd (omega (arith, h))
-statement_get (y ∷ xs) zero x h e = ap (λ (s : Stmt). Some (action s.kind)) (sym e)
-statement_get (y ∷ xs) (suc i) x h e = statement_get xs i x (omega (arith, h)) e
 
 below_or_at : (k j : ℕ) → k < j + 1 → (k < j) ⊎ (k ≡ j)
 below_or_at k j h = split (nat_lt k j) refl
@@ -44,19 +33,19 @@ below_or_at k j h = split (nat_lt k j) refl
 
 -- ---- the lists of those for which statements wait
 
-row_at : (b : Lines) (g : Graph) (j k : ℕ) (row : List ℕ) → length g ≡ j
-    → ((i : ℕ) → i < j → ArePreds b i (preds_in g i)) → ArePreds b j row
-    → (k < j) ⊎ (k ≡ j) → ArePreds b k (preds_in (g ++ row ∷ []) k)
-row_at b g j k row l h p (inl m) = subst (λ (r : List ℕ). ArePreds b k r)
+row_at : (b : BlockUses) (g : Graph) (j k : ℕ) (row : List ℕ) → length g ≡ j
+    → ((i : ℕ) → i < j → Preds b i (preds_in g i)) → Preds b j row
+    → (k < j) ⊎ (k ≡ j) → Preds b k (preds_in (g ++ row ∷ []) k)
+row_at b g j k row l h p (inl m) = subst (λ (r : List ℕ). Preds b k r)
     (sym (get_or_append_left g (row ∷ []) [] k (omega (arith, l, m)))) (h k m)
 row_at b g j k row l h p (inr e) =
-    subst (λ (n : ℕ). ArePreds b n (preds_in (g ++ row ∷ []) n)) (sym e)
-    (subst (λ (r : List ℕ). ArePreds b j r) (sym (get_or_push g row [] j l)) p)
+    subst (λ (n : ℕ). Preds b n (preds_in (g ++ row ∷ []) n)) (sym e)
+    (subst (λ (r : List ℕ). Preds b j r) (sym (get_or_push g row [] j l)) p)
 
-pub rows_more : (b : Lines) (g h : Graph) (j : ℕ) (row : List ℕ) → length g ≡ j → h ≡ g ++ row ∷ []
-    → ((i : ℕ) → i < j → ArePreds b i (preds_in g i)) → ArePreds b j row
-    → (k : ℕ) → k < j + 1 → ArePreds b k (preds_in h k)
-rows_more b g h j row l q f p k m = subst (λ (x : Graph). ArePreds b k (preds_in x k)) (sym q)
+pub rows_more : (b : BlockUses) (g h : Graph) (j : ℕ) (row : List ℕ) → length g ≡ j → h ≡ g ++ row ∷ []
+    → ((i : ℕ) → i < j → Preds b i (preds_in g i)) → Preds b j row
+    → (k : ℕ) → k < j + 1 → Preds b k (preds_in h k)
+rows_more b g h j row l q f p k m = subst (λ (x : Graph). Preds b k (preds_in x k)) (sym q)
     (row_at b g j k row l f p (below_or_at k j m))
 
 pub length_more : (g h : Graph) (j : ℕ) (row : List ℕ) → length g ≡ j → h ≡ g ++ row ∷ [] → length h ≡ j + 1
@@ -284,9 +273,16 @@ succs_more g i j row waiters more a h r m =
     (subst (λ (x : Graph). AreSuccs x i (joined (is_among row i) (length (take j g)) waiters)) k s)
 
 -- the graph of a block leads from earlier statements to later ones
-pub earlier : (b : Lines) (g : Graph) → ((j : ℕ) → j < length g → ArePreds b j (preds_in g j)) → AreEarlier g
+pub earlier : (b : BlockUses) (g : Graph) → ((j : ℕ) → j < length g → Preds b j (preds_in g j)) → AreEarlier g
 earlier b g h = λ j l. (
   (h j l).rising,
   All-from_get_or (λ i. i < j) (preds_in g j) 0
       (λ k m. (((h j l).exact (get_or (preds_in g j) k 0)).0 (Contains-get_or (preds_in g j) k 0 m)).before),
 )
+
+-- ---- what statements use, by their numbers
+
+-- the footprint of statement i
+pub footprint_at : (uses : BlockUses) (fs : List Footprint) (i : ℕ) (f : Footprint) → i < length fs → f ≡ get_or fs i f
+    → AreFootprints uses (length fs) fs → IsFootprintOf (uses i) f.uses
+footprint_at uses fs i f l e a = a.1 i f (slice_get_read fs (length fs) i f refl l e)

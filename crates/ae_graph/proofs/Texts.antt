@@ -1,14 +1,10 @@
 -- The texts of graphs, one after another.
-use Rattle.std.proofs.Common.{◌≡◌, ℕ, suc, ◌+◌, ◌<◌, List, [], ◌∷◌, ◌++◌, length, get_or, take, map, refl, sym, ap}
-use Rattle.std.proofs.Common.{◌∙◌, subst, arith, append_assoc, add-zero, zero-add}
-use Rattle.std.proofs.lemmas.List.{append-nil, take_more, map-append}
-use Rattle.std.proofs.lemmas.Grind.{common_steps}
+use Rattle.std.proofs.Common.{◌≡◌, ℕ, suc, ◌+◌, ◌<◌, List, [], ◌∷◌, ◌++◌, length, get_or, take, sym, ap}
+use Rattle.std.proofs.Common.{◌∙◌, arith, append_assoc, add-zero, zero-add}
+use Rattle.std.proofs.lemmas.List.{append-nil, take_more}
 use Rattle.std.specs.Fmt.{decimal}
-use Rattle.ae_tree.specs.declared.tree.Method.{Method}
-use Rattle.ae_tree.specs.Plain.{Definition}
-use Rattle.ae_tree.specs.Shown.{definition}
 use Rattle.ae_graph.specs.Graph.{Graph}
-use Rattle.ae_graph.specs.GraphText.{spaced, line_text, lines_text, method_text, AreMethodTexts, PutsMethod}
+use Rattle.ae_graph.specs.GraphText.{spaced, line_text, lines_text}
 use Rattle.ae_graph.proofs.Rows.{length_taken}
 
 spaced-push : (xs : List ℕ) (x : ℕ) → spaced (xs ++ x ∷ []) ≡ spaced xs ++ 32 ∷ decimal x
@@ -47,33 +43,3 @@ lines_more old now new g i row h r e f =
     ∙ ap (λ t. old ++ t) (sym (lines_text-push 0 (take i g) row))
     ∙ ap (λ (x : List ℕ). old ++ lines_text 0 (take i g ++ x ∷ [])) r
     ∙ ap (λ (x : Graph). old ++ lines_text 0 x) (sym (take_more g i row h))
-
-texts_push : (names : List (List ℕ)) (ms : List Definition) (m : Definition) (now new : List ℕ)
-    → AreMethodTexts names ms now → PutsMethod names m now new → AreMethodTexts names (ms ++ m ∷ []) new
-texts_push names [] m now new e p = (
-  p.0,
-  [],
-  p.1,
-  refl,
-  p.2 ∙ ap (λ (t : List ℕ). t ++ method_text names m p.0) e
-      ∙ sym (append-nil (method_text names m p.0)),
-)
-texts_push names (d ∷ ms) m now new (g, rest, is, more, e) p =
-    let r = texts_push names ms m rest (rest ++ method_text names m p.0) more (p.0, p.1, refl) in (
-      g,
-      rest ++ method_text names m p.0,
-      is,
-      r,
-      p.2 ∙ ap (λ (t : List ℕ). t ++ method_text names m p.0) e
-          ∙ append_assoc (method_text names d g) rest (method_text names m p.0),
-    )
-
-pub texts_more : (names : List (List ℕ)) (ms : List Method) (i : ℕ) (m : Method) (now new : List ℕ) → i < length ms
-    → m ≡ get_or ms i m → AreMethodTexts names (map definition (take i ms)) now
-    → PutsMethod names (definition m) now new → AreMethodTexts names (map definition (take (i + 1) ms)) new
-texts_more names ms i m now new h r a p =
-    let e : map definition (take i ms) ++ definition m ∷ [] ≡ map definition (take (i + 1) ms) =
-    sym (map-append definition (take i ms) (m ∷ [])) ∙ ap (λ (x : Method). map definition (take i ms ++ x ∷ [])) r
-    ∙ ap (map definition) (sym (take_more ms i m h)) in
-    subst (λ (ds : List Definition). AreMethodTexts names ds new) e
-    (texts_push names (map definition (take i ms)) (definition m) now new a p)

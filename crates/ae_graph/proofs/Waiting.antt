@@ -1,7 +1,7 @@
 -- For which statements the uses of a statement wait.
 use Rattle.std.proofs.Common.{◌+◌, take, get_or, add-one, ◌↔◌}
 use Rattle.std.proofs.lemmas.List.{take_more}
-use Rattle.std.proofs.Common.{◌≡◌, ℕ, zero, suc, ◌<◌, ◌⊎◌, inl, inr, Bool, true, false, not, nat_eq, nat_lt}
+use Rattle.std.proofs.Common.{◌≡◌, ℕ, zero, suc, ◌<◌, ◌⊎◌, inl, inr, Bool, true, false, not}
 use Rattle.std.proofs.Common.{if◌then◌else◌, List, [], ◌∷◌, ◌++◌, length, Option, None, Some, refl, sym, ap, ◌∙◌}
 use Rattle.std.proofs.Common.{subst, arith}
 use Rattle.std.specs.List.{Contains, filter}
@@ -11,42 +11,40 @@ use Rattle.ae_rules.specs.declared.uses.Resource.{Resource}
 use Rattle.ae_rules.specs.declared.uses.Resource.TheVariants.{Local, Group}
 use Rattle.ae_rules.specs.declared.uses.Mode.{Mode}
 use Rattle.ae_rules.specs.declared.uses.Use.{Use}
-use Rattle.ae_tree.specs.Plain.{Action, Lines}
-use Rattle.ae_rules.specs.BuiltUses.{use_of, used_by, use_at, statement_at, IsBuiltEdge, ArePreds}
-use Rattle.ae_rules.specs.Edges.{are_compatible, is_strong, IsConflict, IsWeak}
+use Rattle.ae_rules.specs.Edges.{Uses, BlockUses, Edge, Preds, are_compatible, is_strong, IsConflict, IsWeak}
 use Rattle.ae_graph.specs.declared.waits.Past.{Past}
 use Rattle.ae_graph.specs.Rising.{IsRisingOf}
-use Rattle.ae_graph.specs.Footprint.{IsFootprint, IsBelow, AreInOrder}
+use Rattle.ae_uses.specs.Footprint.{IsFootprintOf, IsBelow, AreInOrder}
 use Rattle.ae_graph.specs.Opened.{added, added_if, opened, is_same, after_uses, waited, waited_by}
-use Rattle.ae_graph.proofs.Elements.{here, there, uncons, in_map, from_map, in_filter, from_filter, in_flat_map}
-use Rattle.ae_graph.proofs.Elements.{from_flat_map}
+use Rattle.ae_graph.proofs.from_uses.Elements.{here, there, uncons, in_map, from_map}
+use Rattle.ae_graph.proofs.Elements.{in_filter, from_filter, in_flat_map, from_flat_map}
 use Rattle.std.proofs.lemmas.Bool.{eqb-true, not-true, not_from_false}
 use Rattle.ae_graph.proofs.from_text.Basics.{no_test_is_both, empty_has_nothing, below_or_last}
 
 -- ---- open uses
 
 -- a use before statement j, with no use between that shuts out every other
-pub record IsOpen (b : Lines) (j : ℕ) (r : Resource) (p : Past) : Type 0 where
+pub record IsOpen (b : BlockUses) (j : ℕ) (r : Resource) (p : Past) : Type 0 where
   pub before : p.stmt < j
-  pub used : use_at b p.stmt r ≡ Some p.mode
-  pub clear : (k : ℕ) → p.stmt < k → k < j → IsWeak (use_at b k r)
+  pub used : b p.stmt r ≡ Some p.mode
+  pub clear : (k : ℕ) → p.stmt < k → k < j → IsWeak (b k r)
 
-clear_at : (b : Lines) (j : ℕ) (r : Resource) (p : Past) → IsOpen b j r p → IsWeak (use_at b j r) → (k : ℕ)
-    → p.stmt < k → (k < j) ⊎ (k ≡ j) → IsWeak (use_at b k r)
+clear_at : (b : BlockUses) (j : ℕ) (r : Resource) (p : Past) → IsOpen b j r p → IsWeak (b j r) → (k : ℕ)
+    → p.stmt < k → (k < j) ⊎ (k ≡ j) → IsWeak (b k r)
 clear_at b j r p o w k l (inl m) = o.clear k l m
-clear_at b j r p o w k l (inr e) = subst (λ (n : ℕ). IsWeak (use_at b n r)) (sym e) w
+clear_at b j r p o w k l (inr e) = subst (λ (n : ℕ). IsWeak (b n r)) (sym e) w
 
-later : (b : Lines) (j : ℕ) (r : Resource) (p : Past) → IsOpen b j r p → IsWeak (use_at b j r) → IsOpen b (suc j) r p
+later : (b : BlockUses) (j : ℕ) (r : Resource) (p : Past) → IsOpen b j r p → IsWeak (b j r) → IsOpen b (suc j) r p
 later b j r p o w = record {
   before = omega (arith, o.before);
   used = o.used;
   clear = λ k l m. clear_at b j r p o w k l (below_or_last k j m);
 }
 
-earlier : (b : Lines) (j : ℕ) (r : Resource) (p : Past) → IsOpen b (suc j) r p → p.stmt < j → IsOpen b j r p
+earlier : (b : BlockUses) (j : ℕ) (r : Resource) (p : Past) → IsOpen b (suc j) r p → p.stmt < j → IsOpen b j r p
 earlier b j r p o h = record { before = h; used = o.used; clear = λ k l m. o.clear k l (omega (arith, m)) }
 
-latest : (b : Lines) (j : ℕ) (r : Resource) (m : Mode) (p : Past) → use_at b j r ≡ Some m
+latest : (b : BlockUses) (j : ℕ) (r : Resource) (m : Mode) (p : Past) → b j r ≡ Some m
     → record { stmt = j; mode = m } ≡ p → IsOpen b (suc j) r p
 latest b j r m p e q = subst (λ (x : Past). IsOpen b (suc j) r x) q
     (record { before = omega arith; used = e; clear = λ k l n. absurd (omega (arith, l, n)) })
@@ -68,41 +66,41 @@ still_there ps n p false e h = Contains-append_left ps (n ∷ []) p h
 weak_is : (o u : Option Mode) → u ≡ o → IsWeak o → IsWeak u
 weak_is o u e h = subst IsWeak (sym e) h
 
-open_step : (b : Lines) (j : ℕ) (r : Resource) (p : Past) (o : Option Mode) → use_at b j r ≡ o
+open_step : (b : BlockUses) (j : ℕ) (r : Resource) (p : Past) (o : Option Mode) → b j r ≡ o
     → (Contains (opened b j r) p → IsOpen b j r p)
     → Contains (added_if j (opened b j r) o) p → IsOpen b (suc j) r p
-open_step b j r p None e go h = later b j r p (go h) (weak_is None (use_at b j r) e tt)
+open_step b j r p None e go h = later b j r p (go h) (weak_is None (b j r) e tt)
 open_step b j r p (Some m) e go h =
     elim (from_added (opened b j r) (record { stmt = j; mode = m }) p (is_strong m) h) [
-      | inl k ↦ later b j r p (go k.1) (weak_is (Some m) (use_at b j r) e k.0)
+      | inl k ↦ later b j r p (go k.1) (weak_is (Some m) (b j r) e k.0)
       | inr q ↦ latest b j r m p e q
     ]
 
 -- what is kept is open
-pub is_open : (b : Lines) (j : ℕ) (r : Resource) (p : Past) → Contains (opened b j r) p → IsOpen b j r p
+pub is_open : (b : BlockUses) (j : ℕ) (r : Resource) (p : Past) → Contains (opened b j r) p → IsOpen b j r p
 is_open b zero r p h = absurd (empty_has_nothing p h)
-is_open b (suc j) r p h = open_step b j r p (use_at b j r) refl (is_open b j r p) h
+is_open b (suc j) r p h = open_step b j r p (b j r) refl (is_open b j r p) h
 
-kept_step : (b : Lines) (j : ℕ) (r : Resource) (p : Past) (o : Option Mode) → use_at b j r ≡ o → IsOpen b (suc j) r p
+kept_step : (b : BlockUses) (j : ℕ) (r : Resource) (p : Past) (o : Option Mode) → b j r ≡ o → IsOpen b (suc j) r p
     → (p.stmt < j) ⊎ (p.stmt ≡ j)
     → (IsOpen b j r p → Contains (opened b j r) p) → Contains (added_if j (opened b j r) o) p
 kept_step b j r p None e o (inl l) go = go (earlier b j r p o l)
-kept_step b j r p None e o (inr q) go = let w : use_at b j r
-    ≡ Some p.mode = subst (λ (n : ℕ). use_at b n r ≡ Some p.mode) q o.used in absurd (cc)
+kept_step b j r p None e o (inr q) go = let w : b j r
+    ≡ Some p.mode = subst (λ (n : ℕ). b n r ≡ Some p.mode) q o.used in absurd (cc)
 kept_step b j r p (Some m) e o (inl l) go =
     let w : IsWeak (Some m) = subst IsWeak e (o.clear j l (omega arith))
     in still_there (opened b j r) (record { stmt = j; mode = m }) p (is_strong m) w (go (earlier b j r p o l))
 kept_step b j r p (Some m) e o (inr q) go =
-    let w : use_at b j r ≡ Some p.mode = subst (λ (n : ℕ). use_at b n r ≡ Some p.mode) q o.used in
+    let w : b j r ≡ Some p.mode = subst (λ (n : ℕ). b n r ≡ Some p.mode) q o.used in
     let n : p.mode ≡ m = cc in
     let same : record { stmt = j; mode = m } ≡ p = λ i. record { stmt = sym q i; mode = sym n i } in
     subst (λ (x : Past). Contains (added (opened b j r) (record { stmt = j; mode = m })) x) same
     (last_added (opened b j r) (record { stmt = j; mode = m }) (is_strong m))
 
 -- what is open is kept
-pub is_kept : (b : Lines) (j : ℕ) (r : Resource) (p : Past) → IsOpen b j r p → Contains (opened b j r) p
+pub is_kept : (b : BlockUses) (j : ℕ) (r : Resource) (p : Past) → IsOpen b j r p → Contains (opened b j r) p
 is_kept b zero r p o = absurd (omega (arith, o.before))
-is_kept b (suc j) r p o = kept_step b j r p (use_at b j r) refl o (below_or_last p.stmt j o.before) (is_kept b j r p)
+is_kept b (suc j) r p o = kept_step b j r p (b j r) refl o (below_or_last p.stmt j o.before) (is_kept b j r p)
 
 -- ---- the statements for which uses wait
 
@@ -119,9 +117,6 @@ pub in_waited : (m : Mode) (ps : List Past) (p : Past) → Contains ps p → are
 in_waited m ps p h e =
     in_map (λ (q : Past). q.stmt) (filter (λ q. not (are_compatible q.mode m)) ps) p
     (in_filter (λ (q : Past). not (are_compatible q.mode m)) ps p h (not_from_false (are_compatible p.mode m) e))
-
-used_at : (b : Lines) (j : ℕ) (a : Action) (r : Resource) → statement_at b j ≡ Some a → use_at b j r ≡ use_of a r
-used_at b j a r e = ap (λ o. used_by o r) e
 
 conflict_of : (x y : Option Mode) (m n : Mode) → x ≡ Some m → y ≡ Some n → are_compatible m n ≡ false → IsConflict x y
 conflict_of x y m n e f h = subst (λ (o : Option Mode). IsConflict o y) (sym e)
@@ -140,39 +135,38 @@ clash None y h = absurd h
 clash (Some m) None h = absurd h
 clash (Some m) (Some n) h = record { first = m; second = n; first_is = refl; second_is = refl; apart = h }
 
-edge_from : (b : Lines) (j : ℕ) (a : Action) (uses : List Use) → statement_at b j ≡ Some a → IsFootprint a uses
-    → (i : ℕ) → Contains (waited_by (opened b j) uses) i → IsBuiltEdge b i j
-edge_from b j a uses s f i h =
+edge_from : (b : BlockUses) (j : ℕ) (uses : List Use) → IsFootprintOf (b j) uses
+    → (i : ℕ) → Contains (waited_by (opened b j) uses) i → Edge b i j
+edge_from b j uses f i h =
     let g = from_flat_map (λ (u : Use). waited u.mode (opened b j u.what)) uses i h in
     let u = g.0 in
     let w = from_waited u.mode (opened b j u.what) i g.2 in
     let o : IsOpen b j u.what w.0 = is_open b j u.what w.0 w.1 in
-    let used : use_at b j u.what ≡ Some u.mode = used_at b j a u.what s ∙ (f.exact u).0 g.1 in
-    subst (λ (n : ℕ). IsBuiltEdge b n j) w.2 (record {
+    let used : b j u.what ≡ Some u.mode = (f.exact u).0 g.1 in
+    subst (λ (n : ℕ). Edge b n j) w.2 (record {
       before = o.before;
       on = u.what;
       conflict = conflict_of _ _ w.0.mode u.mode o.used used w.3;
       clear = o.clear;
     })
 
-to_edge : (b : Lines) (j : ℕ) (a : Action) (uses : List Use) → statement_at b j ≡ Some a → IsFootprint a uses
-    → (i : ℕ) → IsBuiltEdge b i j → Contains (waited_by (opened b j) uses) i
-to_edge b j a uses s f i e =
-    let c : Clash (use_at b i e.on) (use_at b j e.on) = clash _ _ e.conflict in
+to_edge : (b : BlockUses) (j : ℕ) (uses : List Use) → IsFootprintOf (b j) uses
+    → (i : ℕ) → Edge b i j → Contains (waited_by (opened b j) uses) i
+to_edge b j uses f i e =
+    let c : Clash (b i e.on) (b j e.on) = clash _ _ e.conflict in
     let p : Past = record { stmt = i; mode = c.first } in
     let u : Use = record { what = e.on; mode = c.second } in
     let o : IsOpen b j e.on p = record { before = e.before; used = c.first_is; clear = e.clear } in
-    let k : Contains uses u = (f.exact u).1 (sym (used_at b j a e.on s) ∙ c.second_is) in
+    let k : Contains uses u = (f.exact u).1 c.second_is in
     in_flat_map (λ (v : Use). waited v.mode (opened b j v.what)) uses u i k
     (in_waited c.second (opened b j e.on) p (is_kept b j e.on p o) c.apart)
 
 -- the statements for which the uses of statement j wait are those from which an edge leads to it
-pub preds_are : (b : Lines) (j : ℕ) (a : Action) (uses : List Use) (waits : List ℕ) → statement_at b j ≡ Some a
-    → IsFootprint a uses
-    → IsRisingOf (waited_by (opened b j) uses) waits → ArePreds b j waits
-preds_are b j a uses waits s f r = record {
+pub preds_are : (b : BlockUses) (j : ℕ) (uses : List Use) (waits : List ℕ) → IsFootprintOf (b j) uses
+    → IsRisingOf (waited_by (opened b j) uses) waits → Preds b j waits
+preds_are b j uses waits f r = record {
   rising = r.in_order;
-  exact = λ i. ((λ h. edge_from b j a uses s f i ((r.same i).0 h)), (λ e. (r.same i).1 (to_edge b j a uses s f i e)));
+  exact = λ i. ((λ h. edge_from b j uses f i ((r.same i).0 h)), (λ e. (r.same i).1 (to_edge b j uses f i e)));
 }
 
 -- ---- one more statement
@@ -291,32 +285,21 @@ after_all j r ps (u ∷ us) o h e = after_first j r ps u us o h e (λ i k. after
     (is_same u.what r) refl
 
 -- after the uses of a statement one more use of each resource is kept, if it has one
-pub after_footprint : (j : ℕ) (r : Resource) (ps : List Past) (a : Action) (us : List Use) → IsFootprint a us
-    → after_uses j r ps us ≡ added_if j ps (use_of a r)
-after_footprint j r ps a us f = after_all j r ps us (use_of a r) f.in_order
-    (λ m. f.exact (record { what = r; mode = m }))
+pub after_footprint : (j : ℕ) (r : Resource) (ps : List Past) (u : Uses) (us : List Use) → IsFootprintOf u us
+    → after_uses j r ps us ≡ added_if j ps (u r)
+after_footprint j r ps u us f = after_all j r ps us (u r) f.in_order (λ m. f.exact (record { what = r; mode = m }))
 
-pub opened_next : (b : Lines) (j : ℕ) (a : Action) (us : List Use) (f g : Resource → List Past)
-    → statement_at b j ≡ Some a → IsFootprint a us
+pub opened_next : (b : BlockUses) (j : ℕ) (us : List Use) (f g : Resource → List Past) → IsFootprintOf (b j) us
     → ((r : Resource) → f r ≡ opened b j r) → ((r : Resource) → g r ≡ after_uses j r (f r) us) → (r : Resource)
     → g r ≡ opened b (j + 1) r
-opened_next b j a us f g s k h e r =
-    e r ∙ after_footprint j r (f r) a us k ∙ ap (λ ps. added_if j ps (use_of a r)) (h r)
-    ∙ ap (added_if j (opened b j r)) (sym (used_at b j a r s))
+opened_next b j us f g k h e r =
+    e r ∙ after_footprint j r (f r) (b j) us k ∙ ap (λ ps. added_if j ps (b j r)) (h r)
     ∙ ap (λ n. opened b n r) (sym (add-one j))
 
 -- what a turn over statement j finds
-pub preds_found : (b : Lines) (j : ℕ) (a : Action) (uses us : List Use) (f : Resource → List Past) (waits : List ℕ)
-    → statement_at b j ≡ Some a → IsFootprint a uses → us ≡ uses
-    → ((r : Resource) → f r ≡ opened b j r) → IsRisingOf (waited_by f us) waits → ArePreds b j waits
-preds_found b j a uses us f waits s k e h r =
+pub preds_found : (b : BlockUses) (j : ℕ) (us : List Use) (f : Resource → List Past) (waits : List ℕ)
+    → IsFootprintOf (b j) us
+    → ((r : Resource) → f r ≡ opened b j r) → IsRisingOf (waited_by f us) waits → Preds b j waits
+preds_found b j us f waits k h r =
     let same : f ≡ opened b j = λ i. λ x. h x i in
-    let P : List Use → Type 0 = λ x. IsRisingOf (waited_by (opened b j) x) waits in
-    let Q : (Resource → List Past) → Type 0 = λ x. IsRisingOf (waited_by x us) waits
-    in preds_are b j a uses waits s k (subst P e (subst Q same r))
-
-pub opened_found : (b : Lines) (j : ℕ) (a : Action) (uses us : List Use) (f g : Resource → List Past)
-    → statement_at b j ≡ Some a → IsFootprint a uses → us ≡ uses
-    → ((r : Resource) → f r ≡ opened b j r) → ((r : Resource) → g r ≡ after_uses j r (f r) us) → (r : Resource)
-    → g r ≡ opened b (j + 1) r
-opened_found b j a uses us f g s k e h n r = opened_next b j a uses f g s k h (λ x. n x ∙ ap (after_uses j x (f x)) e) r
+    preds_are b j us waits k (subst (λ (x : Resource → List Past). IsRisingOf (waited_by x us) waits) same r)

@@ -1,11 +1,8 @@
 -- The graph of a block as a list: for each statement, the numbers of those for which it waits.
 use Rattle.std.specs.Prelude.{◌≡◌, ◌<◌, ◌+◌, ◌++◌, ◌↔◌, ℕ, nat_eq, Bool, List, [], ◌∷◌, length, slice_index_or}
-use Rattle.std.specs.Prelude.{Option, None, Some, Contains, map}
+use Rattle.std.specs.Prelude.{Contains, map}
 use Rattle.ae_text.specs.declared.refusal.Edge.{Edge}
-use Rattle.ae_tree.specs.Plain.{Lines}
-use Rattle.ae_tree.specs.Limits.{statement_count}
-use Rattle.ae_rules.specs.BuiltUses.{ArePreds}
-use Rattle.ae_rules.specs.Edges.{IsRising}
+use Rattle.ae_rules.specs.Edges.{BlockUses, IsRising, Preds}
 
 abbrev pub Graph : Type 0
 Graph = List (List ℕ)
@@ -18,10 +15,9 @@ preds_in g j = slice_index_or g j []
 abbrev pub is_free : List ℕ → Bool
 is_free preds = nat_eq (length preds) 0
 
--- the graph of this block
-abbrev pub IsGraph : Option Lines → Graph → Type 0
-IsGraph None g = ⊥
-IsGraph (Some b) g = (length g ≡ statement_count b) × ((j : ℕ) → j < length g → ArePreds b j (preds_in g j))
+-- the graph of so many statements that use resources so
+abbrev pub IsGraphOf : BlockUses → ℕ → Graph → Type 0
+IsGraphOf uses n g = (length g ≡ n) × ((j : ℕ) → j < length g → Preds uses j (preds_in g j))
 
 -- the statements that wait for statement i, rising
 pub record AreSuccs (g : Graph) (i : ℕ) (succs : List ℕ) : Type 0 where

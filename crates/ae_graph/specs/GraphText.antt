@@ -1,8 +1,13 @@
 -- The text of the graphs of a program.
-use Rattle.std.specs.Prelude.{◌≡◌, ◌+◌, ◌++◌, ℕ, List, [], ◌∷◌, length, slice_index_or, Some, codes, if◌then◌else◌}
+use Rattle.std.specs.Prelude.{ℕ, ◌+◌, ◌++◌, List, [], ◌∷◌, length, slice_index_or, codes, if◌then◌else◌}
 use Rattle.std.specs.Fmt.{decimal}
+use Rattle.std.specs.List.{flat_map}
+use Rattle.ae_tree.specs.declared.tree.Class.{Class}
 use Rattle.ae_tree.specs.Plain.{Definition, Code}
-use Rattle.ae_graph.specs.Graph.{Graph, IsGraph, is_free}
+use Rattle.ae_rules.specs.Verdict.{given}
+use Rattle.ae_rules.specs.Lookups.{class_at}
+use Rattle.ae_rules.specs.Blocks.{Opened, scenes, scene_graph}
+use Rattle.ae_graph.specs.Graph.{Graph, is_free}
 
 -- a name as it is written, and nothing for a number without a name
 abbrev pub written_name : List (List ℕ) → ℕ → List ℕ
@@ -26,19 +31,24 @@ abbrev pub block_text : ℕ → Graph → List ℕ
 block_text number g = codes "block " ++ decimal number ++ codes " has " ++ decimal (length g) ++ codes "\n"
     ++ lines_text 0 g
 
-abbrev pub method_text : List (List ℕ) → Definition → Graph → List ℕ
-method_text names m g = codes "method " ++ written_name names m.name.name ++ codes "\n" ++ block_text m.no g
+-- a block with its number, and what each of its statements waits for
+abbrev pub text_of_block : Code → Opened → List ℕ
+text_of_block p s = block_text s.0 (scene_graph p s.1)
 
--- the texts of methods, one after another, each with the graph of its body
-abbrev pub AreMethodTexts : List (List ℕ) → List Definition → List ℕ → Type 0
-AreMethodTexts names [] text = text ≡ []
-AreMethodTexts names (m ∷ ms) text = (g : Graph) × (rest : List ℕ) × IsGraph (Some m.body) g
-    × AreMethodTexts names ms rest × (text ≡ method_text names m g ++ rest)
+-- the class in which a method stands, with a dot
+abbrev pub in_class : Code → Definition → List ℕ
+in_class p m = given m.class []
+    (λ n. given (class_at p n) [] (λ (k : Class). written_name p.names k.name.name ++ codes "."))
 
--- the text of the graphs of a program whose methods have one block each
-abbrev pub IsGraphText : Code → List ℕ → Type 0
-IsGraphText p text = AreMethodTexts p.names p.methods text
+-- a method, and these blocks
+abbrev pub text_of_blocks : Code → Definition → List Opened → List ℕ
+text_of_blocks p m xs = codes "method " ++ in_class p m ++ written_name p.names m.name.name ++ codes "\n"
+    ++ flat_map (text_of_block p) xs
 
--- the text of a method is put behind what was there
-abbrev pub PutsMethod : List (List ℕ) → Definition → List ℕ → List ℕ → Type 0
-PutsMethod names m old new = (g : Graph) × IsGraph (Some m.body) g × (new ≡ old ++ method_text names m g)
+-- a method, and its blocks that are not inside an atomic block, in the order in which they are opened
+abbrev pub text_of_method : Code → Definition → List ℕ
+text_of_method p m = text_of_blocks p m (scenes p m)
+
+-- the methods in source order
+abbrev pub graph_text : Code → List ℕ
+graph_text p = flat_map (text_of_method p) p.methods

@@ -1,7 +1,6 @@
 pub mod Rising
-pub mod Footprint
 pub mod Opened
 pub mod Graph
 pub mod Succs
 pub mod GraphText
-pub mod Graphs
+pub mod Drawn

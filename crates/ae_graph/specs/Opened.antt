@@ -7,9 +7,7 @@ use Rattle.ae_rules.specs.declared.uses.Resource.{Resource}
 use Rattle.ae_rules.specs.declared.uses.Resource.TheVariants.{Local, Group}
 use Rattle.ae_rules.specs.declared.uses.Mode.{Mode}
 use Rattle.ae_rules.specs.declared.uses.Use.{Use}
-use Rattle.ae_tree.specs.Plain.{Lines}
-use Rattle.ae_rules.specs.BuiltUses.{use_at}
-use Rattle.ae_rules.specs.Edges.{are_compatible, is_strong}
+use Rattle.ae_rules.specs.Edges.{are_compatible, is_strong, BlockUses}
 use Rattle.ae_graph.specs.declared.waits.Past.{Past}
 use Rattle.ae_graph.specs.declared.waits.OpenUses.{OpenUses}
 
@@ -35,9 +33,9 @@ added_if j ps None = ps
 added_if j ps (Some m) = added ps (record { stmt = j; mode = m })
 
 -- the open uses of a resource before statement j
-abbrev pub opened : Lines → ℕ → Resource → List Past
+abbrev pub opened : BlockUses → ℕ → Resource → List Past
 opened b zero r = []
-opened b (suc j) r = added_if j (opened b j r) (use_at b j r)
+opened b (suc j) r = added_if j (opened b j r) (b j r)
 
 abbrev pub is_same : Resource → Resource → Bool
 is_same (Local x) (Local y) = nat_eq x y

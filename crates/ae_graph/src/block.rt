@@ -1,16 +1,24 @@
 // The graph of a block.
-ghost use Rattle.std.specs.Prelude.{◌≡◌, ◌<◌, ◌≤◌, ◌^◌, List, [], length, IfOk, IsSome, Some, count_by};
-ghost use Rattle.ae_tree.specs.Shown.{code, braced, lines_from};
-ghost use Rattle.ae_tree.specs.Limits.{statement_count, Within};
-ghost use Rattle.ae_rules.specs.Judgement.{Accepted};
-ghost use Rattle.ae_rules.specs.BuiltUses.{block_of};
-ghost use Rattle.ae_graph.specs.Graph.{IsGraph, AreSuccs, preds_in, edges_from, is_free};
+ghost use Rattle.std.specs.Prelude.{◌≡◌, ◌<◌, ◌≤◌, ◌^◌, List, [], length, IfOk, IsSome, MatchOption, Some, None};
+ghost use Rattle.std.specs.Prelude.{count_by, find, nat_eq};
+ghost use Rattle.ae_tree.specs.Shown.{code as plain, definition};
+ghost use Rattle.ae_tree.specs.Limits.{Within};
+ghost use Rattle.ae_tree.specs.WellShaped.{WellShaped};
+ghost use Rattle.ae_tree.specs.Built.{Built};
+ghost use Rattle.ae_rules.specs.Edges.{BlockUses};
+ghost use Rattle.ae_rules.specs.Lookups.{method_at};
+ghost use Rattle.ae_rules.specs.Blocks as rules;
+ghost use Rattle.ae_uses.specs.Opened.{AreFootprints};
+ghost use Rattle.ae_graph.specs.Graph.{IsGraphOf, AreSuccs, preds_in, edges_from, is_free};
+ghost use Rattle.ae_graph.specs.Drawn.{AreOfSome};
 
 use crate::preds::preds_of;
 use crate::succs::{edges_of, succs_of};
-use crate::uses::block_at;
+use ae_bodies::method_uses;
+use ae_code::{Checked, Method, Program};
+use ae_rules::{Footprint, names_are_of_the_program};
 use ae_text::{Edge, Items, Memory};
-use ae_tree::{Block, Program, Stmt};
+use ae_uses::OpenedBlock;
 use std::alloc::{AllocError, Global};
 use std::marker::Model;
 
@@ -34,12 +42,14 @@ impl Model for BlockGraph {
     ghost invariant = { λ g. AreAllSuccs g.preds g.succs × (g.edges ≡ edges_from 0 g.preds) × (length g.preds < 2 ^ 32) };
 }
 
-// The graph of these statements.
-fn graph_of(alloc: Global, stmts: &[Stmt]) -> Result<BlockGraph, AllocError>
-    requires { statement_count (lines_from stmts.now) ≤ 1024 }
-    ensures { IfOk result (IsGraph (Some (lines_from stmts.now))) }
+// The graph of statements that use these.
+pub fn graph_by(alloc: Global, footprints: &[Footprint]) -> Result<BlockGraph, AllocError>
+    requires few { length footprints.now ≤ 1024 }
+    requires used { AreOfSome footprints.now }
+    ensures { (uses : BlockUses) → AreFootprints uses (length footprints.now) footprints.now
+        → IfOk result (IsGraphOf uses (length footprints.now)) }
 {
-    let preds = preds_of(alloc, stmts)?;
+    let preds = preds_of(alloc, footprints)?;
     let succs = succs_of(alloc, preds.as_slice())?;
     let edges = edges_of(alloc, preds.as_slice())?;
     Ok(BlockGraph {
@@ -49,16 +59,25 @@ fn graph_of(alloc: Global, stmts: &[Stmt]) -> Result<BlockGraph, AllocError>
     })
 }
 
-// The graph of a block within the limits.
-#[tactic(auto, using(crate::proofs::Rules::forms))]
-pub fn block_graph(alloc: Global, block: &Block) -> Result<BlockGraph, Memory>
-    requires { statement_count (braced block.now).lines ≤ 1024 }
-    ensures { IfOk result (IsGraph (Some (braced block.now).lines)) }
+// The method with this number.
+pub fn method_in(program: &Program, number: u32) -> Option<&Method>
+    ensures { MatchOption result (method_at (plain program.now) number ≡ None)
+        (λ m. method_at (plain program.now) number ≡ Some (definition m.now)) }
 {
-    match graph_of(alloc, block.stmts.as_slice()) {
-        Ok(graph) => Ok(graph),
-        Err(_) => Err(Memory),
+    program.methods.get(number as usize)
+}
+
+// The first of these blocks with this number.
+fn numbered(blocks: &[OpenedBlock], number: u32) -> Option<&OpenedBlock>
+    ensures { MatchOption result (find (λ (o : _). nat_eq o.no number) blocks.now ≡ None)
+        (λ o. find (λ (o : _). nat_eq o.no number) blocks.now ≡ Some o.now) }
+{
+    for block in blocks {
+        if block.no == number {
+            return Some(block);
+        }
     }
+    None
 }
 
 // How many statements wait for none.
@@ -76,22 +95,27 @@ fn count_free(preds: &[Items<u32>]) -> u32
 }
 
 impl BlockGraph {
-    /// The graph of a block of an accepted program within the limits, by the number of its method and its own.
-    pub fn of(
-        alloc: Global,
-        program: &Program,
-        method: u32,
-        block: u32,
-    ) -> Result<BlockGraph, Memory>
-        requires accepted { Accepted (code program.now) }
-        requires within { Within (code program.now) }
-        requires block { IsSome (block_of (code program.now) method block) }
-        ensures { IfOk result (IsGraph (block_of (code program.now) method block)) }
+    /// The graph of a block of an accepted program within the limits, of the forms that run, by the number of its method and its own. Blocks in
+    /// an atomic block, and atomic blocks, have none.
+    pub fn of(alloc: Global, code: &Checked, method: u32, block: u32) -> Result<BlockGraph, Memory>
+        requires shaped { WellShaped (plain code.now.program) }
+        requires within { Within (plain code.now.program) }
+        requires built { Built (plain code.now.program) }
+        requires block { IsSome (rules.graph_of (plain code.now.program) method block) }
+        ensures { IfOk result (λ g. rules.graph_of (plain code.now.program) method block ≡ Some g) }
     {
-        let Some(block) = block_at(program, method, block) else {
+        names_are_of_the_program();
+        let Some(method) = method_in(code.program(), method) else {
             unreachable!()
         };
-        block_graph(alloc, block)
+        let blocks = method_uses(alloc, code, method)?;
+        let Some(opened) = numbered(blocks.as_slice(), block) else {
+            unreachable!()
+        };
+        match graph_by(alloc, opened.uses.as_slice()) {
+            Ok(graph) => Ok(graph),
+            Err(_) => Err(Memory),
+        }
     }
 
     /// All edges, by `to` and then by `from`.

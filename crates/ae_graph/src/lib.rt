@@ -1,4 +1,4 @@
-//! What may run together: the uses of a statement and the graph of a block.
+//! What may run together: which statements of a block wait for which, and the text of the graphs of a program.
 #![tactic(auto)]
 
 mod block;
@@ -6,10 +6,9 @@ mod preds;
 mod rising;
 mod succs;
 mod text;
-mod uses;
 mod waits;
 
 pub use ae_rules::{Footprint, Mode, Resource, Use};
+pub use ae_uses::compatible;
 pub use block::BlockGraph;
 pub use text::graph_text;
-pub use uses::{compatible, footprint};

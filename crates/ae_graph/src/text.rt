@@ -1,16 +1,26 @@
 // The text of the graphs of a program.
-ghost use Rattle.std.specs.Prelude.{◌≡◌, ◌<◌, ◌≤◌, ◌^◌, ◌++◌, [], ◌∷◌, length, slice_index_or, codes, IfOk, OnOk, Some};
+ghost use Rattle.std.specs.Prelude.{◌≡◌, ◌<◌, ◌≤◌, ◌^◌, ◌++◌, [], ◌∷◌, List, ℕ, length, slice_index_or, codes, IfOk, OnOk};
+ghost use Rattle.std.specs.Prelude.{Some};
+ghost use Rattle.std.specs.List.{flat_map};
 ghost use Rattle.std.specs.Fmt.{decimal};
-ghost use Rattle.ae_tree.specs.Shown.{definition, code};
-ghost use Rattle.ae_tree.specs.Limits.{statement_count, Within};
-ghost use Rattle.ae_rules.specs.Judgement.{Accepted};
-ghost use Rattle.ae_graph.specs.Graph.{Graph, IsGraph};
-ghost use Rattle.ae_graph.specs.GraphText.{written_name, spaced, line_text, lines_text, block_text, method_text};
-ghost use Rattle.ae_graph.specs.GraphText.{IsGraphText, PutsMethod};
+ghost use Rattle.ae_tree.specs.Plain.{Code};
+ghost use Rattle.ae_tree.specs.Shown.{definition, code as plain};
+ghost use Rattle.ae_tree.specs.Limits.{Within};
+ghost use Rattle.ae_tree.specs.WellShaped.{WellShaped};
+ghost use Rattle.ae_tree.specs.Built.{Built};
+ghost use Rattle.ae_rules.specs.Lookups.{method_at};
+ghost use Rattle.ae_rules.specs.Blocks.{Opened};
+ghost use Rattle.ae_graph.specs.Graph.{Graph};
+ghost use Rattle.ae_graph.specs.GraphText as texts;
+ghost use Rattle.ae_graph.specs.GraphText.{written_name, spaced, line_text, lines_text, block_text};
+ghost use Rattle.ae_graph.specs.Drawn.{AreDrawable, IsDrawable};
 
-use crate::block::{BlockGraph, block_graph};
+use crate::block::{BlockGraph, graph_by};
+use ae_bodies::method_uses;
+use ae_code::{Checked, Method, Name, Program};
+use ae_rules::names_are_of_the_program;
 use ae_text::{Items, Memory};
-use ae_tree::{Method, Name, Program};
+use ae_uses::OpenedBlock;
 use std::alloc::{AllocError, Global};
 
 fn spelling_of(names: &[Items<u8>], name: Name) -> &[u8]
@@ -97,59 +107,112 @@ fn put_block(
     put_lines(alloc, text, rows)
 }
 
+// The graph of a block.
+fn put_opened(alloc: Global, text: &mut Vec<u8>, opened: &OpenedBlock) -> Result<(), AllocError>
+    requires { (p : Code) × (x : Opened) × IsDrawable p x opened.now }
+    ensures { (p : Code) (x : Opened) → IsDrawable p x opened.now
+        → OnOk result (text.new.items ≡ text.old.items ++ texts.text_of_block p x) }
+{
+    let graph = graph_by(alloc, opened.uses.as_slice())?;
+    put_block(alloc, text, opened.no, &graph)
+}
+
+// The graphs of blocks, one after another.
+fn put_blocks(alloc: Global, text: &mut Vec<u8>, blocks: &[OpenedBlock]) -> Result<(), AllocError>
+    requires { (p : Code) × (xs : List Opened) × AreDrawable p xs blocks.now }
+    ensures { (p : Code) (xs : List Opened) → AreDrawable p xs blocks.now
+        → OnOk result (text.new.items ≡ text.old.items ++ flat_map (texts.text_of_block p) xs) }
+{
+    for opened in blocks {
+        put_opened(alloc, text, opened)?;
+    }
+    Ok(())
+}
+
+// The class in which a method stands, with a dot.
 #[tactic(auto, using(crate::proofs::Rules::forms))]
-fn put_name(text: &mut Vec<u8>, names: &[Items<u8>], name: Name) -> Result<(), AllocError>
-    ensures { OnOk result (text.new.items ≡ text.old.items
-        ++ (codes "method " ++ written_name names.now name ++ codes "\n")) }
+fn put_class(text: &mut Vec<u8>, program: &Program, method: &Method) -> Result<(), AllocError>
+    ensures { OnOk result (text.new.items
+        ≡ text.old.items ++ texts.in_class (plain program.now) (definition method.now)) }
+{
+    match method.class {
+        Some(number) => match program.classes.get(number as usize) {
+            Some(class) => {
+                text.extend_from_slice(spelling_of(program.names.as_slice(), class.name.name))?;
+                text.push(b'.')?;
+                Ok(())
+            }
+            None => Ok(()),
+        },
+        None => Ok(()),
+    }
+}
+
+// A method's name.
+#[tactic(auto, using(crate::proofs::Rules::forms))]
+fn put_head(text: &mut Vec<u8>, program: &Program, method: &Method) -> Result<(), AllocError>
+    ensures { OnOk result (text.new.items ≡ text.old.items ++ (codes "method "
+        ++ texts.in_class (plain program.now) (definition method.now)
+        ++ written_name program.now.names method.now.name.name ++ codes "\n")) }
 {
     text.extend_from_slice(b"method ")?;
-    text.extend_from_slice(spelling_of(names, name))?;
+    put_class(text, program, method)?;
+    text.extend_from_slice(spelling_of(program.names.as_slice(), method.name.name))?;
     text.push(b'\n')?;
     Ok(())
 }
 
-// A method with the graph of its body.
-#[tactic(auto, using(crate::proofs::Rules::forms))]
-pub fn put_graph(
+// A method's name, and the graphs of these blocks.
+fn put_named(
     alloc: Global,
     text: &mut Vec<u8>,
-    names: &[Items<u8>],
+    program: &Program,
     method: &Method,
-    graph: &BlockGraph,
+    blocks: &[OpenedBlock],
 ) -> Result<(), AllocError>
-    ensures { OnOk result (text.new.items ≡ text.old.items ++ method_text names.now (definition method.now) graph.now) }
+    requires { (xs : List Opened) × AreDrawable (plain program.now) xs blocks.now }
+    ensures { (xs : List Opened) → AreDrawable (plain program.now) xs blocks.now → OnOk result (text.new.items
+        ≡ text.old.items ++ texts.text_of_blocks (plain program.now) (definition method.now) xs) }
 {
-    put_name(text, names, method.name.name)?;
-    put_block(alloc, text, method.body.no, graph)
+    put_head(text, program, method)?;
+    put_blocks(alloc, text, blocks)
 }
 
+// A method with the graphs of its blocks.
 fn put_method(
     alloc: Global,
     text: &mut Vec<u8>,
-    names: &[Items<u8>],
+    code: &Checked,
     method: &Method,
 ) -> Result<(), Memory>
-    requires { statement_count (definition method.now).body ≤ 1024 }
-    ensures { OnOk result (PutsMethod names.now (definition method.now) text.old.items text.new.items) }
+    requires shaped { WellShaped (plain code.now.program) }
+    requires within { Within (plain code.now.program) }
+    requires built { Built (plain code.now.program) }
+    requires method { (n : ℕ) × (method_at (plain code.now.program) n ≡ Some (definition method.now)) }
+    ensures { OnOk result (text.new.items
+        ≡ text.old.items ++ texts.text_of_method (plain code.now.program) (definition method.now)) }
 {
-    let graph = block_graph(alloc, &method.body)?;
-    match put_graph(alloc, text, names, method, &graph) {
+    names_are_of_the_program();
+    let program = code.program();
+    let blocks = method_uses(alloc, code, method)?;
+    match put_named(alloc, text, program, method, blocks.as_slice()) {
         Ok(()) => Ok(()),
         Err(_) => Err(Memory),
     }
 }
 
-/// The text of the graphs of an accepted program within the limits. It has forms that run today alone, so each method
-/// has one block: the methods in order, under each the number of its block and how many statements it has, and a line
-/// for each statement that waits for others.
-pub fn graph_text(alloc: Global, program: &Program) -> Result<Items<u8>, Memory>
-    requires accepted { Accepted (code program.now) }
-    requires within { Within (code program.now) }
-    ensures { IfOk result (IsGraphText (code program.now)) }
+/// The text of the graphs of an accepted program within the limits, of the forms that run: the methods in order, a class's with its name before
+/// theirs, under each its blocks that are not inside an atomic block with their numbers and how many statements they have,
+/// and a line for each statement that waits for others.
+pub fn graph_text(alloc: Global, code: &Checked) -> Result<Items<u8>, Memory>
+    requires shaped { WellShaped (plain code.now.program) }
+    requires within { Within (plain code.now.program) }
+    requires built { Built (plain code.now.program) }
+    ensures { IfOk result (λ text. text ≡ texts.graph_text (plain code.now.program)) }
 {
     let mut text = Vec::new(alloc);
-    for method in program.methods.as_slice() {
-        put_method(alloc, &mut text, program.names.as_slice(), method)?;
+    for method in code.program().methods.as_slice() {
+        put_method(alloc, &mut text, code, method)?;
     }
     Ok(Items::from_vec(text))
 }

@@ -6,10 +6,10 @@ ghost use Rattle.ae_graph.specs.Rising.{IsRisingOf};
 ghost use Rattle.ae_graph.specs.Opened.{kept, kept_of, added, is_same, after_uses, waited, waited_by};
 
 use crate::rising::rising;
-use crate::uses::compatible;
 use ae_rules::{Mode, Resource, Use};
 use ae_text::Items;
 use ae_tree::Name;
+use ae_uses::compatible;
 use std::alloc::{AllocError, Global};
 use std::collections::HashMap;
 

@@ -1,33 +1,46 @@
--- A program that is built and judged has an ending: each visible name has a value.
-use Rattle.std.specs.Prelude.{IsSome, ◌+ℤ◌, ◌-ℤ◌, ◌*ℤ◌, neg_ℤ, int_div, int_rem}
-use Rattle.std.proofs.Common.{◌≡◌, ◌≤◌, ◌^◌, ℕ, ℤ, pos, negsuc, Bool, true, false, ◌||◌, if◌then◌else◌, nat_eq}
-use Rattle.std.proofs.Common.{nat_lt, List, [], ◌∷◌, Option, None, Some, Result, Ok, Err, IfOk, refl, ap, sym, ◌∙◌}
+-- An accepted program of the forms that run has an ending: each visible local has a value.
+use Rattle.std.specs.Prelude.{IsSome, is_some, option_map, ◌+ℤ◌, ◌-ℤ◌, ◌*ℤ◌, neg_ℤ, int_div, int_rem}
+use Rattle.std.proofs.Common.{◌≡◌, ◌≤◌, ◌^◌, ℕ, ℤ, pos, negsuc, Bool, true, false, if◌then◌else◌, nat_eq}
+use Rattle.std.proofs.Common.{nat_lt, [], ◌∷◌, Option, None, Some, Result, Ok, Err, IfOk, refl, ap, sym, ◌∙◌}
 use Rattle.std.proofs.Common.{subst, arith}
 use Rattle.ae_text.specs.declared.refusal.Spot.{Spot}
-use Rattle.ae_text.specs.declared.refusal.Rule.{Rule}
 use Rattle.ae_text.specs.declared.refusal.Rule.TheVariants as rule
 use Rattle.ae_text.specs.declared.whole.Memory.{Memory}
+use Rattle.ae_tree.specs.declared.form.Form.TheVariants as form_of
 use Rattle.ae_tree.specs.declared.tree.Op.{Op}
 use Rattle.ae_tree.specs.declared.tree.Op.TheVariants as op
+use Rattle.ae_tree.specs.declared.tree.Ty.TheVariants as ty
 use Rattle.ae_tree.specs.Plain.{Expression, Number, Truth, Nothing, Read, Item, Length, Grouped, Negated, Minus}
 use Rattle.ae_tree.specs.Plain.{Binary, Value, Taken, Zeros, Made, Returned, Lines, End, Next, Definition, Code}
 use Rattle.ae_tree.specs.Plain.{Action, Declares, Assigns, Stores, StoresAt, Calls, Chooses, ChoosesElse, Repeats}
 use Rattle.ae_tree.specs.Plain.{Groups, Splits, Locks, Freezes, Shares, Prints, PrintsText, Asserts, Returns}
-use Rattle.ae_tree.specs.Names.{io, main}
+use Rattle.ae_tree.specs.Names.{main}
 use Rattle.ae_tree.specs.Grammar.{level}
-use Rattle.ae_tree.specs.Built.{IsBuiltExpression, IsBuiltAction, AreBuilt}
-use Rattle.ae_rules.specs.Judgement.{Scope, nobody, visible_also, Verdict, Holds, Broken, then_judge, visible, free}
-use Rattle.ae_rules.specs.Judgement.{judge_expression, judge_action, judge, judge_methods, IsHeld, Accepted}
+use Rattle.ae_tree.specs.Built.{IsBuiltExpression, IsBuiltAction}
+use Rattle.ae_rules.specs.declared.held.Held.{Held}
+use Rattle.ae_rules.specs.Verdict.{Holds, found}
+use Rattle.ae_rules.specs.Context.{Local, Context, held_of, with_local, with_held}
+use Rattle.ae_rules.specs.Walks.{walk}
+use Rattle.ae_rules.specs.Expressions.{expression_spot, Operands, Numbers, operands, result_form, has_form}
+use Rattle.ae_rules.specs.Expressions.{judge_operands, judge_value}
+use Rattle.ae_rules.specs.Statements.{judge_statement}
+use Rattle.ae_rules.specs.Judges.{start}
 use Rattle.ae_meaning.specs.declared.report.Ending.{Ending}
 use Rattle.ae_meaning.specs.declared.report.Meant.{Meant}
 use Rattle.ae_meaning.specs.Values.{Env, today_with, TodayOutcome, Fine, Traps, Lacks, then_value, today_found}
 use Rattle.ae_meaning.specs.Values.{today_fitted, today_unless_zero, today_applied, today_value}
 use Rattle.ae_meaning.specs.Meaning.{TodayState, Run, Went, today_and_then, today_given, bound, today_printed}
 use Rattle.ae_meaning.specs.Meaning.{today_one, today_many, meaning_of_run, main_body, begin, today_seq}
+use Rattle.ae_meaning.specs.Judged.{Integers, IsJudged, AreJudged}
+use Rattle.ae_meaning.specs.Endings.{AcceptedEnd}
+use Rattle.ae_meaning.proofs.Judged.{HasForm, form_judged, let_is, Assigned, assign_is, print_is, first_judged}
+use Rattle.ae_meaning.proofs.Judged.{rest_judged, no_locals, body_judged}
+use Rattle.ae_meaning.proofs.from_rules.PathLemmas.{first_holds}
+use Rattle.ae_meaning.proofs.from_rules.SeenLemmas.{found_is}
 
--- each visible name has a value
-abbrev pub Fits : Scope → Env → Type 0
-Fits scope env = (x : ℕ) → scope x ≡ true → IsSome (env x)
+-- each visible local has a value
+abbrev pub Fits : Context → Env → Type 0
+Fits c env = (x : ℕ) → IsSome (c.local x) → IsSome (env x)
 
 -- a value or a trap
 abbrev pub IsKnown : TodayOutcome → Type 0
@@ -76,55 +89,65 @@ applied_known op.Mul h x y = fitted_known (x *ℤ y)
 applied_known op.Div h x y = unless_known y (today_fitted (int_div x y)) (fitted_known (int_div x y))
 applied_known op.Rem h x y = unless_known y (Fine (int_rem x y)) tt
 
--- a premise that holds leaves the scope as it was, and what it speaks of has a value or traps
-pub record Knows (v : Verdict) (scope : Scope) (o : TodayOutcome) : Type 0 where
-  pub holds : v ≡ Holds scope
-  pub known : IsKnown o
+-- ---- expressions
 
-then_judge-assoc : (v : Verdict) (f g : Scope → Verdict) → then_judge (then_judge v f) g
-    ≡ then_judge v (λ s. then_judge (f s) g)
-then_judge-assoc (Holds scope) f g = refl
-then_judge-assoc (Broken rule at) f g = refl
+numbers : (o : Op) → 3 ≤ level o → operands o ≡ Numbers
+numbers op.Or h = absurd (omega arith)
+numbers op.And h = absurd (omega arith)
+numbers op.Eq h = absurd (omega arith)
+numbers op.Ne h = absurd (omega arith)
+numbers op.Lt h = absurd (omega arith)
+numbers op.Le h = absurd (omega arith)
+numbers op.Gt h = absurd (omega arith)
+numbers op.Ge h = absurd (omega arith)
+numbers op.Add h = refl
+numbers op.Sub h = refl
+numbers op.Mul h = refl
+numbers op.Div h = refl
+numbers op.Rem h = refl
 
-seen_name : (b : Bool) (at : Spot) (rule : Rule) (scope : Scope) (next : Scope → Verdict)
-    → IsHeld (then_judge (if b then Holds scope else Broken rule at) next) → b ≡ true
-seen_name true at rule scope next h = refl
-seen_name false at rule scope next h = absurd h
+-- both operands of a judged operator are judged
+operands_judged : (p : Code) (c : Context) (o : Op) (a b : Expression) → 3 ≤ level o → HasForm p c (Binary o a b)
+    → HasForm p c a × HasForm p c b
+operands_judged p c o a b h j =
+    let r = first_holds (judge_operands p c (operands o) a b (judge_value p c a) (judge_value p c b))
+    (λ _. Holds (result_form o)) j.0 j.1 in
+    let both = subst
+    (λ (k : Operands). judge_operands p c k a b (judge_value p c a) (judge_value p c b) ≡ Holds r.0) (numbers o h)
+    r.1 in
+    let s = first_holds (has_form form_of.Int (judge_value p c a) (expression_spot a))
+    (λ _. has_form form_of.Int (judge_value p c b) (expression_spot b)) r.0 both in (
+      form_judged p c a form_of.Int (expression_spot a) s.0 s.1,
+      form_judged p c b form_of.Int (expression_spot b) r.0 s.2,
+    )
 
-free_name : (b : Bool) (at : Spot) (scope : Scope) (next : Scope → Verdict)
-    → IsHeld (then_judge (if b then Broken rule.DuplicateLocal at else Holds scope) next) → IsHeld (next scope)
-free_name true at scope next h = absurd h
-free_name false at scope next h = h
+-- A judged expression has a value or traps, where each visible local has a value.
+pub knows : (p : Code) (c : Context) (env : Env) → Fits c env → (e : Expression) → IsBuiltExpression e
+    → HasForm p c e → IsKnown (today_value e env)
+knows p c env f (Number n at) b j = tt
+knows p c env f (Truth t at) b j = absurd b
+knows p c env f (Nothing at) b j = absurd b
+knows p c env f (Read path) b j =
+    let w = first_holds (walk p c path) _ j.0 j.1 in
+    let l = first_holds (found (c.local path.root.name) rule.UnknownName path.root.at) _ w.0 w.1 in
+    let there : c.local path.root.name ≡ Some l.0 = found_is (c.local path.root.name) rule.UnknownName path.root.at l.0
+    l.1 in
+    rw b.0 (found_known (env path.root.name) (f path.root.name (ap is_some there)))
+knows p c env f (Item path e) b j = absurd b
+knows p c env f (Length path at) b j = absurd b
+knows p c env f (Grouped e at) b j = knows p c env f e b j
+knows p c env f (Negated e at) b j = absurd b
+knows p c env f (Minus e at) b j =
+    let r = first_holds (has_form form_of.Int (judge_value p c e) (expression_spot e)) (λ _. Holds form_of.Int) j.0
+    j.1 in
+    then_known (today_value e env) _ (knows p c env f e b (form_judged p c e form_of.Int (expression_spot e) r.0 r.1))
+    (λ v. fitted_known (neg_ℤ v))
+knows p c env f (Binary o x y) b j =
+    let both = operands_judged p c o x y b.0 j in
+    then_known (today_value x env) _ (knows p c env f x b.1 both.0)
+    (λ v. then_known (today_value y env) _ (knows p c env f y b.2 both.1) (λ w. applied_known o b.0 v w))
 
-pub knows : (e : Expression) → IsBuiltExpression e → (scope : Scope) (env : Env) → Fits scope env
-    → (next : Scope → Verdict)
-    → IsHeld (then_judge (judge_expression e scope) next) → Knows (judge_expression e scope) scope (today_value e env)
-knows (Number n at) b scope env f next h = record { holds = refl; known = tt }
-knows (Truth t at) b scope env f next h = absurd b
-knows (Nothing at) b scope env f next h = absurd b
-knows (Read p) b scope env f next h =
-    let t : scope p.root.name ≡ true = seen_name (scope p.root.name) _ _ scope next h in
-    record { holds = rw t refl; known = rw b.0 (found_known (env p.root.name) (f p.root.name t)) }
-knows (Item p e) b scope env f next h = absurd b
-knows (Length p at) b scope env f next h = absurd b
-knows (Grouped e at) b scope env f next h = knows e b scope env f next h
-knows (Negated e at) b scope env f next h = absurd b
-knows (Minus e at) b scope env f next h =
-    let k : Knows (judge_expression e scope) scope (today_value e env) = knows e b scope env f next h in
-    record { holds = k.holds; known = then_known (today_value e env) _ k.known (λ v. fitted_known (neg_ℤ v)) }
-knows (Binary o x y) b scope env f next h =
-    let h1 : IsHeld (then_judge (judge_expression x scope) (λ s. then_judge (judge_expression y s) next)) =
-    subst IsHeld (then_judge-assoc (judge_expression x scope) (judge_expression y) next) h in
-    let k : Knows (judge_expression x scope) scope (today_value x env) = knows x b.1 scope env f
-    (λ s. then_judge (judge_expression y s) next) h1 in
-    let h2 : IsHeld (then_judge (judge_expression y scope) next) =
-    subst (λ (v : Verdict). IsHeld (then_judge v (λ s. then_judge (judge_expression y s) next))) k.holds h1 in
-    let l : Knows (judge_expression y scope) scope (today_value y env) = knows y b.2 scope env f next h2 in
-    record {
-      holds = ap (λ v. then_judge v (judge_expression y)) k.holds ∙ l.holds;
-      known = then_known (today_value x env) _ k.known
-          (λ v. then_known (today_value y env) _ l.known (λ w. applied_known o b.0 v w));
-    }
+-- ---- statements
 
 -- a run that went through or ended has an ending, as the whole run
 abbrev pub HasEnding : Run → Type 0
@@ -137,108 +160,103 @@ given_ends (Fine v) k at s go rest h = h v
 given_ends (Traps code) k at s go rest h = refl
 given_ends Lacks k at s go rest h = absurd k
 
-fits_step : (b t : Bool) (o : Option ℤ) (v : ℤ) → (t ≡ true → IsSome o) → (b || t) ≡ true
-    → IsSome (if b then Some v else o)
-fits_step true t o v h e = refl
-fits_step false t o v h e = h e
+declared_choice : (b : Bool) (o : Option Local) (q : Option ℤ) (l : Local) (v : ℤ) → (IsSome o → IsSome q)
+    → IsSome (if b then Some l else o) → IsSome (if b then Some v else q)
+declared_choice true o q l v h e = refl
+declared_choice false o q l v h e = h e
 
--- a name that gets a value becomes visible
-fits-declared : (scope : Scope) (env : Env) → Fits scope env → (x : ℕ) (v : ℤ)
-    → Fits (visible_also x scope) (today_with x v env)
-fits-declared scope env f x v = λ y t. fits_step (nat_eq x y) (scope y) (env y) v (f y) t
+-- a local that gets a value becomes visible
+fits-declared : (c : Context) (env : Env) → Fits c env → (x : ℕ) (v : ℤ)
+    → Fits (with_local x form_of.Int c) (today_with x v env)
+fits-declared c env f x v = λ y t. declared_choice (nat_eq x y) (c.local y) (env y) _ v (f y) t
 
-fits_kept : (b : Bool) (o : Option ℤ) (v : ℤ) → IsSome o → IsSome (if b then Some v else o)
-fits_kept true o v h = refl
-fits_kept false o v h = h
+held_choice : (b : Bool) (h : Held) (o : Option Local) (q : Option ℤ) (v : ℤ) → (IsSome o → IsSome q)
+    → IsSome (if b then option_map (λ (k : Local). record k { held = h }) o else o)
+    → IsSome (if b then Some v else q)
+held_choice true h o q v f e = refl
+held_choice false h o q v f e = f e
 
-fits-assigned : (scope : Scope) (env : Env) → Fits scope env → (x : ℕ) (v : ℤ) → Fits scope (today_with x v env)
-fits-assigned scope env f x v = λ y t. fits_kept (nat_eq x y) (env y) v (f y t)
+fits-assigned : (c : Context) (env : Env) → Fits c env → (x : ℕ) (h : Held) (v : ℤ)
+    → Fits (with_held x h c) (today_with x v env)
+fits-assigned c env f x h v = λ y t. held_choice (nat_eq x y) h (c.local y) (env y) v (f y) t
 
--- a built and judged statement, before a rest that has an ending from each fitting state
-pub action_ends : (at : Spot) (a : Action) → IsBuiltAction a → (scope : Scope) (s : TodayState) → Fits scope s.env
-    → (next : Scope → Verdict)
-    → IsHeld (then_judge (judge_action a scope) next) → (rest : TodayState → Run)
-    → ((after : Scope) (t : TodayState) → Fits after t.env → IsHeld (next after) → HasEnding (rest t))
+-- A judged statement, before a rest that has an ending from each fitting state.
+pub action_ends : (p : Code) (m : Definition) (at : Spot) (a : Action) (c d : Context) → IsBuiltAction a → Integers c
+    → judge_statement p m at a c ≡ Holds d
+    → (s : TodayState) → Fits c s.env → (rest : TodayState → Run)
+    → ((t : TodayState) → Fits d t.env → HasEnding (rest t))
     → HasEnding (today_and_then (today_one at a s) rest)
-action_ends at (Declares ty x (Value e)) b scope s f next h rest r =
-    let then_right : Scope → Verdict = λ t. then_judge (judge_expression e t) (λ u. Holds (visible_also x.name u)) in
-    let then_next : Scope → Verdict = λ t. next (visible_also x.name t) in
-    let h1 : IsHeld (then_judge (free x.name x.at scope) (λ t. then_judge (then_right t) next)) = subst IsHeld
-    (then_judge-assoc (free x.name x.at scope) then_right next) h in
-    let h2 : IsHeld (then_judge (then_right scope) next) = free_name (nat_eq io x.name || scope x.name) x.at scope
-    (λ t. then_judge (then_right t) next) h1 in
-    let h3 : IsHeld (then_judge (judge_expression e scope) then_next) = subst IsHeld
-    (then_judge-assoc (judge_expression e scope) (λ t. Holds (visible_also x.name t)) next) h2 in
-    let k : Knows (judge_expression e scope) scope (today_value e s.env) = knows e b.1 scope s.env f then_next h3 in
-    let h4 : IsHeld (next (visible_also x.name scope)) = subst (λ (v : Verdict). IsHeld (then_judge v then_next))
-    k.holds h3
-    in given_ends (today_value e s.env) k.known at s (λ v. Went (bound x.name v s)) rest
-    (λ v. r (visible_also x.name scope) (bound x.name v s) (fits-declared scope s.env f x.name v) h4)
-action_ends at (Declares ty x (Taken p place)) b scope s f next h rest r = absurd b.1
-action_ends at (Declares ty x (Zeros e place)) b scope s f next h rest r = absurd b.1
-action_ends at (Declares ty x (Made c groups args place)) b scope s f next h rest r = absurd b.1
-action_ends at (Declares ty x (Returned c)) b scope s f next h rest r = absurd b.1
-action_ends at (Assigns x (Value e)) b scope s f next h rest r =
-    let then_next : Scope → Verdict = λ t. then_judge (judge_expression e t) next in
-    let h1 : IsHeld (then_judge (visible x.name x.at scope) then_next) = subst IsHeld
-    (then_judge-assoc (visible x.name x.at scope) (judge_expression e) next) h in
-    let t : scope x.name ≡ true = seen_name (scope x.name) x.at rule.UnknownName scope then_next h1 in
-    let h2 : IsHeld (then_judge (judge_expression e scope) next) =
-    subst (λ (b : Bool). IsHeld (then_judge (if b then Holds scope else Broken rule.UnknownName x.at) then_next))
-    t h1 in
-    let k : Knows (judge_expression e scope) scope (today_value e s.env) = knows e b scope s.env f next h2 in
-    let h3 : IsHeld (next scope) = subst (λ (v : Verdict). IsHeld (then_judge v next)) k.holds h2 in
-    given_ends (today_value e s.env) k.known at s (λ v. Went (bound x.name v s)) rest
-    (λ v. r scope (bound x.name v s) (fits-assigned scope s.env f x.name v) h3)
-action_ends at (Assigns x (Taken p place)) b scope s f next h rest r = absurd b
-action_ends at (Assigns x (Zeros e place)) b scope s f next h rest r = absurd b
-action_ends at (Assigns x (Made c groups args place)) b scope s f next h rest r = absurd b
-action_ends at (Assigns x (Returned c)) b scope s f next h rest r = absurd b
-action_ends at (Prints e) b scope s f next h rest r =
-    let k : Knows (judge_expression e scope) scope (today_value e s.env) = knows e b scope s.env f next h in
-    let h1 : IsHeld (next scope) = subst (λ (v : Verdict). IsHeld (then_judge v next)) k.holds h in
-    given_ends (today_value e s.env) k.known at s (λ v. Went (today_printed v s)) rest
-    (λ v. r scope (today_printed v s) f h1)
-action_ends at (Stores p e) b scope s f next h rest r = absurd b
-action_ends at (StoresAt p i e) b scope s f next h rest r = absurd b
-action_ends at (Calls c) b scope s f next h rest r = absurd b
-action_ends at (Chooses e n l) b scope s f next h rest r = absurd b
-action_ends at (ChoosesElse e n l m k) b scope s f next h rest r = absurd b
-action_ends at (Repeats e n l) b scope s f next h rest r = absurd b
-action_ends at (Groups g) b scope s f next h rest r = absurd b
-action_ends at (Splits gs n l) b scope s f next h rest r = absurd b
-action_ends at (Locks g n l) b scope s f next h rest r = absurd b
-action_ends at (Freezes x) b scope s f next h rest r = absurd b
-action_ends at (Shares x g) b scope s f next h rest r = absurd b
-action_ends at (PrintsText text) b scope s f next h rest r = absurd b
-action_ends at (Asserts e) b scope s f next h rest r = absurd b
-action_ends at (Returns e) b scope s f next h rest r = absurd b
+action_ends p m at (Declares (ty.Int place) x (Value e)) c d b i h s f rest r =
+    let j = let_is p c d place x e h in
+    given_ends (today_value e s.env) (knows p c s.env f e b.1 j.1) at s (λ v. Went (bound x.name v s)) rest
+    (λ v. r (bound x.name v s)
+    (subst (λ (k : Context). Fits k (today_with x.name v s.env)) (sym j.0) (fits-declared c s.env f x.name v)))
+action_ends p m at (Declares (ty.Bool place) x e) c d b i h s f rest r = absurd b.0
+action_ends p m at (Declares (ty.Object q z) x e) c d b i h s f rest r = absurd b.0
+action_ends p m at (Declares (ty.Int z) x (Taken path place)) c d b i h s f rest r = absurd b.1
+action_ends p m at (Declares (ty.Int z) x (Zeros e place)) c d b i h s f rest r = absurd b.1
+action_ends p m at (Declares (ty.Int z) x (Made q gs args place)) c d b i h s f rest r = absurd b.1
+action_ends p m at (Declares (ty.Int z) x (Returned q)) c d b i h s f rest r = absurd b.1
+action_ends p m at (Assigns x (Value e)) c d b i h s f rest r =
+    let j : Assigned p c x.name e d = assign_is p c d i x e h in
+    given_ends (today_value e s.env) (knows p c s.env f e b j.value) at s (λ v. Went (bound x.name v s)) rest
+    (λ v. r (bound x.name v s)
+    (subst (λ (k : Context). Fits k (today_with x.name v s.env)) (sym j.after)
+    (fits-assigned c s.env f x.name (held_of j.local.form) v)))
+action_ends p m at (Assigns x (Taken path place)) c d b i h s f rest r = absurd b
+action_ends p m at (Assigns x (Zeros e place)) c d b i h s f rest r = absurd b
+action_ends p m at (Assigns x (Made q gs args place)) c d b i h s f rest r = absurd b
+action_ends p m at (Assigns x (Returned q)) c d b i h s f rest r = absurd b
+action_ends p m at (Prints e) c d b i h s f rest r =
+    let j = print_is p c d at e h in
+    given_ends (today_value e s.env) (knows p c s.env f e b j.1) at s (λ v. Went (today_printed v s)) rest
+    (λ v. r (today_printed v s) (subst (λ (k : Context). Fits k s.env) (sym j.0) f))
+action_ends p m at (Stores path e) c d b i h s f rest r = absurd b
+action_ends p m at (StoresAt path z e) c d b i h s f rest r = absurd b
+action_ends p m at (Calls q) c d b i h s f rest r = absurd b
+action_ends p m at (Chooses e z x) c d b i h s f rest r = absurd b
+action_ends p m at (ChoosesElse e z x w y) c d b i h s f rest r = absurd b
+action_ends p m at (Repeats e z x) c d b i h s f rest r = absurd b
+action_ends p m at (Groups g) c d b i h s f rest r = absurd b
+action_ends p m at (Splits gs z x) c d b i h s f rest r = absurd b
+action_ends p m at (Locks g z x) c d b i h s f rest r = absurd b
+action_ends p m at (Freezes x) c d b i h s f rest r = absurd b
+action_ends p m at (Shares x g) c d b i h s f rest r = absurd b
+action_ends p m at (PrintsText text) c d b i h s f rest r = absurd b
+action_ends p m at (Asserts e) c d b i h s f rest r = absurd b
+action_ends p m at (Returns e) c d b i h s f rest r = absurd b
 
--- built and judged statements have an ending from each fitting state
-pub lines_end : (b : Lines) → AreBuilt b → (scope : Scope) (s : TodayState) → Fits scope s.env
-    → IsHeld (judge b scope) → HasEnding (today_many b s)
-lines_end End b scope s f h = refl
-lines_end (Next at a rest) b scope s f h = action_ends at a b.0 scope s f (judge rest) h (today_many rest)
-    (λ after t g k. lines_end rest b.1 after t g k)
+-- Judged lines have an ending from each fitting state.
+pub lines_end : (p : Code) (m : Definition) (b : Lines) (c : Context) → AreJudged p m b c → (s : TodayState)
+    → Fits c s.env → HasEnding (today_many b s)
+lines_end p m End c j s f = refl
+lines_end p m (Next at a rest) c j s f =
+    let first : IsJudged p m (record { at = at; action = a; context = c }) = first_judged p m at a rest c j in
+    action_ends p m at a c first.later first.built first.integers first.holds s f (today_many rest)
+    (λ t g. lines_end p m rest first.later (rest_judged p m at a rest c first.later j first.holds) t g)
 
-held_alone : (v : Verdict) → IsHeld (then_judge v (λ _. Holds nobody)) → IsHeld v
-held_alone (Holds scope) h = tt
-held_alone (Broken rule at) h = absurd h
+-- ---- programs
 
+-- The body of the one method is that which is run.
 pub main_is : (m : Definition) → m.class ≡ None → m.name.name ≡ main → main_body (m ∷ []) ≡ m.body
 main_is m c n = rw (c, n) refl
 
--- an accepted program has an ending
-pub program_ends : (p : Code) → Accepted p → (ints : List ℤ) (fuel : ℕ) → IsSome (today_seq p ints fuel).ending
-unfolding today_seq
-program_ends p a ints fuel =
-    let m = a.0.method in
-    let h : IsHeld (judge m.body nobody) = held_alone (judge m.body nobody)
-    (subst (λ (ms : List Definition). IsHeld (judge_methods ms)) a.0.methods a.1) in
-    let e : HasEnding (today_many m.body begin) = lines_end m.body a.0.body nobody begin (λ x t. absurd (cc)) h in
-    subst (λ (b : Lines). HasEnding (today_many b begin))
-    (sym (ap main_body a.0.methods ∙ main_is m a.0.is_main.class a.0.is_main.is_named)) e
+is_there : (o : Option Local) → IsSome o → (l : Local) × (o ≡ Some l)
+is_there None h = absurd (cc)
+is_there (Some l) h = (l, refl)
 
+-- An accepted program of the forms that run has an ending.
+pub program_ends : AcceptedEnd
+unfolding today_seq
+program_ends p a k ints fuel =
+    let m = k.method in
+    let none : Fits (start p m) begin.env = λ x t.
+    let l = is_there ((start p m).local x) t in absurd (no_locals p m k.is_main.me k.is_main.params x l.0 l.1) in
+    let e : HasEnding (today_many m.body begin) = lines_end p m m.body (start p m) (body_judged p a k) begin none in
+    subst (λ (b : Lines). HasEnding (today_many b begin))
+    (sym (ap main_body k.methods ∙ main_is m k.is_main.class k.is_main.is_named)) e
+
+-- An ending that is that of a meaning with an ending is there.
 pub ending_some : (r : Result Meant Memory) (o : Option Ending) → IfOk r (λ m. m.ending ≡ o) → IsSome o
     → IfOk r (λ m. IsSome m.ending)
 ending_some (Ok m) o h s = subst (λ (x : Option Ending). IsSome x) (sym h) s

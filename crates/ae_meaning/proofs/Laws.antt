@@ -6,13 +6,14 @@ use Rattle.std.proofs.lemmas.Bool.Decides.{nat_tests}
 use Rattle.ae_text.specs.declared.refusal.Spot.{Spot}
 use Rattle.ae_rules.specs.declared.uses.Resource.TheVariants.{Group}
 use Rattle.ae_rules.specs.declared.uses.Mode.TheVariants.{GroupWhole}
-use Rattle.ae_tree.specs.Plain.{Action}
+use Rattle.ae_tree.specs.Plain.{Definition, Code}
 use Rattle.ae_tree.specs.Names.{io}
-use Rattle.ae_rules.specs.BuiltUses.{use_of}
+use Rattle.ae_rules.specs.Edges.{Uses}
 use Rattle.ae_meaning.specs.Values.{Env, today_with}
-use Rattle.ae_meaning.specs.Meaning.{TodayState, Run, Went, Ends, Stops, bound, today_one}
+use Rattle.ae_meaning.specs.Meaning.{TodayState, Run, Went, Ends, Stops, bound}
+use Rattle.ae_meaning.specs.Judged.{Statement, uses_of, IsJudged}
 use Rattle.ae_meaning.specs.declared.report.Ending.TheVariants.{Trap}
-use Rattle.ae_meaning.specs.Frame.{View, Agree, AgreeAfter, DependsOnReads, ReadsItsUses, KeepsUnwritten}
+use Rattle.ae_meaning.specs.Frame.{today_does, View, Agree, AgreeAfter, DependsOnReads, ReadsItsUses, KeepsUnwritten}
 use Rattle.ae_meaning.specs.Frame.{ChangesItsWrites, behind_bytes, AddsToTheLog, Apart, Commute, ApartCommute}
 use Rattle.ae_meaning.proofs.Effects.{SameOn, Effect, Binds, Adds, Fails, Halts, added, perform, effect, performs}
 use Rattle.ae_meaning.proofs.Effects.{effect_read, effect_same, Allowed, allowed}
@@ -31,28 +32,34 @@ perform_agrees at (Fails code) v s t h = (refl, h.log)
 perform_agrees at Halts v s t h = h.log
 
 pub depends_on_reads : DependsOnReads
-depends_on_reads at a v w s t h =
-    let e : effect a s.env ≡ effect a t.env = effect_read a s.env t.env (λ y r. h.local y (w y r)) in
-    rw (performs at a s, performs at a t, e) (perform_agrees at (effect a t.env) v s t h)
+depends_on_reads p m x j v w s t h =
+    let e : effect x.action s.env ≡ effect x.action t.env = effect_read p m x j s.env t.env
+    (λ y r. h.local y (w y r)) in
+    rw (performs x.at x.action s, performs x.at x.action t, e)
+    (perform_agrees x.at (effect x.action t.env) v s t h)
 
 pub reads_its_uses : ReadsItsUses
-reads_its_uses at a v w s t h =
-    let e : effect a s.env ≡ effect a t.env = effect_same a s.env t.env (λ y r. h.local y (w y r)) in
-    rw (performs at a s, performs at a t, e) (perform_agrees at (effect a t.env) v s t h)
+reads_its_uses p m x j v w s t h =
+    let e : effect x.action s.env ≡ effect x.action t.env = effect_same p m x j s.env t.env
+    (λ y r. h.local y (w y r)) in
+    rw (performs x.at x.action s, performs x.at x.action t, e)
+    (perform_agrees x.at (effect x.action t.env) v s t h)
 
 unchanged : (b : Bool) (v : ℤ) (o : Option ℤ) → b ≡ false → (if b then Some v else o) ≡ o
 unchanged true v o h = cc
 unchanged false v o h = refl
 
-perform_keeps : (at : Spot) (a : Action) (k : Effect) → Allowed a k → (s : TodayState)
-    → KeepsUnwritten a s (perform at k s)
-perform_keeps at a (Binds x v) w s = (λ y h. unchanged (nat_eq x y) v (s.env y) (weak_name a x y w h), λ h. refl)
-perform_keeps at a (Adds bytes) w s = (λ y h. refl, λ h. absurd (not_weak GroupWhole refl (use_of a (Group io)) w h))
-perform_keeps at a (Fails code) w s = refl
-perform_keeps at a Halts w s = refl
+perform_keeps : (at : Spot) (u : Uses) (k : Effect) → Allowed u k → (s : TodayState)
+    → KeepsUnwritten u s (perform at k s)
+perform_keeps at u (Binds x v) w s = (λ y h. unchanged (nat_eq x y) v (s.env y) (weak_name u x y w h), λ h. refl)
+perform_keeps at u (Adds bytes) w s = (λ y h. refl, λ h. absurd (not_weak GroupWhole refl (u (Group io)) w h))
+perform_keeps at u (Fails code) w s = refl
+perform_keeps at u Halts w s = refl
 
 pub changes_its_writes : ChangesItsWrites
-changes_its_writes at a s = rw (performs at a s) (perform_keeps at a (effect a s.env) (allowed a s.env) s)
+changes_its_writes p m x j s =
+    rw (performs x.at x.action s)
+    (perform_keeps x.at (uses_of p m x) (effect x.action s.env) (allowed p m x j s.env) s)
 
 -- an effect does the same whatever was printed before
 perform_adds : (at : Spot) (k : Effect) (env : Env) (log : List ℕ) → perform at k (record { env = env; log = log })
@@ -69,17 +76,20 @@ adds_to_the_log at a env log =
     (perform_adds at (effect a env) env log)
 
 -- a statement that went through leaves the other's effect as it was
-after_other : (at1 at2 : Spot) (a b : Action) → Apart a b → (s t : TodayState) → today_one at1 a s ≡ Went t
-    → today_one at2 b t ≡ perform at2 (effect b s.env) t
-after_other at1 at2 a b p s t e =
-    let k : KeepsUnwritten a s (Went t) = subst (λ (r : Run). KeepsUnwritten a s r) e (changes_its_writes at1 a s) in
-    performs at2 b t ∙ ap (λ k. perform at2 k t) (effect_same b t.env s.env (λ y r. k.0 y (unwritten a b p y r)))
+after_other : (p : Code) (m : Definition) (x y : Statement) → IsJudged p m x → IsJudged p m y
+    → Apart (uses_of p m x) (uses_of p m y) → (s t : TodayState) → today_does x s ≡ Went t
+    → today_does y t ≡ perform y.at (effect y.action s.env) t
+after_other p m x y j k q s t e =
+    let kept : KeepsUnwritten (uses_of p m x) s (Went t) =
+    subst (λ (r : Run). KeepsUnwritten (uses_of p m x) s r) e (changes_its_writes p m x j s) in
+    performs y.at y.action t ∙ ap (λ k. perform y.at k t)
+    (effect_same p m y k t.env s.env (λ z r. kept.0 z (unwritten (uses_of p m x) (uses_of p m y) q z r)))
 
 with_swaps : (x y : ℕ) (v w : ℤ) (e : Env) → nat_eq x y ≡ false → (z : ℕ) → today_with x v (today_with y w e) z
     ≡ today_with y w (today_with x v e) z
 with_swaps x y v w e h z = grind (arith, nat_tests)
 
-effects_commute : (at1 at2 : Spot) (a b : Action) → Apart a b → (k l : Effect) → Allowed a k → Allowed b l
+effects_commute : (at1 at2 : Spot) (a b : Uses) → Apart a b → (k l : Effect) → Allowed a k → Allowed b l
     → (s : TodayState) (f g : TodayState → Run)
     → ((t : TodayState) → perform at1 k s ≡ Went t → g t ≡ perform at2 l t)
     → ((t : TodayState) → perform at2 l s ≡ Went t → f t ≡ perform at1 k t)
@@ -110,11 +120,11 @@ effects_commute at1 at2 a b p Halts (Fails code) k l s f g m n = tt
 effects_commute at1 at2 a b p Halts Halts k l s f g m n = tt
 
 pub apart_commute : ApartCommute
-apart_commute at1 at2 a b p s =
-    let e : today_one at1 a s ≡ perform at1 (effect a s.env) s = performs at1 a s in
-    let f : today_one at2 b s ≡ perform at2 (effect b s.env) s = performs at2 b s in
+apart_commute p m x y j k q s =
+    let e : today_does x s ≡ perform x.at (effect x.action s.env) s = performs x.at x.action s in
+    let f : today_does y s ≡ perform y.at (effect y.action s.env) s = performs y.at y.action s in
     rw (e, f)
-    (effects_commute at1 at2 a b p (effect a s.env) (effect b s.env) (allowed a s.env) (allowed b s.env) s
-    (today_one at1 a) (today_one at2 b)
-    (λ t h. after_other at1 at2 a b p s t (e ∙ h))
-    (λ t h. after_other at2 at1 b a (apart-turned a b p) s t (f ∙ h)))
+    (effects_commute x.at y.at (uses_of p m x) (uses_of p m y) q (effect x.action s.env) (effect y.action s.env)
+    (allowed p m x j s.env) (allowed p m y k s.env) s (today_does x) (today_does y)
+    (λ t h. after_other p m x y j k q s t (e ∙ h))
+    (λ t h. after_other p m y x k j (apart-turned (uses_of p m x) (uses_of p m y) q) s t (f ∙ h)))

@@ -1,12 +1,15 @@
 -- The laws on other orders, from those on two statements.
-use Rattle.std.proofs.Common.{◌≡◌, inl, inr, Option, refl, ap, sym, ◌∙◌, subst}
-use Rattle.ae_text.specs.declared.refusal.Spot.{Spot}
-use Rattle.ae_tree.specs.Plain.{Action, Lines, End, Next}
+use Rattle.std.proofs.Common.{◌≡◌, inl, inr, List, [], ◌∷◌, Option, refl, ap, sym, ◌∙◌, subst}
+use Rattle.ae_tree.specs.Plain.{Lines, End, Next, Definition, Code}
+use Rattle.ae_rules.specs.Verdict.{Verdict, judged}
+use Rattle.ae_rules.specs.Context.{Context}
 use Rattle.ae_meaning.specs.declared.report.Ending.{Ending}
 use Rattle.ae_meaning.specs.Meaning.{TodayState, Run, Went, Ends, Stops, today_and_then, today_one, today_many}
 use Rattle.ae_meaning.specs.Meaning.{meaning_of_run}
-use Rattle.ae_meaning.specs.Frame.{Commute}
-use Rattle.ae_meaning.specs.Order.{Takes, OrderIsFree, TakingKeepsEnding}
+use Rattle.ae_meaning.specs.Judged.{Statement, statements, IsJudged, AreAllJudged, AreJudged}
+use Rattle.ae_meaning.specs.Frame.{today_does, Commute}
+use Rattle.ae_meaning.specs.Order.{today_all, Takes, Reorders, OrderIsFree, TakingKeepsEnding}
+use Rattle.ae_meaning.proofs.Judged.{first_judged, rest_judged, all_judged}
 use Rattle.ae_meaning.proofs.Laws.{apart_commute}
 
 went_parts : (r : Run) (go : TodayState → Run) (t : TodayState) → today_and_then r go ≡ Went t
@@ -29,23 +32,60 @@ commute_went f g (Went s) (Stops log) u v c h k =
 commute_went f g (Ends e log) q u v c h k = absurd (cc)
 commute_went f g (Stops log) q u v c h k = absurd (cc)
 
+-- Judged lines are their statements in order.
+all_are_lines : (p : Code) (m : Definition) (b : Lines) (c : Context) → AreJudged p m b c → (s : TodayState)
+    → today_all (statements p m b c) s ≡ today_many b s
+all_are_lines p m End c j s = refl
+all_are_lines p m (Next at a rest) c j s =
+    let first : IsJudged p m (record { at = at; action = a; context = c }) = first_judged p m at a rest c j in
+    ap (λ (v : Verdict Context). today_and_then (today_one at a s)
+    (today_all (judged v [] (statements p m rest)))) first.holds
+    ∙ next_alike (today_one at a s) (today_all (statements p m rest first.later)) (today_many rest)
+    (λ t. all_are_lines p m rest first.later (rest_judged p m at a rest c first.later j first.holds) t)
+  where
+    next_alike : (r : Run) (f g : TodayState → Run) → ((t : TodayState) → f t ≡ g t)
+        → today_and_then r f ≡ today_and_then r g
+    next_alike (Went t) f g h = h t
+    next_alike (Ends e log) f g h = refl
+    next_alike (Stops log) f g h = refl
+
+-- what is taken out is judged, and so is the rest
+taken_judged : (p : Code) (m : Definition) (xs : List Statement) (x : Statement) (rest : List Statement)
+    → Takes p m xs x rest → AreAllJudged p m xs → IsJudged p m x × AreAllJudged p m rest
+taken_judged p m [] x rest t j = absurd t
+taken_judged p m (first ∷ more) x rest (inl t) j =
+    (subst (IsJudged p m) t.0 j.0, subst (AreAllJudged p m) t.1 j.1)
+taken_judged p m (first ∷ more) x rest (inr t) j =
+    let r = taken_judged p m more x t.0 t.3 j.1 in
+    let all : AreAllJudged p m (first ∷ t.0) = (j.0, r.1) in
+    (r.0, subst (AreAllJudged p m) (sym t.1) all)
+
 -- the taken statement first, and then the rest
-take_goes : (b : Lines) (at : Spot) (a : Action) (rest : Lines) → Takes b at a rest → (s t : TodayState)
-    → today_many b s ≡ Went t → today_and_then (today_one at a s) (today_many rest) ≡ Went t
-take_goes End at a rest p s t h = absurd p
-take_goes (Next place first more) at a rest (inl p) s t h = rw (← p.0, ← p.1, ← p.2) h
-take_goes (Next place first more) at a rest (inr p) s t h =
-    let x = went_parts (today_one place first s) (today_many more) t h in
-    let y = went_parts (today_one at a x.0) (today_many p.0) t (take_goes more at a p.0 p.3 x.0 t x.2) in
-    let z = commute_went (today_one place first) (today_one at a) (today_one place first s) (today_one at a s) x.0 y.0
-    (apart_commute place at first a p.2 s) x.1 y.1 in
-    rw (p.1, z.1, z.2) y.2
+take_goes : (p : Code) (m : Definition) (xs : List Statement) (x : Statement) (rest : List Statement)
+    → Takes p m xs x rest → AreAllJudged p m xs → (s t : TodayState)
+    → today_all xs s ≡ Went t → today_and_then (today_does x s) (today_all rest) ≡ Went t
+take_goes p m [] x rest q j s t h = absurd q
+take_goes p m (first ∷ more) x rest (inl q) j s t h = rw (← q.0, ← q.1) h
+take_goes p m (first ∷ more) x rest (inr q) j s t h =
+    let k = (taken_judged p m more x q.0 q.3 j.1).0 in
+    let a = went_parts (today_does first s) (today_all more) t h in
+    let b = went_parts (today_does x a.0) (today_all q.0) t (take_goes p m more x q.0 q.3 j.1 a.0 t a.2) in
+    let z = commute_went (today_does first) (today_does x) (today_does first s) (today_does x s) a.0 b.0
+    (apart_commute p m first x j.0 k q.2 s) a.1 b.1 in
+    rw (q.1, z.1, z.2) b.2
+
+-- statements in another order lead to the same state
+others_go : (p : Code) (m : Definition) (xs ys : List Statement) → Reorders p m xs ys → AreAllJudged p m xs
+    → (s t : TodayState) → today_all xs s ≡ Went t → today_all ys s ≡ Went t
+others_go p m xs [] q j s t h = subst (λ (l : List Statement). today_all l s ≡ Went t) q h
+others_go p m xs (y ∷ ys) q j s t h =
+    let k = taken_judged p m xs y q.0 q.1 j in
+    let a = went_parts (today_does y s) (today_all q.0) t (take_goes p m xs y q.0 q.1 j s t h) in
+    rw a.1 (others_go p m q.0 ys q.2 k.1 a.0 t a.2)
 
 pub order_is_free : OrderIsFree
-order_is_free b End p s t h = subst (λ (l : Lines). today_many l s ≡ Went t) p h
-order_is_free b (Next at a c) p s t h =
-    let x = went_parts (today_one at a s) (today_many p.0) t (take_goes b at a p.0 p.1 s t h) in
-    rw x.1 (order_is_free p.0 c p.2 x.0 t x.2)
+order_is_free p m b c j ys q s t h = others_go p m (statements p m b c) ys q (all_judged p m b c j) s t
+    (all_are_lines p m b c j s ∙ h)
 
 abbrev ending_of : Run → Option Ending
 ending_of r = (meaning_of_run r).ending
@@ -70,11 +110,20 @@ later_ending f g (Ends e log) (Stops more_log) w rest more c h k = absurd (cc)
 later_ending f g (Stops log) (Ends d more_log) w rest more c h k = absurd (cc)
 later_ending f g (Stops log) (Stops more_log) w rest more c h k = absurd (cc)
 
+ending_stays : (p : Code) (m : Definition) (xs : List Statement) (x : Statement) (rest : List Statement)
+    → Takes p m xs x rest → AreAllJudged p m xs → (s t : TodayState)
+    → today_does x s ≡ Went t → ending_of (today_all rest t) ≡ ending_of (today_all xs s)
+ending_stays p m [] x rest q j s t h = absurd q
+ending_stays p m (first ∷ more) x rest (inl q) j s t h = rw (q.0, q.1, h) refl
+ending_stays p m (first ∷ more) x rest (inr q) j s t h =
+    let k = (taken_judged p m more x q.0 q.3 j.1).0 in
+    rw q.1
+    (later_ending (today_does first) (today_does x) (today_does first s) (today_does x s) t (today_all q.0)
+    (today_all more)
+    (apart_commute p m first x j.0 k q.2 s) h
+    (λ u z e g. ending_stays p m more x q.0 q.3 j.1 u z g))
+
 pub taking_keeps_ending : TakingKeepsEnding
-taking_keeps_ending End at a rest p s t h = absurd p
-taking_keeps_ending (Next place first more) at a rest (inl p) s t h = rw (p.0, p.1, p.2, h) refl
-taking_keeps_ending (Next place first more) at a rest (inr p) s t h =
-    rw p.1
-    (later_ending (today_one place first) (today_one at a) (today_one place first s) (today_one at a s) t
-    (today_many p.0) (today_many more) (apart_commute place at first a p.2 s) h
-    (λ u z e g. taking_keeps_ending more at a p.0 p.3 u z g))
+taking_keeps_ending p m b c j x rest q s t h =
+    ending_stays p m (statements p m b c) x rest q (all_judged p m b c j) s t h ∙ ap ending_of (all_are_lines p m b
+    c j s)

@@ -1,19 +1,23 @@
--- A statement depends on what it uses and changes what it uses by Write or GroupWhole, and statements that do not conflict commute.
-use Rattle.std.specs.Prelude.{◌≡◌, ℕ, Bool, true, false, List, [], ◌++◌, IsSome}
+-- A judged statement depends on what it uses and changes what it uses by Write or GroupWhole,
+-- and judged statements that do not conflict commute.
+use Rattle.std.specs.Prelude.{◌≡◌, ℕ, Bool, true, List, [], ◌++◌, IsSome}
 use Rattle.ae_text.specs.declared.refusal.Spot.{Spot}
 use Rattle.ae_rules.specs.declared.uses.Resource.{Resource}
-use Rattle.ae_rules.specs.declared.uses.Resource.TheVariants.{Local, Group}
-use Rattle.ae_tree.specs.Plain.{Expression, Action, Declares, Assigns, Prints}
+use Rattle.ae_rules.specs.declared.uses.Resource.TheVariants as resource
+use Rattle.ae_tree.specs.Form.{form}
+use Rattle.ae_tree.specs.Plain.{Expression, Action, Declares, Assigns, Prints, Definition, Code}
 use Rattle.ae_tree.specs.Names.{io}
-use Rattle.ae_rules.specs.BuiltUses.{reads_local, reads_right, use_of}
-use Rattle.ae_rules.specs.Edges.{IsConflict, IsWeak}
+use Rattle.ae_rules.specs.Edges.{Uses, IsConflict, IsWeak}
+use Rattle.ae_rules.specs.Context.{Local, Context}
+use Rattle.ae_rules.specs.Uses.{nothing, of_found, value_uses, right_uses}
 use Rattle.ae_meaning.specs.Values.{Env, today_value}
 use Rattle.ae_meaning.specs.Meaning.{TodayState, Run, Went, Ends, Stops, today_one}
+use Rattle.ae_meaning.specs.Judged.{Statement, uses_of, IsJudged}
 
--- an expression's value is told by the locals that it reads
+-- an expression's value is told by the locals that it uses
 abbrev pub ValueIsRead : Type 0
-ValueIsRead = (a : Expression) (e f : Env) → ((y : ℕ) → reads_local a y ≡ true → e y ≡ f y)
-    → today_value a e ≡ today_value a f
+ValueIsRead = (p : Code) (c : Context) (a : Expression) (e f : Env)
+    → ((y : ℕ) → IsSome (value_uses p c a (resource.Local y)) → e y ≡ f y) → today_value a e ≡ today_value a f
 
 -- what is looked at: some locals, and the log or not
 pub record View : Type 0 where
@@ -37,33 +41,46 @@ AgreeAfter v (Stops l) (Went t) = ⊥
 AgreeAfter v (Stops l) (Ends f m) = ⊥
 AgreeAfter v (Stops l) (Stops m) = v.log ≡ true → l ≡ m
 
+-- what a statement does from a state
+abbrev pub today_does : Statement → TodayState → Run
+today_does x = today_one x.at x.action
+
+-- what the expression of a statement uses, beside what the statement itself declares, assigns or prints
+abbrev pub expression_uses : Code → Context → Action → Uses
+expression_uses p c (Declares t x e) = right_uses p c (form t) e
+expression_uses p c (Assigns x e) = of_found (c.local x.name) (λ (l : Local). right_uses p c l.form e)
+expression_uses p c (Prints e) = value_uses p c e
+expression_uses p c _ = nothing
+
 -- the locals that a statement reads, whether it writes them too or not
-abbrev pub is_read : Action → ℕ → Bool
-is_read (Declares ty x e) y = reads_right e y
-is_read (Assigns x e) y = reads_right e y
-is_read (Prints e) y = reads_local e y
-is_read _ y = false
+abbrev pub IsRead : Code → Statement → ℕ → Type 0
+IsRead p x y = IsSome (expression_uses p x.context x.action (resource.Local y))
 
--- a statement depends on what it reads alone: from states that agree on a view with all locals that it reads, its runs agree there
+-- a judged statement depends on what it reads alone: from states that agree on a view with all locals that it reads,
+-- its runs agree there
 abbrev pub DependsOnReads : Type 0
-DependsOnReads = (at : Spot) (a : Action) (v : View) → ((y : ℕ) → is_read a y ≡ true → v.local y ≡ true)
-    → (s t : TodayState) → Agree v s t → AgreeAfter v (today_one at a s) (today_one at a t)
+DependsOnReads = (p : Code) (m : Definition) (x : Statement) → IsJudged p m x
+    → (v : View) → ((y : ℕ) → IsRead p x y → v.local y ≡ true)
+    → (s t : TodayState) → Agree v s t → AgreeAfter v (today_does x s) (today_does x t)
 
--- a statement reads only what it uses: from states that agree on a view with all locals that it uses, its runs agree there
+-- a judged statement reads only what it uses: from states that agree on a view with all locals that it uses,
+-- its runs agree there
 abbrev pub ReadsItsUses : Type 0
-ReadsItsUses = (at : Spot) (a : Action) (v : View) → ((y : ℕ) → IsSome (use_of a (Local y)) → v.local y ≡ true)
-    → (s t : TodayState) → Agree v s t → AgreeAfter v (today_one at a s) (today_one at a t)
+ReadsItsUses = (p : Code) (m : Definition) (x : Statement) → IsJudged p m x
+    → (v : View) → ((y : ℕ) → IsSome (uses_of p m x (resource.Local y)) → v.local y ≡ true)
+    → (s t : TodayState) → Agree v s t → AgreeAfter v (today_does x s) (today_does x t)
 
--- after a run, all that the statement does not use by Write or GroupWhole is as before; the log is that of `io`
-abbrev pub KeepsUnwritten : Action → TodayState → Run → Type 0
-KeepsUnwritten a s (Went t) = ((y : ℕ) → IsWeak (use_of a (Local y)) → t.env y ≡ s.env y)
-    × (IsWeak (use_of a (Group io)) → t.log ≡ s.log)
-KeepsUnwritten a s (Ends e log) = log ≡ s.log
-KeepsUnwritten a s (Stops log) = log ≡ s.log
+-- after a run, all that is not used by Write or GroupWhole is as before; the log is that of `io`
+abbrev pub KeepsUnwritten : Uses → TodayState → Run → Type 0
+KeepsUnwritten u s (Went t) = ((y : ℕ) → IsWeak (u (resource.Local y)) → t.env y ≡ s.env y)
+    × (IsWeak (u (resource.Group io)) → t.log ≡ s.log)
+KeepsUnwritten u s (Ends e log) = log ≡ s.log
+KeepsUnwritten u s (Stops log) = log ≡ s.log
 
--- a statement changes only what it uses by Write or GroupWhole, and one that ends the run printed nothing
+-- a judged statement changes only what it uses by Write or GroupWhole, and one that ends the run printed nothing
 abbrev pub ChangesItsWrites : Type 0
-ChangesItsWrites = (at : Spot) (a : Action) (s : TodayState) → KeepsUnwritten a s (today_one at a s)
+ChangesItsWrites = (p : Code) (m : Definition) (x : Statement) → IsJudged p m x → (s : TodayState)
+    → KeepsUnwritten (uses_of p m x) s (today_does x s)
 
 -- a run that begins behind these bytes
 abbrev pub behind_bytes : List ℕ → Run → Run
@@ -76,9 +93,9 @@ abbrev pub AddsToTheLog : Type 0
 AddsToTheLog = (at : Spot) (a : Action) (env : Env) (log : List ℕ) → today_one at a (record { env = env; log = log })
     ≡ behind_bytes log (today_one at a (record { env = env; log = [] }))
 
--- two statements do not conflict: of no resource do both make uses that do not go together
-abbrev pub Apart : Action → Action → Type 0
-Apart a b = (r : Resource) → IsConflict (use_of a r) (use_of b r) → ⊥
+-- two uses do not conflict: of no resource are both in ways that do not go together
+abbrev pub Apart : Uses → Uses → Type 0
+Apart u v = (r : Resource) → IsConflict (u r) (v r) → ⊥
 
 -- what two statements come to alone, and what they come to one after the other:
 -- where both go through, both orders lead to one state; an ending of the one is its ending after the other
@@ -90,7 +107,8 @@ Commute f g (Ends e log) (Went t) = f t ≡ Ends e t.log
 Commute f g (Stops log) (Went t) = f t ≡ Stops t.log
 Commute f g _ _ = Unit {0}
 
--- statements that do not conflict commute
+-- judged statements that do not conflict commute
 abbrev pub ApartCommute : Type 0
-ApartCommute = (at1 at2 : Spot) (a b : Action) → Apart a b → (s : TodayState)
-    → Commute (today_one at1 a) (today_one at2 b) (today_one at1 a s) (today_one at2 b s)
+ApartCommute = (p : Code) (m : Definition) (x y : Statement) → IsJudged p m x → IsJudged p m y
+    → Apart (uses_of p m x) (uses_of p m y)
+    → (s : TodayState) → Commute (today_does x) (today_does y) (today_does x s) (today_does y s)

@@ -4,22 +4,22 @@ ghost use Rattle.ae_meaning.specs.Frame.{ApartCommute};
 ghost use Rattle.ae_meaning.specs.Order.{OrderIsFree, TakingKeepsEnding};
 ghost use Rattle.ae_meaning.specs.Endings.{AcceptedEnd};
 
-/// An expression's value is told by what it reads.
+/// An expression's value is told by what it uses.
 pub fn values_are_told_by_what_is_read()
     ensures { ValueIsRead }
 {}
 
-/// A statement depends on what it reads alone, whatever the locals held that it writes.
+/// A judged statement depends on what it reads alone, whatever the locals held that it writes.
 pub fn statements_depend_on_what_they_read()
     ensures { DependsOnReads }
 {}
 
-/// A statement reads only what it uses.
+/// A judged statement reads only what it uses.
 pub fn statements_read_what_they_use()
     ensures { ReadsItsUses }
 {}
 
-/// A statement changes only what it uses by Write or GroupWhole.
+/// A judged statement changes only what it uses by Write or GroupWhole.
 pub fn statements_change_what_they_write()
     ensures { ChangesItsWrites }
 {}
@@ -29,12 +29,12 @@ pub fn statements_add_to_the_log()
     ensures { AddsToTheLog }
 {}
 
-/// Two statements that do not conflict can change places.
+/// Two judged statements that do not conflict can change places.
 pub fn statements_apart_commute()
     ensures { ApartCommute }
 {}
 
-/// Statements that go through lead to the same state in every order in which those that conflict keep theirs.
+/// Judged statements that go through lead to the same state in every order in which those that conflict keep theirs.
 pub fn order_is_free()
     ensures { OrderIsFree }
 {}
@@ -44,7 +44,7 @@ pub fn taking_keeps_ending()
     ensures { TakingKeepsEnding }
 {}
 
-/// An accepted program has an ending.
+/// An accepted program of the forms that run has an ending.
 pub fn accepted_programs_end()
     ensures { AcceptedEnd }
 {}

@@ -2,8 +2,8 @@
 ghost use Rattle.std.specs.Prelude.{◌≡◌, ◌≢◌, ◌++◌, ◌∷◌, [], map, IfOk, IfErr, OnOk, IsSome, MatchOption};
 ghost use Rattle.std.specs.Fmt.{signed_decimal};
 ghost use Rattle.ae_tree.specs.Plain.{End};
-ghost use Rattle.ae_tree.specs.Shown.{expression, right_side, action, braced, definition, code};
-ghost use Rattle.ae_rules.specs.Judgement.{Accepted};
+ghost use Rattle.ae_tree.specs.Shown.{expression, right_side, action, braced, definition, code as plain};
+ghost use Rattle.ae_tree.specs.Built.{Built};
 ghost use Rattle.ae_meaning.specs.Values.{today_value};
 ghost use Rattle.ae_meaning.specs.Meaning.{today_one, today_many, main_body, begin, meaning_of_run, today_seq};
 ghost use Rattle.ae_meaning.specs.Running.{env_of, held, FindsValue, sought, AnswersAs};
@@ -11,6 +11,7 @@ ghost use Rattle.ae_meaning.specs.Running.{env_of, held, FindsValue, sought, Ans
 use crate::locals::Locals;
 use crate::report::{Ending, Meant};
 use crate::value::{Fault, value_of};
+use ae_code::Checked;
 use ae_text::{Items, Memory, Spot};
 use ae_tree::{Block, Expr, MAIN, Method, Program, Rhs, Stmt, StmtKind};
 use std::alloc::{AllocError, Global};
@@ -154,13 +155,14 @@ fn run_main(alloc: Global, program: &Program) -> Result<Meant, Memory>
     Ok(Meant { ending, out })
 }
 
-/// Runs an accepted program in source order, up to its first ending. No program uses `ints` and `fuel` yet.
+/// Runs an accepted program of the forms that run in source order, up to its first ending. No program uses `ints` and
+/// `fuel` yet.
 #[tactic(auto, using(crate::proofs::Rules::forms))]
-pub fn evaluate(alloc: Global, program: &Program, ints: &[i64], fuel: u32) -> Result<Meant, Memory>
-    requires accepted { Accepted (code program.now) }
-    ensures ending { IfOk result (λ m. m.ending ≡ (today_seq (code program.now) ints.now fuel).ending) }
-    ensures out { IfOk result (λ m. m.out ≡ (today_seq (code program.now) ints.now fuel).out) }
+pub fn evaluate(alloc: Global, code: &Checked, ints: &[i64], fuel: u32) -> Result<Meant, Memory>
+    requires built { Built (plain code.now.program) }
+    ensures ending { IfOk result (λ m. m.ending ≡ (today_seq (plain code.now.program) ints.now fuel).ending) }
+    ensures out { IfOk result (λ m. m.out ≡ (today_seq (plain code.now.program) ints.now fuel).out) }
     ensures ends { IfOk result (λ m. IsSome m.ending) }
 {
-    run_main(alloc, program)
+    run_main(alloc, code.program())
 }

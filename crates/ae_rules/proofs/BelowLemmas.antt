@@ -17,7 +17,6 @@ use Rattle.ae_tree.specs.declared.form.Kind.TheVariants as kind
 use Rattle.ae_tree.specs.declared.form.Form.{Form}
 use Rattle.ae_tree.specs.Form.{form, bare_names}
 use Rattle.ae_tree.specs.Names.{io, this}
-use Rattle.ae_rules.specs.BuiltUses.{statement_at}
 use Rattle.ae_tree.specs.WellShaped.{AreNamed, HasNumberBelow, ActionNamed, ParamNamed, ClassNamed, MethodNamed}
 use Rattle.ae_tree.specs.WellShaped.{WellShaped}
 use Rattle.ae_tree.specs.Plain.{Definition, Code}
@@ -31,7 +30,7 @@ use Rattle.ae_rules.specs.Context.{Local, Context, closed}
 use Rattle.ae_rules.specs.Statements.{while_split, while_locked, judge_statement}
 use Rattle.ae_rules.specs.Judges.{start, locals_at_start, groups_at_start, knows, me_local, param_local}
 use Rattle.ae_rules.specs.Judges.{param_called, need_for, permission_needed}
-use Rattle.ae_rules.specs.Uses.{of_found, statement_uses, context_at}
+use Rattle.ae_rules.specs.Uses.{statement_at, of_found, statement_uses, context_at}
 use Rattle.ae_rules.specs.Blocks.{Opened, scene_uses, scenes, all_scenes}
 use Rattle.ae_rules.specs.EdgeLaws.{NamesBelow, name_of_resource, is_allowed, group_allows, is_of_local}
 use Rattle.ae_rules.specs.BlockLaws.{Shape, shape_of, with_let, group_in_line, VisibleBelow, IsBelow, NamesAreBelow}

@@ -11,7 +11,6 @@ use Rattle.ae_tree.specs.declared.tree.NameAt.{NameAt}
 use Rattle.ae_tree.specs.declared.form.Form.TheVariants as f
 use Rattle.ae_tree.specs.Form.{bare_names}
 use Rattle.ae_tree.specs.WellShaped.{InBlocks, EachStatement}
-use Rattle.ae_rules.specs.BuiltUses.{statement_at}
 use Rattle.ae_tree.specs.Plain.{Lines, End, Next, Definition, Code}
 use Rattle.ae_tree.specs.Plain.{Action, Declares, Assigns, Stores, StoresAt, Calls, Chooses, ChoosesElse, Repeats}
 use Rattle.ae_tree.specs.Plain.{Groups, Splits, Locks, Freezes, Shares, Prints, PrintsText, Asserts, Returns}
@@ -28,7 +27,7 @@ use Rattle.ae_rules.specs.Expressions.{is_value}
 use Rattle.ae_rules.specs.Statements.{groups_stay, end_block, while_split, while_locked, branches_meet, loop_keeps}
 use Rattle.ae_rules.specs.Statements.{judge_statement, judge_lines}
 use Rattle.ae_rules.specs.Judges.{start}
-use Rattle.ae_rules.specs.Uses.{contexts, context_at}
+use Rattle.ae_rules.specs.Uses.{statement_at, contexts, context_at}
 use Rattle.ae_rules.specs.Blocks.{block_at, Opened, scenes_in, scenes_among, scenes, all_scenes}
 use Rattle.ae_rules.proofs.SeenLemmas.{required}
 use Rattle.ae_rules.proofs.PathLemmas.{first_holds, Located}

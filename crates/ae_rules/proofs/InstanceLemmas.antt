@@ -15,7 +15,6 @@ use Rattle.ae_tree.specs.declared.form.Perm.{Perm}
 use Rattle.ae_tree.specs.declared.form.Perm.TheVariants as perm
 use Rattle.ae_tree.specs.declared.form.Form.{Form}
 use Rattle.ae_tree.specs.declared.form.Form.TheVariants as f
-use Rattle.ae_rules.specs.BuiltUses.{statement_at}
 use Rattle.ae_tree.specs.Plain.{Expression, Invocation, Lines, End, Next, Definition, Code, Action}
 use Rattle.ae_rules.specs.declared.held.GroupPerm.TheVariants as group
 use Rattle.ae_rules.specs.Verdict.{Verdict, Holds, Broken, given, judged}
@@ -26,7 +25,8 @@ use Rattle.ae_rules.specs.Calls.{Callee, ParamSlot, group_in, slots, givens}
 use Rattle.ae_rules.specs.Groups.{wanted_need}
 use Rattle.ae_rules.specs.Statements.{judge_statement}
 use Rattle.ae_rules.specs.Judges.{start, need_for, permission_needed, knows}
-use Rattle.ae_rules.specs.Uses.{nothing, same_resource, use_alone, read_use, write_use, ◌∪◌, of_each, of_judged}
+use Rattle.ae_rules.specs.Uses.{statement_at, nothing, same_resource, use_alone, read_use, write_use, ◌∪◌, of_each}
+use Rattle.ae_rules.specs.Uses.{of_judged}
 use Rattle.ae_rules.specs.Uses.{of_found, is_seen, outside, all_but, walk_uses, given_uses, argument_uses, need_uses}
 use Rattle.ae_rules.specs.Uses.{callee_uses, statement_uses, lines_use, contexts, block_uses}
 use Rattle.ae_rules.specs.EdgeLaws.{IsAtMost, group_allows, is_allowed}

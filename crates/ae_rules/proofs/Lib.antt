@@ -27,5 +27,4 @@ mod EverywhereLemmas
 pub mod BelowLemmas
 pub mod ShapeLemmas
 mod HeldLemmas
-mod CaseLemmas
-mod CaseUseLemmas
+pub mod OfLanguageLemmas

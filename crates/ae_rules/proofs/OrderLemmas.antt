@@ -4,11 +4,10 @@ use Rattle.std.proofs.Common.{nat_lt, Bool, true, false, ◌&&◌, ◌||◌, if�
 use Rattle.std.proofs.Common.{Some}
 use Rattle.std.proofs.lemmas.Bool.{eqb-true, lt-ltb, and_from, or_left, or_right}
 use Rattle.ae_rules.specs.declared.uses.Mode.{Mode}
-use Rattle.ae_rules.specs.BuiltUses.{statement_at}
 use Rattle.ae_tree.specs.Limits.{statement_count}
 use Rattle.ae_rules.specs.Edges.{IsConflict, BlockUses, Before, Direct, Through}
 use Rattle.ae_tree.specs.Plain.{Action, Lines, End, Next, Code}
-use Rattle.ae_rules.specs.Uses.{of_found, statement_uses, context_at}
+use Rattle.ae_rules.specs.Uses.{statement_at, of_found, statement_uses, context_at}
 use Rattle.ae_rules.specs.Blocks.{Scene, scene_uses}
 use Rattle.ae_rules.specs.Instances.{Point, InBlock, AtChoice, AtLoop, Nowhere, inside, first_point, Parting}
 use Rattle.ae_rules.specs.Instances.{parting_from, IsFirstAt}

@@ -12,7 +12,6 @@ use Rattle.ae_tree.specs.declared.form.Form.{Form}
 use Rattle.ae_tree.specs.declared.form.Form.TheVariants as f
 use Rattle.ae_rules.specs.declared.uses.Resource.{Resource}
 use Rattle.ae_rules.specs.declared.uses.Resource.TheVariants as resource
-use Rattle.ae_rules.specs.BuiltUses.{statement_at}
 use Rattle.ae_rules.specs.Edges.{IsConflict, Uses, Before}
 use Rattle.ae_tree.specs.Names.{main}
 use Rattle.ae_tree.specs.Plain.{Invocation, RightSide, Value, Taken, Zeros, Made, Returned, Lines, End, Next}
@@ -32,7 +31,8 @@ use Rattle.ae_rules.specs.Groups.{may_split_all, may_lock}
 use Rattle.ae_rules.specs.Statements.{while_split, while_locked, end_block, branches_meet, loop_keeps}
 use Rattle.ae_rules.specs.Statements.{judge_statement, judge_lines}
 use Rattle.ae_rules.specs.Judges.{start, judge_method, Accepts}
-use Rattle.ae_rules.specs.Uses.{nothing, write_use, together, ◌∪◌, of_judged, of_found, outside, all_but, value_uses}
+use Rattle.ae_rules.specs.Uses.{statement_at, nothing, write_use, together, ◌∪◌, of_judged, of_found, outside, all_but}
+use Rattle.ae_rules.specs.Uses.{value_uses}
 use Rattle.ae_rules.specs.Uses.{call_uses, right_uses, callee_uses, statement_uses, lines_use, contexts, context_at}
 use Rattle.ae_rules.specs.Blocks.{Scene, body_scene, scene_uses}
 use Rattle.ae_rules.specs.Instances.{Point, InBlock, AtChoice, AtLoop, Nowhere, in_statement, inside, first_point}

@@ -8,7 +8,6 @@ use Rattle.ae_rules.specs.declared.uses.Mode.{Mode}
 use Rattle.ae_tree.specs.declared.form.Form.{Form}
 use Rattle.ae_tree.specs.Form.{bare_names}
 use Rattle.ae_tree.specs.Names.{io, main, this}
-use Rattle.ae_rules.specs.BuiltUses.{statement_at}
 use Rattle.ae_tree.specs.Limits.{statement_count}
 use Rattle.ae_rules.specs.Edges.{IsConflict, Uses, Before}
 use Rattle.ae_tree.specs.Plain.{Expression, Invocation, RightSide, Value, Taken, Zeros, Made, Returned, Definition}
@@ -22,7 +21,8 @@ use Rattle.ae_rules.specs.Into.{Source, Null, From, source}
 use Rattle.ae_rules.specs.Calls.{Callee, judge_callee, ParamSlot, group_in, if_some, slots, givens}
 use Rattle.ae_rules.specs.Statements.{while_split, while_locked}
 use Rattle.ae_rules.specs.Judges.{start}
-use Rattle.ae_rules.specs.Uses.{nothing, use_alone, read_use, together, ◌∪◌, of_each, of_judged, of_found, outside}
+use Rattle.ae_rules.specs.Uses.{statement_at, nothing, use_alone, read_use, together, ◌∪◌, of_each, of_judged, of_found}
+use Rattle.ae_rules.specs.Uses.{outside}
 use Rattle.ae_rules.specs.Uses.{all_but, statement_uses, context_at}
 use Rattle.ae_rules.specs.Blocks.{Scene, block_at, body_scene, scene_uses}
 

@@ -16,7 +16,6 @@ pub mod Judges
 pub mod Uses
 pub mod Edges
 pub mod EdgeLists
-pub mod BuiltUses
 pub mod EdgeLaws
 pub mod Blocks
 pub mod Instances
@@ -24,7 +23,6 @@ pub mod Paths
 pub mod Stands
 pub mod Effects
 pub mod Laws
+pub mod OfLanguage
 pub mod BlockLaws
 pub mod Roots
-pub mod Judgement
-pub mod Cases

@@ -1,7 +1,7 @@
 -- The order of instances in the source, and the statements that they are.
 use Rattle.std.specs.Prelude.{ℕ, nat_eq, nat_lt, Bool, true, false, ◌&&◌, ◌||◌, not, if◌then◌else◌, List, [], ◌∷◌}
 use Rattle.std.specs.Prelude.{Option, None}
-use Rattle.ae_rules.specs.BuiltUses.{statement_at}
+use Rattle.ae_rules.specs.Uses.{statement_at}
 use Rattle.ae_tree.specs.Plain.{Action, RightSide, Value, Taken, Zeros, Made, Returned, Code}
 use Rattle.ae_tree.specs.Plain.{Declares, Assigns, Stores, StoresAt, Calls, Chooses, ChoosesElse, Repeats, Groups}
 use Rattle.ae_tree.specs.Plain.{Splits, Locks, Freezes, Shares, Prints, PrintsText, Asserts, Returns}

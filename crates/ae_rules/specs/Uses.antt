@@ -1,5 +1,6 @@
 -- What a statement uses of each local and each group. The context before it says what is held.
-use Rattle.std.specs.Prelude.{ℕ, nat_eq, Bool, false, if◌then◌else◌, List, [], ◌∷◌, map, zip, slice_get, Option}
+use Rattle.std.specs.Prelude.{ℕ, zero, suc, nat_eq, Bool, false, if◌then◌else◌, List, [], ◌∷◌, map, zip, slice_get}
+use Rattle.std.specs.Prelude.{Option}
 use Rattle.std.specs.Prelude.{None, Some, is_some}
 use Rattle.ae_text.specs.declared.refusal.Spot.{Spot}
 use Rattle.ae_tree.specs.declared.tree.NameAt.{NameAt}
@@ -16,7 +17,6 @@ use Rattle.ae_tree.specs.declared.form.Form.{Form}
 use Rattle.ae_tree.specs.declared.form.Form.TheVariants as f
 use Rattle.ae_tree.specs.Form.{form, bare_names}
 use Rattle.ae_tree.specs.Names.{io}
-use Rattle.ae_rules.specs.BuiltUses.{statement_at}
 use Rattle.ae_rules.specs.Edges.{Uses, is_strong}
 use Rattle.ae_tree.specs.Plain.{Expression, Number, Truth, Nothing, Read, Item, Length, Grouped, Negated, Minus}
 use Rattle.ae_tree.specs.Plain.{Binary, Invocation, RightSide, Value, Taken, Zeros, Made, Returned, Lines, End, Next}
@@ -256,6 +256,12 @@ abbrev mutual
       (lines_use p m rest)
 
 -- ---- the statements of a block
+
+-- the statement with this number
+abbrev pub statement_at : Lines → ℕ → Option Action
+statement_at End i = None
+statement_at (Next at a rest) zero = Some a
+statement_at (Next at a rest) (suc i) = statement_at rest i
 
 -- the context before each statement of a block that begins in this one, as far as the statements are judged
 abbrev pub contexts : Code → Definition → Lines → Context → List Context

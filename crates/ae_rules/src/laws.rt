@@ -1,11 +1,11 @@
 // Laws over the rules alone.
 ghost use Rattle.ae_rules.specs.BlockLaws.{BlocksAreReached, NamesAreBelow, ComparisonsAreExact, WalksFindNoSplit};
 ghost use Rattle.ae_rules.specs.BlockLaws.{JudgingKeepsRight, HeldIsRight, EffectsAreExact, LinesDeclare};
-ghost use Rattle.ae_rules.specs.Cases.{BuiltDeclaresOne, TodaysJudgementIsACase, TodaysUsesAreACase};
 ghost use Rattle.ae_rules.specs.Laws.{JudgedOrBroken, NeverBoth, AcceptedOrBroken, NeverAcceptedAndBroken};
 ghost use Rattle.ae_rules.specs.Laws.{FirstIsOne, TakenIsGivenBack, NothingToTake, TakingTellsPermission};
 ghost use Rattle.ae_rules.specs.Laws.{WalksGoByOwners, EverySlotIsGiven, CallsGiveBack, GivenAwayIsGone};
 ghost use Rattle.ae_rules.specs.Laws.{MovesByItsText, StatementsKeep, SplitIsUndone, AtomicHoldsBack};
+ghost use Rattle.ae_rules.specs.OfLanguage.{BrokenIsOfLanguage};
 ghost use Rattle.ae_rules.specs.Roots.{RootsAreUsed};
 ghost use Rattle.ae_rules.specs.EdgeLaws.{EdgesGoForward, ChainsGoForward, ConflictsAreOrdered, ModeTestsAreExact};
 ghost use Rattle.ae_rules.specs.EdgeLaws.{UsesAreAllowed, ChangesAreUsed, PredsAreEdges, ConflictsAreFirst};
@@ -24,6 +24,11 @@ pub fn statements_are_never_both()
 /// Each program is accepted, or breaks a rule first.
 pub fn programs_are_accepted_or_broken()
     ensures { AcceptedOrBroken }
+{}
+
+/// What a program breaks first is a rule of the language.
+pub fn broken_rules_are_of_the_language()
+    ensures { BrokenIsOfLanguage }
 {}
 
 /// No accepted program breaks a rule.
@@ -190,20 +195,4 @@ pub fn order_is_of_the_source()
 /// An instance before one that is before a third is before that.
 pub fn order_is_transitive()
     ensures { OrderIsTransitive }
-{}
-
-/// A program of forms that run today is judged by the whole rules as it is by today's: accepted by both or by neither,
-/// and refused by both for the same rule at the same place.
-pub fn todays_judgement_is_a_case()
-    ensures { TodaysJudgementIsACase }
-{}
-
-/// Each statement of an accepted program of forms that run today uses the same by the whole rules as by today's.
-pub fn todays_uses_are_a_case()
-    ensures { TodaysUsesAreACase }
-{}
-
-/// A program that was read, and has forms that run today alone, declares its one method.
-pub fn a_built_program_declares_one_method()
-    ensures { BuiltDeclaresOne }
 {}

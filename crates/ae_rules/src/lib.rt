@@ -8,7 +8,7 @@ mod uses;
 
 pub use held::{GroupPerm, Held};
 pub use laws::{
-    a_built_program_declares_one_method, a_split_block_is_undone, an_atomic_block_holds_back,
+    a_split_block_is_undone, an_atomic_block_holds_back, broken_rules_are_of_the_language,
     calls_give_back, chains_go_forward, changes_are_used, comparisons_are_exact,
     conflicts_are_first, conflicts_are_ordered, edges_go_forward, effects_are_exact,
     every_block_is_reached, every_slot_is_given, first_broken_rule_is_one, given_away_is_gone,
@@ -17,8 +17,8 @@ pub use laws::{
     order_is_of_the_source, order_is_transitive, preds_are_edges, programs_are_accepted_or_broken,
     programs_are_never_both, roots_are_used, statements_are_judged_or_broken,
     statements_are_never_both, statements_keep_what_is_visible, taken_is_given_back,
-    taking_tells_permission, todays_judgement_is_a_case, todays_uses_are_a_case, uses_are_allowed,
-    uses_inside_are_at_most_the_statements, walks_find_no_split, walks_go_by_owners,
+    taking_tells_permission, uses_are_allowed, uses_inside_are_at_most_the_statements,
+    walks_find_no_split, walks_go_by_owners,
 };
 pub use table::{ClassTable, Member};
 pub use uses::{Footprint, Mode, Resource, Use};

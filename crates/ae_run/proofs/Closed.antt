@@ -3,10 +3,7 @@ use Rattle.std.proofs.Common.{◌≡◌, ◌<◌, ◌≤◌, ◌+◌, ◌-◌, �
 use Rattle.std.proofs.Common.{refl, arith, subst}
 use Rattle.ae_rules.specs.declared.uses.Resource.{Resource}
 use Rattle.ae_rules.specs.declared.uses.Mode.{Mode}
-use Rattle.ae_rules.specs.declared.uses.Mode.TheVariants.{Read, Write, GroupShared, GroupWhole}
-use Rattle.ae_tree.specs.Plain.{Lines}
-use Rattle.ae_rules.specs.BuiltUses.{use_at}
-use Rattle.ae_rules.specs.Edges.{is_strong, are_compatible, IsConflict, IsWeak}
+use Rattle.ae_rules.specs.Edges.{IsConflict, IsWeak, BlockUses}
 use Rattle.ae_run.specs.Flow.{is_strong_use, IsClosed}
 use Rattle.ae_run.proofs.from_rules.EdgeLemmas.{strong_before, strong_after}
 
@@ -63,38 +60,41 @@ weak_from (Some m) h = h
 -- ---- chains of edges
 
 -- statement l stands strictly between, by its distance
-strong_at : Lines → Resource → ℕ → ℕ → Bool
-strong_at b r i d = is_strong_use (use_at b (i + 1 + d) r)
+strong_at : BlockUses → Resource → ℕ → ℕ → Bool
+strong_at uses r i d = is_strong_use (uses (i + 1 + d) r)
 
 -- with the law at shorter distances
-conflict_step : (b : Lines) (went : ℕ → Bool) → IsClosed b went → (r : Resource) (n i k : ℕ) → i < k → k ≤ i + suc n
-    → ((i k : ℕ) → i < k → k ≤ i + n → IsConflict (use_at b i r) (use_at b k r) → went k ≡ true → went i ≡ true)
-    → IsConflict (use_at b i r) (use_at b k r) → went k ≡ true
-    → Sought (strong_at b r i) (k - (i + 1)) → went i ≡ true
+conflict_step : (uses : BlockUses) (went : ℕ → Bool) → IsClosed uses went → (r : Resource) (n i k : ℕ) → i < k
+    → k ≤ i + suc n
+    → ((i k : ℕ) → i < k → k ≤ i + n → IsConflict (uses i r) (uses k r) → went k ≡ true → went i ≡ true)
+    → IsConflict (uses i r) (uses k r) → went k ≡ true
+    → Sought (strong_at uses r i) (k - (i + 1)) → went i ≡ true
 unfolding strong_at
-conflict_step b went closed r n i k l m law c h (Least d near strong first) =
+conflict_step uses went closed r n i k l m law c h (Least d near strong first) =
     let x = i + 1 + d in
     let past : went x ≡ true = law x k (omega arith) (omega arith)
-    (between_first (use_at b i r) (use_at b k r) (use_at b x r) strong c) h in
-    law i x (omega arith) (omega arith) (between_second (use_at b i r) (use_at b k r) (use_at b x r) strong c) past
-conflict_step b went closed r n i k l m law c h (Nowhere none) =
+    (between_first (uses i r) (uses k r) (uses x r) strong c) h in
+    law i x (omega arith) (omega arith) (between_second (uses i r) (uses k r) (uses x r) strong c) past
+conflict_step uses went closed r n i k l m law c h (Nowhere none) =
     closed i k (record {
       before = l;
       on = r;
       conflict = c;
       clear = λ x above under.
-          weak_from (use_at b x r)
+          weak_from (uses x r)
           (let e : i + 1 + (x - (i + 1)) ≡ x = omega arith in
-          subst (λ (z : ℕ). is_strong_use (use_at b z r) ≡ false) e (none (x - (i + 1)) (omega arith)));
+          subst (λ (z : ℕ). is_strong_use (uses z r) ≡ false) e (none (x - (i + 1)) (omega arith)));
     }) h
 
-conflicts_at : (b : Lines) (went : ℕ → Bool) → IsClosed b went → (r : Resource) (n i k : ℕ) → i < k → k ≤ i + n
-    → IsConflict (use_at b i r) (use_at b k r) → went k ≡ true → went i ≡ true
-conflicts_at b went closed r zero i k l m c h = absurd (omega arith)
-conflicts_at b went closed r (suc n) i k l m c h
-    = conflict_step b went closed r n i k l m (conflicts_at b went closed r n) c h (seek (strong_at b r i) (k - (i + 1)))
+conflicts_at : (uses : BlockUses) (went : ℕ → Bool) → IsClosed uses went → (r : Resource) (n i k : ℕ) → i < k
+    → k ≤ i + n
+    → IsConflict (uses i r) (uses k r) → went k ≡ true → went i ≡ true
+conflicts_at uses went closed r zero i k l m c h = absurd (omega arith)
+conflicts_at uses went closed r (suc n) i k l m c h
+    = conflict_step uses went closed r n i k l m (conflicts_at uses went closed r n) c h (seek (strong_at uses r i)
+    (k - (i + 1)))
 
 -- all before it that a statement that went through conflicts with went through
-pub conflicts_closed : (b : Lines) (went : ℕ → Bool) → IsClosed b went → (r : Resource) (i k : ℕ) → i < k
-    → IsConflict (use_at b i r) (use_at b k r) → went k ≡ true → went i ≡ true
-conflicts_closed b went closed r i k l c h = conflicts_at b went closed r k i k l (omega arith) c h
+pub conflicts_closed : (uses : BlockUses) (went : ℕ → Bool) → IsClosed uses went → (r : Resource) (i k : ℕ) → i < k
+    → IsConflict (uses i r) (uses k r) → went k ≡ true → went i ≡ true
+conflicts_closed uses went closed r i k l c h = conflicts_at uses went closed r k i k l (omega arith) c h

@@ -3,9 +3,7 @@ use Rattle.std.proofs.Common.{◌≡◌, ◌≢◌, ◌<◌, ◌≤◌, ◌+◌,
 use Rattle.std.proofs.Common.{List, [], ◌∷◌, length, get_or, count_by, Contains, refl, ap, sym, ◌∙◌, arith, subst}
 use Rattle.std.proofs.lemmas.List.Sums.{sum_by-cons, get_or-le-sum_by}
 use Rattle.std.proofs.lemmas.Bool.{cases_eq, ne_eqb}
-use Rattle.ae_tree.specs.Plain.{Lines}
-use Rattle.ae_rules.specs.BuiltUses.{ArePreds}
-use Rattle.ae_rules.specs.Edges.{IsRising}
+use Rattle.ae_rules.specs.Edges.{BlockUses, IsRising, Preds}
 use Rattle.ae_graph.specs.Graph.{Graph, preds_in, AreSuccs}
 use Rattle.ae_text.specs.Numbers.{times}
 use Rattle.ae_run.proofs.from_text.Basics.{number_is_itself}
@@ -131,9 +129,9 @@ equal_tests : (m n : ℕ) → m ≤ 1 → n ≤ 1 → (1 ≤ m → 1 ≤ n) → 
 equal_tests m n a b f g = grind (arith, f, g)
 
 -- an edge stands once in the one list and once in the other
-pub times_edges : (b : Lines) (g : Graph) (i j : ℕ) (succs : List ℕ) → ArePreds b j (preds_in g j)
+pub times_edges : (uses : BlockUses) (g : Graph) (i j : ℕ) (succs : List ℕ) → Preds uses j (preds_in g j)
     → AreSuccs g i succs → times i (preds_in g j) ≡ times j succs
-times_edges b g i j succs p s
+times_edges uses g i j succs p s
     = equal_tests (times i (preds_in g j)) (times j succs) (once i (preds_in g j) p.rising) (once j succs s.rising)
     (λ h. stands j succs ((s.exact j).1 (stands_in i (preds_in g j) h)))
     (λ h. stands i (preds_in g j) ((s.exact j).0 (stands_in j succs h)))

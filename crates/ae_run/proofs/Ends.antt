@@ -1,12 +1,12 @@
 -- A run that is over has the ending and the output of the run in source order.
-use Rattle.std.proofs.Common.{◌≡◌, ◌<◌, ◌+◌, ◌⊎◌, inl, inr, ℕ, zero, suc, Bool, true, false, not, List, [], ◌∷◌}
+use Rattle.std.proofs.Common.{◌≡◌, ◌<◌, ◌+◌, ◌⊎◌, inl, inr, ℕ, zero, suc, true, false, not, List, [], ◌∷◌}
 use Rattle.std.proofs.Common.{◌++◌, length, take, append_assoc, Option, None, Some, IsSome, refl, ap, sym, ◌∙◌}
 use Rattle.std.proofs.Common.{arith, subst}
 use Rattle.std.proofs.lemmas.Bool.{cases_order, not-true, not-false}
 use Rattle.ae_tree.specs.Plain.{Lines, End, Next}
 use Rattle.ae_tree.specs.Limits.{statement_count}
-use Rattle.ae_rules.specs.BuiltUses.{IsBuiltEdge}
-use Rattle.ae_graph.specs.Graph.{Graph, IsGraph}
+use Rattle.ae_rules.specs.Edges.{BlockUses, Edge}
+use Rattle.ae_graph.specs.Graph.{Graph, IsGraphOf}
 use Rattle.ae_meaning.specs.declared.report.Ending.{Ending}
 use Rattle.ae_meaning.specs.Values.{Env, empty}
 use Rattle.ae_meaning.specs.Meaning.{TodayState, Run, Went, Ends, Stops, today_and_then, today_one, today_many}
@@ -96,10 +96,10 @@ went_fate b known k fate.Waiting t h = absurd (cc)
 went_fate b known k (fate.Went piece) t h = h
 went_fate b known k fate.Stopped t h = absurd (cc)
 
-before_end : AddsToTheLog → (b : Lines) (fs : List Fate) (known : Option First) (s : TodayState)
-    → IsRight b fs known s → (j : ℕ) → ((k : ℕ) → k < j → not (went fs k) ≡ false)
+before_end : AddsToTheLog → (b : Lines) (uses : BlockUses) (fs : List Fate) (known : Option First) (s : TodayState)
+    → IsRight b uses fs known s → (j : ℕ) → ((k : ℕ) → k < j → not (went fs k) ≡ false)
     → today_many b begin ≡ today_many (rest_from j b) (state (found_from empty b j) (pieces (take j fs)))
-before_end adds b fs known s r j all = many_prefix adds b empty [] fs j
+before_end adds b uses fs known s r j all = many_prefix adds b empty [] fs j
     (λ k l. went_fate b known k (fate_at fs k) (not-false (went fs k) (all k l)) (r.fates k))
 
 -- a run's answer is its ending and its output in source order
@@ -110,25 +110,26 @@ Answered b fs known = (Some (course_ending known) ≡ (meaning_of_run (today_man
 stopped_not_went : (fs : List Fate) (i : ℕ) → fate_at fs i ≡ fate.Stopped → went fs i ≡ false
 stopped_not_went fs i e = ap is_went e
 
-all_went : AddsToTheLog → (b : Lines) (fs : List Fate) (known : Option First) (s : TodayState) → IsRight b fs known s
+all_went : AddsToTheLog → (b : Lines) (uses : BlockUses) (fs : List Fate) (known : Option First) (s : TodayState)
+    → IsRight b uses fs known s
     → IsFirst b fs known → ((k : ℕ) → k < length fs → not (went fs k) ≡ false) → Answered b fs known
-all_went adds b fs None s r f all =
+all_went adds b uses fs None s r f all =
     let e : rest_from (length fs) b ≡ End = ap (λ n. rest_from n b) r.size ∙ rest_over b in
     let m : today_many b begin ≡ Went (state (found_from empty b (length fs)) (pieces (take (length fs) fs))) =
-    before_end adds b fs None s r (length fs) all
+    before_end adds b uses fs None s r (length fs) all
     ∙ ap (λ (x : Lines). today_many x (state (found_from empty b (length fs)) (pieces (take (length fs) fs))))
     e in
     (ap (λ x. (meaning_of_run x).ending) (sym m), ap (λ x. (meaning_of_run x).out) (sym m))
-all_went adds b fs (Some first) s r f all =
+all_went adds b uses fs (Some first) s r f all =
     absurd (no_test_is_both (went fs first.at) (not-false (went fs first.at) (all first.at f.0))
     (stopped_not_went fs first.at f.1))
 
-stopped_least : AddsToTheLog → (b : Lines) (fs : List Fate) (known : Option First) (s : TodayState)
-    → IsRight b fs known s → IsFirst b fs known → (d : ℕ) → d < length fs
+stopped_least : AddsToTheLog → (b : Lines) (uses : BlockUses) (fs : List Fate) (known : Option First) (s : TodayState)
+    → IsRight b uses fs known s → IsFirst b fs known → (d : ℕ) → d < length fs
     → ((k : ℕ) → k < d → not (went fs k) ≡ false) → IsSome (meaning_of_run (today_many b begin)).ending
     → IsAtOrBehind known d ⊎ (turn b d ≡ Stops []) → Answered b fs known
-stopped_least adds b fs None s r f d l all some (inl h) = absurd h
-stopped_least adds b fs (Some first) s r f d l all some (inl h) =
+stopped_least adds b uses fs None s r f d l all some (inl h) = absurd h
+stopped_least adds b uses fs (Some first) s r f d l all some (inl h) =
     let e : first.at ≡ d = elim (cases_order first.at d) [
       | inl q ↦ q
       | inr o ↦ elim o [
@@ -139,39 +140,42 @@ stopped_least adds b fs (Some first) s r f d l all some (inl h) =
     ] in
     let n = first.at in
     let same : (k : ℕ) → k < n → not (went fs k) ≡ false = λ k m. all k (omega arith) in
-    let m : today_many b begin ≡ Ends first.ending (pieces (take n fs)) = before_end adds b fs (Some first) s r n same
+    let m : today_many b begin ≡ Ends first.ending (pieces (take n fs)) = before_end adds b uses fs (Some first) s
+    r n same
     ∙ rest_ends adds b n (found_from empty b n) (pieces (take n fs)) first.ending f.2 in
     (ap (λ x. (meaning_of_run x).ending) (sym m), ap (λ x. (meaning_of_run x).out) (sym m))
-stopped_least adds b fs known s r f d l all some (inr h) =
+stopped_least adds b uses fs known s r f d l all some (inr h) =
     let c : d < statement_count b = subst (λ n. d < n) r.size l in
-    let m : today_many b begin ≡ Stops (pieces (take d fs)) = before_end adds b fs known s r d all
+    let m : today_many b begin ≡ Stops (pieces (take d fs)) = before_end adds b uses fs known s r d all
     ∙ rest_stops adds b d (found_from empty b d) (pieces (take d fs)) c h in
     let none : IsSome (meaning_of_run (Stops (pieces (take d fs)))).ending =
     subst (λ (x : Run). IsSome (meaning_of_run x).ending) m some in
     absurd (cc)
 
-at_least : AddsToTheLog → (b : Lines) (fs : List Fate) (known : Option First) (s : TodayState) → IsRight b fs known s
+at_least : AddsToTheLog → (b : Lines) (uses : BlockUses) (fs : List Fate) (known : Option First) (s : TodayState)
+    → IsRight b uses fs known s
     → (d : ℕ) → d < length fs
     → ((k : ℕ) → k < d → not (went fs k) ≡ false) → IsSome (meaning_of_run (today_many b begin)).ending
     → (f : Fate) → is_taken f ≡ true → is_went f ≡ false → IsFate b known d f → Answered b fs known
-at_least adds b fs known s r d l all some fate.Waiting t w h = absurd (cc)
-at_least adds b fs known s r d l all some (fate.Went piece) t w h = absurd (cc)
-at_least adds b fs known s r d l all some fate.Stopped t w h = stopped_least adds b fs known s r r.first d l all some h
+at_least adds b uses fs known s r d l all some fate.Waiting t w h = absurd (cc)
+at_least adds b uses fs known s r d l all some (fate.Went piece) t w h = absurd (cc)
+at_least adds b uses fs known s r d l all some fate.Stopped t w h = stopped_least adds b uses fs known s r r.first
+    d l all some h
 
-finish_at : AddsToTheLog → (b : Lines) (g : Graph) → IsGraph (Some b) g
-    → (fs : List Fate) (known : Option First) (s : TodayState) → IsRight b fs known s → IsOver g fs
+finish_at : AddsToTheLog → (b : Lines) (uses : BlockUses) (g : Graph) → IsGraphOf uses (statement_count b) g
+    → (fs : List Fate) (known : Option First) (s : TodayState) → IsRight b uses fs known s → IsOver g fs
     → IsSome (meaning_of_run (today_many b begin)).ending
     → Sought (λ j. not (went fs j)) (length fs) → Answered b fs known
-finish_at adds b g graph fs known s r over some (Nowhere all) = all_went adds b fs known s r r.first all
-finish_at adds b g graph fs known s r over some (Least d l h all) =
+finish_at adds b uses g graph fs known s r over some (Nowhere all) = all_went adds b uses fs known s r r.first all
+finish_at adds b uses g graph fs known s r over some (Least d l h all) =
     let m : d < length g = subst (λ n. d < n) (r.size ∙ sym graph.0) l in
     let t : was_taken fs d ≡ true = over d m
-    (λ i c. let e : IsBuiltEdge b i d = ((graph.1 d m).exact i).0 c in not-false (went fs i) (all i e.before))
-    in at_least adds b fs known s r d l all some (fate_at fs d) t (not-true (went fs d) h) (r.fates d)
+    (λ i c. let e : Edge uses i d = ((graph.1 d m).exact i).0 c in not-false (went fs i) (all i e.before))
+    in at_least adds b uses fs known s r d l all some (fate_at fs d) t (not-true (went fs d) h) (r.fates d)
 
 -- what a run that is over has is what the run in source order has
-pub finish : AddsToTheLog → (b : Lines) (g : Graph) → IsGraph (Some b) g
-    → (fs : List Fate) (known : Option First) (s : TodayState) → IsRight b fs known s → IsOver g fs
+pub finish : AddsToTheLog → (b : Lines) (uses : BlockUses) (g : Graph) → IsGraphOf uses (statement_count b) g
+    → (fs : List Fate) (known : Option First) (s : TodayState) → IsRight b uses fs known s → IsOver g fs
     → IsSome (meaning_of_run (today_many b begin)).ending → Answered b fs known
-finish adds b g graph fs known s r over some = finish_at adds b g graph fs known s r over some
+finish adds b uses g graph fs known s r over some = finish_at adds b uses g graph fs known s r over some
     (seek (λ j. not (went fs j)) (length fs))

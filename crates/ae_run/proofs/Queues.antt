@@ -1,13 +1,13 @@
 -- Which statements are ready, and when none is left.
 use Rattle.std.proofs.Common.{◌≡◌, ◌≢◌, ◌<◌, ◌≤◌, ◌+◌, ◌⊎◌, inl, inr, ℕ, nat_eq, if◌then◌else◌, Bool, true, false}
-use Rattle.std.proofs.Common.{not, List, [], ◌∷◌, length, get_or, set, count_by, IsPermutation, Some, refl, ap, sym}
+use Rattle.std.proofs.Common.{not, List, [], ◌∷◌, length, get_or, set, count_by, IsPermutation, refl, ap, sym}
 use Rattle.std.proofs.Common.{◌∙◌, arith, subst}
 use Rattle.std.proofs.lemmas.List.{get_or_past, get_or_default}
 use Rattle.std.proofs.lemmas.List.Sums.{sum_by-set}
 use Rattle.std.proofs.lemmas.Bool.{cases_eq, cases_order, ne_eqb, not-false}
 use Rattle.std.proofs.lemmas.Bool.Decides.{nat_tests}
-use Rattle.ae_tree.specs.Plain.{Lines}
-use Rattle.ae_graph.specs.Graph.{Graph, preds_in, IsGraph, AreSuccs}
+use Rattle.ae_rules.specs.Edges.{BlockUses}
+use Rattle.ae_graph.specs.Graph.{Graph, preds_in, IsGraphOf, AreSuccs}
 use Rattle.ae_run.specs.declared.course.Fate.{Fate}
 use Rattle.ae_run.specs.declared.course.Fate.TheVariants as fate
 use Rattle.ae_run.specs.Flow.{IsReady}
@@ -66,9 +66,10 @@ taken_now fs waits ready rest j r p =
     ] in
     record { untaken = unit_false (was_taken fs j) a; within = l; none = get_or_default waits j 0 1 l ∙ z }
 
-pub ready_now : (b : Lines) (g : Graph) → IsGraph (Some b) g → (fs : List Fate) (waits : List ℕ) (j : ℕ)
-    → AreWaits g (went fs) waits → Taken fs waits j → IsReady b (went fs) j
-ready_now b g graph fs waits j w t =
+pub ready_now : (uses : BlockUses) (size : ℕ) (g : Graph) → IsGraphOf uses size g
+    → (fs : List Fate) (waits : List ℕ) (j : ℕ)
+    → AreWaits g (went fs) waits → Taken fs waits j → IsReady uses (went fs) j
+ready_now uses size g graph fs waits j w t =
     let l : j < length g = subst (λ n. j < n) w.size t.within in
     let c : count_by (λ i. not (went fs i)) (preds_in g j) ≡ 0 = sym (w.counts j l) ∙ t.none in
     record {
@@ -128,45 +129,50 @@ waits_kept g fs gs waits j l u s w =
     subst (λ (p : ℕ → Bool). AreWaits g p waits) f w
 
 -- it went through: each statement waits for it as often as it stands behind it
-waits_before : (b : Lines) (g : Graph) → IsGraph (Some b) g → (fs gs : List Fate) (waits succs : List ℕ) (j : ℕ)
+waits_before : (uses : BlockUses) (size : ℕ) (g : Graph) → IsGraphOf uses size g
+    → (fs gs : List Fate) (waits succs : List ℕ) (j : ℕ)
     → j < length fs → was_taken fs j ≡ false → Settles fs gs j true → AreWaits g (went fs) waits
     → AreSuccs g j succs → (i : ℕ) → i < length g → get_or waits i 0 ≡ count_by (λ k. not (went gs k)) (preds_in g i)
     + times i succs
-waits_before b g graph fs gs waits succs j l u s w a i m =
+waits_before uses size g graph fs gs waits succs j l u s w a i m =
     w.counts i m
     ∙ count_change (λ k. not (went fs k)) (λ k. not (went gs k)) j (preds_in g i)
     (ap not (untaken_left (fate_at fs j) u)) (ap not (went_here fs gs j true l s))
     (λ k n. ap not (went_other fs gs j true s k n))
-    ∙ ap (λ n. count_by (λ k. not (went gs k)) (preds_in g i) + n) (times_edges b g j i succs (graph.1 i m) a)
+    ∙ ap (λ n. count_by (λ k. not (went gs k)) (preds_in g i) + n) (times_edges uses g j i succs (graph.1 i m) a)
 
 lt_or_past : (i n : ℕ) → (i < n) ⊎ (n ≤ i)
 lt_or_past i n = elim (cases_order i n)
     [ inl e ↦ inr (omega arith) | inr o ↦ elim o [ inl l ↦ inl l | inr l ↦ inr (omega arith) ] ]
 
-room_at : (b : Lines) (g : Graph) → IsGraph (Some b) g → (fs gs : List Fate) (waits succs : List ℕ) (j : ℕ)
+room_at : (uses : BlockUses) (size : ℕ) (g : Graph) → IsGraphOf uses size g
+    → (fs gs : List Fate) (waits succs : List ℕ) (j : ℕ)
     → j < length fs → was_taken fs j ≡ false → Settles fs gs j true → AreWaits g (went fs) waits
     → AreSuccs g j succs → (i : ℕ) → (i < length g) ⊎ (length g ≤ i) → times i succs ≤ get_or waits i 0
-room_at b g graph fs gs waits succs j l u s w a i (inl m) = let e = waits_before b g graph fs gs waits succs j l u s w
+room_at uses size g graph fs gs waits succs j l u s w a i (inl m) = let e = waits_before uses size g graph fs gs
+    waits succs j l u s w
     a i m in omega arith
-room_at b g graph fs gs waits succs j l u s w a i (inr m) =
+room_at uses size g graph fs gs waits succs j l u s w a i (inr m) =
     let z : times i succs ≡ 0 = no_edges g j i succs (get_or_past g i [] m) a in
     omega arith
 
-pub room : (b : Lines) (g : Graph) → IsGraph (Some b) g → (fs gs : List Fate) (waits succs : List ℕ) (j : ℕ)
+pub room : (uses : BlockUses) (size : ℕ) (g : Graph) → IsGraphOf uses size g
+    → (fs gs : List Fate) (waits succs : List ℕ) (j : ℕ)
     → j < length fs → was_taken fs j ≡ false → Settles fs gs j true → AreWaits g (went fs) waits
     → AreSuccs g j succs → (i : ℕ) → times i succs ≤ get_or waits i 0
-room b g graph fs gs waits succs j l u s w a i = room_at b g graph fs gs waits succs j l u s w a i
+room uses size g graph fs gs waits succs j l u s w a i = room_at uses size g graph fs gs waits succs j l u s w a i
     (lt_or_past i (length g))
 
-pub waits_after : (b : Lines) (g : Graph) → IsGraph (Some b) g → (fs gs : List Fate) (waits succs : List ℕ) (j : ℕ)
+pub waits_after : (uses : BlockUses) (size : ℕ) (g : Graph) → IsGraphOf uses size g
+    → (fs gs : List Fate) (waits succs : List ℕ) (j : ℕ)
     → j < length fs → was_taken fs j ≡ false → Settles fs gs j true → AreWaits g (went fs) waits
     → AreSuccs g j succs → (now : List ℕ) → length now ≡ length waits
     → ((i : ℕ) → waits_of now i + times i succs ≡ waits_of waits i) → AreWaits g (went gs) now
-waits_after b g graph fs gs waits succs j l u s w a now n h = record {
+waits_after uses size g graph fs gs waits succs j l u s w a now n h = record {
   size = n ∙ w.size;
   counts = λ i m.
       let e : get_or waits i 0 ≡ count_by (λ k. not (went gs k)) (preds_in g i) + times i succs =
-      waits_before b g graph fs gs waits succs j l u s w a i m in
+      waits_before uses size g graph fs gs waits succs j l u s w a i m in
       let m1 : i < length waits = subst (λ x. i < x) (sym w.size) m in
       let m2 : i < length now = subst (λ x. i < x) (sym n) m1 in
       let d : get_or waits i 0 ≡ waits_of waits i = get_or_default waits i 0 1 m1 in

@@ -1,8 +1,9 @@
 -- What became of the statements of a block, against its run in source order.
 use Rattle.std.specs.Prelude.{◌≡◌, ◌<◌, ◌≤◌, ◌⊎◌, ◌++◌, ℕ, Bool, true, false, List, [], ◌∷◌, length, slice_index_or}
 use Rattle.std.specs.Prelude.{slice_set, Option, None, Some, Contains}
-use Rattle.ae_tree.specs.Plain.{Lines}
+use Rattle.ae_tree.specs.Plain.{Lines, Code}
 use Rattle.ae_tree.specs.Limits.{statement_count}
+use Rattle.ae_rules.specs.Edges.{BlockUses}
 use Rattle.ae_meaning.specs.declared.report.Ending.{Ending}
 use Rattle.ae_meaning.specs.declared.report.Ending.TheVariants.{Done}
 use Rattle.ae_meaning.specs.Values.{Env}
@@ -15,6 +16,7 @@ use Rattle.ae_run.specs.declared.course.Outcome.TheVariants as outcome
 use Rattle.ae_run.specs.declared.course.First.{First}
 use Rattle.ae_run.specs.declared.course.Course.{Course}
 use Rattle.ae_graph.specs.Graph.{Graph, preds_in}
+use Rattle.ae_run.specs.Main.{main_lines, main_uses}
 use Rattle.ae_run.specs.Flow.{turn, IsClosed, HasValues, Prints}
 
 abbrev pub is_went : Fate → Bool
@@ -69,17 +71,19 @@ IsFirst b fates None = Unit {0}
 IsFirst b fates (Some first) = (first.at < length fates) × (fate_at fates first.at ≡ fate.Stopped)
     × (turn b first.at ≡ Ends first.ending [])
 
--- all that is kept between two statements
-pub record IsRight (b : Lines) (all : List Fate) (known : Option First) (s : TodayState) : Type 0 where
+-- all that is kept between two statements of a block that uses resources so
+pub record IsRight (b : Lines) (uses : BlockUses) (all : List Fate) (known : Option First) (s : TodayState) : Type
+    0 where
   pub size : length all ≡ statement_count b
   pub log : s.log ≡ []
-  pub closed : IsClosed b (went all)
-  pub values : HasValues b (went all) s.env
+  pub closed : IsClosed uses (went all)
+  pub values : HasValues b uses (went all) s.env
   pub fates : (j : ℕ) → IsFate b known j (fate_at all j)
   pub first : IsFirst b all known
 
-abbrev pub IsOnCourse : Lines → Course → Type 0
-IsOnCourse b c = IsRight b c.fates.items c.first (held c.state)
+-- what became of the statements of a program is right
+abbrev pub IsOnCourse : Code → Course → Type 0
+IsOnCourse p c = IsRight (main_lines p) (main_uses p) c.fates.items c.first (held c.state)
 
 -- what came of a statement, against its run: the locals are those after it, and nothing printed is left over
 abbrev pub Gives : Run → Env → Outcome → TodayState → Type 0

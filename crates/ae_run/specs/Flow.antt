@@ -3,8 +3,7 @@ use Rattle.std.specs.Prelude.{◌≡◌, ◌<◌, ◌≤◌, ℕ, zero, suc, Boo
 use Rattle.ae_rules.specs.declared.uses.Resource.TheVariants.{Local}
 use Rattle.ae_rules.specs.declared.uses.Mode.{Mode}
 use Rattle.ae_tree.specs.Plain.{Lines, End, Next}
-use Rattle.ae_rules.specs.BuiltUses.{use_at, IsBuiltEdge}
-use Rattle.ae_rules.specs.Edges.{is_strong}
+use Rattle.ae_rules.specs.Edges.{is_strong, BlockUses, Edge}
 use Rattle.ae_meaning.specs.Values.{Env, empty}
 use Rattle.ae_meaning.specs.Meaning.{Run, Went, Ends, Stops, today_one}
 
@@ -41,22 +40,22 @@ is_strong_use None = false
 is_strong_use (Some m) = is_strong m
 
 -- a statement writes this local
-abbrev pub writes_local : Lines → ℕ → ℕ → Bool
-writes_local b k y = is_strong_use (use_at b k (Local y))
+abbrev pub writes_local : BlockUses → ℕ → ℕ → Bool
+writes_local uses k y = is_strong_use (uses k (Local y))
 
 -- what a statement that went through waits for went through
-abbrev pub IsClosed : Lines → (ℕ → Bool) → Type 0
-IsClosed b went = (i j : ℕ) → IsBuiltEdge b i j → went j ≡ true → went i ≡ true
+abbrev pub IsClosed : BlockUses → (ℕ → Bool) → Type 0
+IsClosed uses went = (i j : ℕ) → Edge uses i j → went j ≡ true → went i ≡ true
 
 -- where all that write a local before statement m went through, and none from m on, the local is as statement m finds it in source order
-abbrev pub HasValues : Lines → (ℕ → Bool) → Env → Type 0
-HasValues b went env = (y m : ℕ) → ((k : ℕ) → k < m → writes_local b k y ≡ true → went k ≡ true)
-    → ((k : ℕ) → m ≤ k → writes_local b k y ≡ true → went k ≡ false) → env y ≡ found_by b m y
+abbrev pub HasValues : Lines → BlockUses → (ℕ → Bool) → Env → Type 0
+HasValues b uses went env = (y m : ℕ) → ((k : ℕ) → k < m → writes_local uses k y ≡ true → went k ≡ true)
+    → ((k : ℕ) → m ≤ k → writes_local uses k y ≡ true → went k ≡ false) → env y ≡ found_by b m y
 
 -- a statement can be run: it did not go through, and all for which it waits did
-pub record IsReady (b : Lines) (went : ℕ → Bool) (j : ℕ) : Type 0 where
+pub record IsReady (uses : BlockUses) (went : ℕ → Bool) (j : ℕ) : Type 0 where
   pub left : went j ≡ false
-  pub waits : (i : ℕ) → IsBuiltEdge b i j → went i ≡ true
+  pub waits : (i : ℕ) → Edge uses i j → went i ≡ true
 
 -- a run went through and printed these bytes
 abbrev pub Prints : Run → List ℕ → Type 0

@@ -1,3 +1,4 @@
 pub mod Flow
 pub mod Queue
+pub mod Main
 pub mod Course

@@ -1,13 +1,17 @@
 // What became of the statements of a block. A law of the meaning is called where a proof takes it from there; the call does nothing.
 ghost use Rattle.std.specs.Prelude.{◌≡◌, ◌<◌, ◌≤◌, ◌↔◌, ℕ, false, [], length, take, IfOk, OnOk, IsTrue, slice_set};
-ghost use Rattle.ae_tree.specs.Shown.{action, lines_from};
+ghost use Rattle.ae_tree.specs.Shown.{action, lines_from, code as plain};
+ghost use Rattle.ae_tree.specs.Limits.{statement_count};
+ghost use Rattle.ae_tree.specs.Built.{Built};
 ghost use Rattle.ae_meaning.specs.Values.{empty};
 ghost use Rattle.ae_meaning.specs.Meaning.{today_one};
 ghost use Rattle.ae_meaning.specs.Running.{env_of, held};
+ghost use Rattle.ae_run.specs.Main.{main_lines, main_uses};
 ghost use Rattle.ae_run.specs.Flow.{IsReady};
 ghost use Rattle.ae_run.specs.Course.{went, was_taken, fate_at, Gives, IsOnCourse, IsBehind, Settles, piece_of};
 ghost use Rattle.ae_run.specs.Course.{pieces, course_ending, course_end};
 
+use ae_code::Checked;
 use ae_meaning::{
     Ending, Locals, RunReport, Running, Stop, run_stmt, statements_change_what_they_write,
     statements_read_what_they_use,
@@ -61,6 +65,17 @@ pub struct Course {
     pub state: Running,
     pub fates: Vec<Fate>,
     pub first: Option<First>,
+}
+
+// The statements of the one method.
+fn main_stmts(code: &Checked) -> &[Stmt]
+    requires { Built (plain code.now.program) }
+    ensures lines { lines_from result.now ≡ main_lines (plain code.now.program) }
+    ensures count { length result.now ≡ statement_count (main_lines (plain code.now.program)) }
+{
+    let methods = code.program().methods.as_slice();
+    let stmts = methods[0].body.stmts.as_slice();
+    stmts
 }
 
 // Runs the statement with this number, tells the gate, and takes what it printed.
@@ -149,16 +164,17 @@ impl Course {
     pub fn settle<G: Gate>(
         &mut self,
         alloc: Global,
-        stmts: &[Stmt],
+        code: &Checked,
         j: u32,
         gate: &G,
     ) -> Result<bool, AllocError>
-        requires within { j < length stmts.now }
+        requires built { Built (plain code.now.program) }
+        requires within { j < statement_count (main_lines (plain code.now.program)) }
         requires counted { j < length self.old.fates.items }
-        requires course { IsOnCourse (lines_from stmts.now) self.old }
-        requires ready { IsReady (lines_from stmts.now) (went self.old.fates.items) j }
+        requires course { IsOnCourse (plain code.now.program) self.old }
+        requires ready { IsReady (main_uses (plain code.now.program)) (went self.old.fates.items) j }
         requires untaken { was_taken self.old.fates.items j ≡ false }
-        ensures course { OnOk result (IsOnCourse (lines_from stmts.now) self.new) }
+        ensures course { OnOk result (IsOnCourse (plain code.now.program) self.new) }
         ensures fates { IfOk result (λ through. Settles self.old.fates.items self.new.fates.items j through) }
     {
         if self.is_behind(j) {
@@ -167,6 +183,7 @@ impl Course {
         }
         statements_read_what_they_use();
         statements_change_what_they_write();
+        let stmts = main_stmts(code);
         match run_alone(alloc, &stmts[j as usize], j, &mut self.state, gate)? {
             Outcome::Went(piece) => {
                 self.set(j, Fate::Went(piece));

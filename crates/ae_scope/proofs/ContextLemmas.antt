@@ -20,7 +20,7 @@ groups_in gs g = get_or gs g None
 
 pub context_declared : (s : Scope) (x : ℕ) (form : Form) (stays : Bool) (h : Held) (xs ys : List Slot)
     (gs : List (Option GroupPerm)) → local_in s.locals.items x ≡ None → xs ≡ s.locals.items → h ≡ held_of form
-    → ys ≡ xs ++ record { name = x; form = form; held = h; stays = stays } ∷ [] → gs ≡ s.groups.items
+    → ys ≡ xs ++ record { name = x; form = form; held = h; stays = stays } ∷ [] → gs ≡ s.groups.perms.items
     → (ys ≡ s.locals.items ++ record { name = x; form = form; held = held_of form; stays = stays } ∷ [])
     × (record { local = local_in ys; group = groups_in gs } ≡ with_parameter x form stays (context_of s))
 context_declared s x form stays h xs ys gs e l0 eh l g =
@@ -40,7 +40,7 @@ context_declared s x form stays h xs ys gs e l0 eh l g =
     )
 
 pub context_held : (s t : Scope) (x i : ℕ) (h : Held) → place_in s.at.items x ≡ Some i
-    → t.locals.items ≡ hold_at s.locals.items i h → t.groups.items ≡ s.groups.items
+    → t.locals.items ≡ hold_at s.locals.items i h → t.groups.perms.items ≡ s.groups.perms.items
     → context_of t ≡ with_held x h (context_of s)
 context_held s t x i h e l g = same_context (context_of t) (with_held x h (context_of s)) (ap local_in l
     ∙ held_in_stack s.at.items s.locals.items x i h s.tied e) (ap groups_in g)

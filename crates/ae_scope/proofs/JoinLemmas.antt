@@ -7,7 +7,7 @@ use Rattle.std.specs.Option.{is_some, option_map}
 use Rattle.std.proofs.lemmas.List.{length-map, get_or_past}
 use Rattle.std.proofs.lemmas.Bool.{cases_eq, cases_lt}
 use Rattle.std.proofs.lemmas.Option.{slice_get-map}
-use Rattle.ae_scope.proofs.StackLemmas.{stack, bare, bare_hold, bare_rewound, same_stack, stack_is, hold_other, kept_or_compared, alike_itself, each_same, got}
+use Rattle.ae_scope.proofs.StackLemmas.{stack, bare, bare_hold, bare_rewound, same_stack, stack_is, groups_are, hold_other, kept_or_compared, alike_itself, each_same, got}
 use Rattle.ae_scope.proofs.from_rules.PredLemmas.{all_at}
 use Rattle.ae_scope.proofs.from_rules.ShapeLemmas.{same_held_is, held_itself}
 use Rattle.ae_scope.specs.declared.scope.Scope.{Scope}
@@ -176,17 +176,20 @@ join_compared p at cs ds xs ys gs t e w = by_answer (all_same (now_held cs xs) y
 pub record Alike (s r : Scope) : Type 0 where
   pub locals : r.locals.items ≡ s.locals.items
   pub trail : r.trail.items ≡ s.trail.items
-  pub groups : r.groups.items ≡ s.groups.items
+  pub groups : r.groups.perms.items ≡ s.groups.perms.items
+  pub group_trail : r.group_trail.items ≡ s.group_trail.items
   pub table : length r.at.items ≡ length s.at.items
 
 pub back_to : (s u r : Scope) (n : ℕ) → n ≡ length s.trail.items → Grows s u
     → length u.locals.items ≡ length s.locals.items → r.locals.items ≡ rewound (drop n u.trail.items) u.locals.items
-    → r.groups.items ≡ u.groups.items → length r.at.items ≡ length u.at.items → r.trail.items ≡ take n u.trail.items
-    → Alike s r
-back_to s u r n e g l a c d b = record {
+    → r.groups.perms.items ≡ u.groups.perms.items → length r.at.items ≡ length u.at.items
+    → r.trail.items ≡ take n u.trail.items → u.group_trail.items ≡ s.group_trail.items
+    → r.group_trail.items ≡ u.group_trail.items → Alike s r
+back_to s u r n e g l a c d b k h = record {
   locals = a ∙ ap (λ (m : ℕ). rewound (drop m u.trail.items) u.locals.items) e ∙ stack_is s u g l;
   trail = b ∙ ap (λ (m : ℕ). take m u.trail.items) e ∙ g.trail;
-  groups = c ∙ g.groups;
+  groups = c ∙ groups_are s u g k;
+  group_trail = h ∙ k;
   table = d ∙ g.table;
 }
 
@@ -194,4 +197,4 @@ pub same_scope : (s r : Scope) → Alike s r → context_of r ≡ context_of s
 same_scope s r a = same_context (context_of r) (context_of s) (ap local_in a.locals) (ap groups_in a.groups)
 
 pub grows_alike : (s r : Scope) → Alike s r → Grows s r
-grows_alike s r a = grows_equal s r a.locals a.trail a.groups a.table
+grows_alike s r a = grows_equal s r a.locals a.trail a.groups a.group_trail a.table

@@ -1,5 +1,5 @@
 -- Scopes that grow step by step.
-use Rattle.std.proofs.Common.{◌≡◌, ◌<◌, ◌+◌, ℕ, List, drop, get_or, length, sym, ap, ◌∙◌}
+use Rattle.std.proofs.Common.{◌≡◌, ◌<◌, ◌+◌, ℕ, List, drop, get_or, length, sym, ap, ◌∙◌, Result, Ok, Err, OnOk}
 use Rattle.std.proofs.lemmas.List.{drop_more}
 use Rattle.ae_scope.specs.declared.scope.Scope.{Scope}
 use Rattle.ae_scope.specs.declared.slot.Slot.{Slot}
@@ -11,6 +11,11 @@ use Rattle.ae_scope.proofs.StackLemmas.{grown_longer}
 
 pub grows_then : (s t u : Scope) → Grows s t → Grows t u → Grows s u
 grows_then s t u g h = grows_on s t u g h (grown_longer s t g)
+
+-- first to a scope, and from it on where the call succeeds
+pub grows_after : {A E : Type 0} (r : Result A E) (s t u : Scope) → Grows s t → OnOk r (Grows t u) → OnOk r (Grows s u)
+grows_after (Ok x) s t u g h = grows_then s t u g h
+grows_after (Err e) s t u g h = tt
 
 pub ruleset grown = (grows_same, grows_then)
 

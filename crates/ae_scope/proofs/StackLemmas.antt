@@ -1,13 +1,13 @@
 -- A block's end, and what is compared after it.
 use Rattle.std.proofs.Common.{◌≡◌, ◌⊎◌, inl, inr, ℕ, ◌<◌, ◌≤◌, zero, suc, nat_eq, if◌then◌else◌, Bool, true}
-use Rattle.std.proofs.Common.{false, ◌&&◌, ◌||◌, not, ◌++◌, ◌∷◌, [], List, length, take, drop, map, Option}
+use Rattle.std.proofs.Common.{false, ◌||◌, not, ◌++◌, ◌∷◌, [], List, length, take, drop, map, Option}
 use Rattle.std.proofs.Common.{Some, None, refl, sym, ap, subst, ◌∙◌, arith}
 use mathlib.Core.Path.{fun_ext}
 use Rattle.std.specs.List.{slice_get}
 use Rattle.std.specs.Option.{is_some, option_map}
+use Rattle.std.proofs.Math.Seq.{take-length}
 use Rattle.std.proofs.lemmas.List.{length-take, take_all, take-append-drop, length-map, get_or_past}
 use Rattle.std.proofs.lemmas.Bool.{cases_eq, cases_lt}
-use Rattle.std.proofs.lemmas.Bool.Decides.{nat_tests}
 use Rattle.std.proofs.lemmas.Option.{slice_get-map}
 use Rattle.ae_rules.specs.declared.held.Held.{Held}
 use Rattle.ae_rules.specs.declared.held.Held.TheVariants as held
@@ -20,14 +20,18 @@ use Rattle.ae_scope.proofs.from_rules.PredLemmas.{all_at}
 use Rattle.ae_scope.proofs.from_rules.ShapeLemmas.{same_held_is, held_itself}
 use Rattle.ae_scope.specs.declared.slot.Slot.{Slot}
 use Rattle.ae_scope.specs.declared.slot.Change.{Change}
+use Rattle.ae_scope.specs.declared.slot.GroupChange.{GroupChange}
+use Rattle.ae_scope.specs.declared.slot.Mark.{Mark}
 use Rattle.ae_scope.specs.declared.scope.Scope.{Scope}
 use Rattle.ae_scope.specs.Slots.{names, place_in, Tied, local_of, local_in, hold_at, held_at, rewound, now_held}
 use Rattle.ae_scope.specs.Slots.{all_same}
 use Rattle.ae_scope.specs.Scope.{context_of}
-use Rattle.ae_scope.specs.Grows.{Grows, before}
+use Rattle.ae_scope.specs.Trail.{groups_back}
+use Rattle.ae_scope.specs.Grows.{Grows, Ends, Marks, before}
 use Rattle.ae_scope.proofs.SlotLemmas.{met, held_past}
 use Rattle.ae_scope.proofs.ChangeLemmas.{names_rewound, take_rewound}
 use Rattle.ae_scope.proofs.ContextLemmas.{same_context, groups_in}
+use Rattle.ae_scope.proofs.GrowLemmas.{groups_stayed}
 
 -- ---- the stack cut
 
@@ -68,13 +72,30 @@ grown_names s t g =
     (drop (length s.trail.items) t.trail.items) t.locals.items)
     ∙ names_rewound (drop (length s.trail.items) t.trail.items) (take (length s.locals.items) t.locals.items)
 
--- a block ends
-pub ended : (s t u : Scope) → Grows s t → u.locals.items ≡ take (length s.locals.items) t.locals.items
-    → u.groups.items ≡ t.groups.items → closed (context_of s) (context_of t) ≡ context_of u
-ended s t u g l e = same_context (closed (context_of s) (context_of t)) (context_of u)
-    (fun_ext (λ x. cut_at s.locals.items t.locals.items (length s.locals.items) x (grown_names s t g)
-    ∙ ap (λ (zs : List Slot). local_in zs x) (sym l)))
-    (ap groups_in (sym (e ∙ g.groups)))
+-- at a block's end the first of the locals stay
+locals_ended : (s t u : Scope) (mark : Mark) → Marks s mark → Ends mark t u
+    → u.locals.items ≡ take (length s.locals.items) t.locals.items
+locals_ended s t u mark m e = e.locals ∙ ap (λ (n : ℕ). take n t.locals.items) m.locals
+
+-- at a block's end the groups are as they were
+pub groups_ended : (s t u : Scope) (mark : Mark) → Marks s mark → Grows s t → Ends mark t u
+    → u.groups.perms.items ≡ s.groups.perms.items
+groups_ended s t u mark m g e =
+    e.groups ∙ ap (λ (n : ℕ). groups_back (drop n t.group_trail.items) t.groups.perms.items) m.groups ∙ g.groups
+
+-- at a block's end the changes of groups are as they were
+pub group_trail_ended : (s t u : Scope) (mark : Mark) → Marks s mark → Grows s t → Ends mark t u
+    → u.group_trail.items ≡ s.group_trail.items
+group_trail_ended s t u mark m g e =
+    e.group_trail ∙ ap (λ (n : ℕ). take n t.group_trail.items) m.groups ∙ g.group_trail
+
+-- a block ends: what is held of the locals from outside stays, and the groups are as outside
+pub ended : (s t u : Scope) (mark : Mark) → Marks s mark → Grows s t → Ends mark t u
+    → context_of u ≡ closed (context_of s) (context_of t)
+ended s t u mark m g e = same_context (context_of u) (closed (context_of s) (context_of t))
+    (sym (fun_ext (λ x. cut_at s.locals.items t.locals.items (length s.locals.items) x (grown_names s t g)
+    ∙ ap (λ (zs : List Slot). local_in zs x) (sym (locals_ended s t u mark m e)))))
+    (ap groups_in (groups_ended s t u mark m g e))
 
 pub grown_longer : (s t : Scope) → Grows s t → length s.locals.items ≤ length t.locals.items
 grown_longer s t g =
@@ -86,21 +107,30 @@ grown_longer s t g =
     length-map (take (length s.locals.items) t.locals.items) (λ (r : Slot). r.name) in
     omega (arith, length-take (length s.locals.items) t.locals.items)
 
-pub grows_cut : (s t u : Scope) → Grows s t → u.locals.items ≡ take (length s.locals.items) t.locals.items
-    → u.groups.items ≡ t.groups.items → u.trail.items ≡ t.trail.items → length u.at.items ≡ length t.at.items
-    → Grows s u
-grows_cut s t u g l e f a =
+-- after a block's end there are as many locals as before it
+pub length_ended : (s t u : Scope) (mark : Mark) → Marks s mark → Grows s t → Ends mark t u
+    → length u.locals.items ≡ length s.locals.items
+length_ended s t u mark m g e =
+    let l : length s.locals.items ≤ length t.locals.items = grown_longer s t g in
+    omega (arith, ap length (locals_ended s t u mark m e), length-take (length s.locals.items) t.locals.items)
+
+-- what is left at a block's end grew out of what was before it
+pub grows_cut : (s t u : Scope) (mark : Mark) → Marks s mark → Grows s t → Ends mark t u → Grows s u
+grows_cut s t u mark m g e =
     let n = length s.locals.items in
     let cs = drop (length s.trail.items) t.trail.items in
+    let l : u.locals.items ≡ take n t.locals.items = locals_ended s t u mark m e in
+    let k : u.group_trail.items ≡ s.group_trail.items = group_trail_ended s t u mark m g e in
     record {
-      trail = ap (take (length s.trail.items)) f ∙ g.trail;
-      back = ap (λ (v : List Change). take n (rewound (drop (length s.trail.items) v) u.locals.items)) f
+      trail = ap (take (length s.trail.items)) e.trail ∙ g.trail;
+      back = ap (λ (v : List Change). take n (rewound (drop (length s.trail.items) v) u.locals.items)) e.trail
           ∙ take_rewound n cs u.locals.items
           ∙ ap (λ (ys : List Slot). rewound cs (take n ys)) l
           ∙ ap (rewound cs) (take_all n (take n t.locals.items) (omega (arith, length-take n t.locals.items)))
           ∙ sym (take_rewound n cs t.locals.items) ∙ g.back;
-      groups = e ∙ g.groups;
-      table = a ∙ g.table;
+      group_trail = ap (take (length s.group_trail.items)) k ∙ take-length s.group_trail.items;
+      groups = groups_stayed s u (groups_ended s t u mark m g e) k;
+      table = e.table ∙ g.table;
     }
 
 -- ---- the locals that changed are compared
@@ -264,7 +294,7 @@ pub compared : (p : Code) (s : Scope) (n : ℕ) → length s.at.items ≤ length
     → hold_alike p (before n s) (context_of s) (before n s)
     ≡ all_same (now_held (drop n s.trail.items) s.locals.items) (rewound (drop n s.trail.items) s.locals.items)
 compared p s n w = compared_stacks p s.at.items (drop n s.trail.items) s.locals.items
-    (groups_in s.groups.items) s.tied w
+    (groups_in s.groups.perms.items) s.tied w
 
 pub stack_is : (s u : Scope) → Grows s u → length u.locals.items ≡ length s.locals.items
     → rewound (drop (length s.trail.items) u.trail.items) u.locals.items ≡ s.locals.items
@@ -275,8 +305,15 @@ stack_is s u g e =
     ∙ length-map u.locals.items (λ (r : Slot). r.name) in
     sym (take_all (length s.locals.items) ys (omega arith)) ∙ g.back
 
+-- where no group has changed since, the groups are the same
+pub groups_are : (s u : Scope) → Grows s u → u.group_trail.items ≡ s.group_trail.items
+    → u.groups.perms.items ≡ s.groups.perms.items
+groups_are s u g k = sym (groups_stayed u u refl refl)
+    ∙ ap (λ (cs : List GroupChange). groups_back (drop (length cs) u.group_trail.items) u.groups.perms.items) k
+    ∙ g.groups
+
 -- the context before a block is the one that its changes lead back to
 pub before_is : (s u : Scope) → Grows s u → length u.locals.items ≡ length s.locals.items
-    → before (length s.trail.items) u ≡ context_of s
-before_is s u g e = same_context (before (length s.trail.items) u) (context_of s) (ap local_in (stack_is s u g e))
-    (ap groups_in g.groups)
+    → u.group_trail.items ≡ s.group_trail.items → before (length s.trail.items) u ≡ context_of s
+before_is s u g e k = same_context (before (length s.trail.items) u) (context_of s) (ap local_in (stack_is s u g e))
+    (ap groups_in (groups_are s u g k))

@@ -1,3 +1,4 @@
 pub mod Slots
+pub mod Trail
 pub mod Scope
 pub mod Grows

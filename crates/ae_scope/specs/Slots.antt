@@ -1,10 +1,8 @@
 -- A stack of locals as a function from names, and the table by name against it.
 use Rattle.std.specs.Prelude.{◌≡◌, ◌↔◌, ℕ, zero, suc, nat_eq, Bool, true, ◌&&◌, if◌then◌else◌, List, [], ◌∷◌, map}
-use Rattle.std.specs.Prelude.{Option, None, Some, is_some, slice_get, slice_index_or}
+use Rattle.std.specs.Prelude.{Option, None, Some, slice_get, slice_index_or}
 use Rattle.ae_rules.specs.declared.held.Held.{Held}
 use Rattle.ae_rules.specs.declared.held.Held.TheVariants as held
-use Rattle.ae_rules.specs.declared.held.GroupPerm.{GroupPerm}
-use Rattle.ae_rules.specs.Lookups.{has_name}
 use Rattle.ae_rules.specs.Context.{Local, same_held}
 use Rattle.ae_scope.specs.declared.slot.Slot.{Slot}
 use Rattle.ae_scope.specs.declared.slot.Change.{Change}
@@ -19,10 +17,6 @@ place_in at x = slice_index_or at x None
 -- the table says exactly where each name stands
 abbrev pub Tied : List (Option ℕ) → List ℕ → Type 0
 Tied at ns = (x i : ℕ) → (place_in at x ≡ Some i) ↔ (slice_get ns i ≡ Some x)
-
--- each group that has a permission in the table is in the list
-abbrev pub Listed : List (Option GroupPerm) → List ℕ → Type 0
-Listed gs xs = (g : ℕ) → is_some (slice_index_or gs g None) ≡ true → has_name xs g ≡ true
 
 abbrev pub local_of : Slot → Local
 local_of s = record { form = s.form; held = s.held; stays = s.stays }

@@ -1,23 +1,30 @@
 // What is known at a statement, as a stack of locals with a table by name.
-ghost use Rattle.ae_scope.specs.Slots.{Listed, Tied, names};
+ghost use Rattle.std.specs.Prelude.{◌≡◌, length};
+ghost use Rattle.ae_scope.specs.Slots.{Tied, names};
+ghost use Rattle.ae_scope.specs.Trail.{Listed, Rising};
 
-use crate::slot::{Change, Slot, held_of};
+use crate::slot::{Change, GroupChange, Slot, held_of};
+use ae_groups::GroupContext;
 use ae_rules::{GroupPerm, Held};
 use ae_tree::{Form, Name};
 use std::alloc::{AllocError, Global};
 
 /// The visible locals in the order of their `let`s, the place of each name among them, the permission of each group by
-/// name, the names of the known groups, and what was held before, change by change. One scope serves the methods of a
-/// program in turn: what a method knows is added at its start, and all of it is forgotten at its end.
+/// name, the names of the known groups, and what was held and which permissions groups had before, change by change. One
+/// scope serves the methods of a program in turn: what a method knows is added at its start, and all of it is forgotten
+/// at its end.
 #[derive(Drop)]
 pub struct Scope {
     pub locals: Vec<Slot>,
     pub at: Vec<Option<usize>>,
-    pub groups: Vec<Option<GroupPerm>>,
+    pub groups: GroupContext,
     pub known: Vec<Name>,
     pub trail: Vec<Change>,
+    pub group_trail: Vec<GroupChange>,
     pub ghost tied: { Tied at.items (names locals.items) },
-    pub ghost listed: { Listed groups.items known.items },
+    pub ghost listed: { Listed groups.perms.items known.items },
+    pub ghost rising: { Rising group_trail.items groups.perms.items },
+    pub ghost sized: { length groups.perms.items ≡ length at.items },
 }
 
 impl Scope {
@@ -33,13 +40,14 @@ impl Scope {
         ensures { IfOk result (Empty names) }
     {
         let at = vec![in alloc; None; names]?;
-        let groups = vec![in alloc; None; names]?;
+        let groups = GroupContext::new(alloc, names)?;
         Ok(Scope {
             locals: Vec::new(alloc),
             at,
             groups,
             known: Vec::new(alloc),
             trail: Vec::new(alloc),
+            group_trail: Vec::new(alloc),
         })
     }
 
@@ -69,31 +77,21 @@ impl Scope {
     pub fn group(&self, name: Name) -> Option<GroupPerm>
         ensures { result ≡ (context_of self.now).group name }
     {
-        match self.groups.get(name as usize) {
-            Some(perm) => *perm,
-            None => None,
-        }
+        self.groups.perm(name)
     }
 
     /// A group with this name is known.
     pub fn knows(&self, name: Name) -> bool
         ensures { result ≡ group.known (context_of self.now).group name }
     {
-        self.group(name).is_some()
+        self.groups.knows(name)
     }
 
     /// The members of the group may be reached.
     pub fn opens(&self, name: Name) -> bool
         ensures { result ≡ group.opens (context_of self.now).group name }
     {
-        match self.group(name) {
-            Some(GroupPerm::Exclusive) => true,
-            Some(GroupPerm::Protected) => true,
-            Some(GroupPerm::Shared) => false,
-            Some(GroupPerm::HeldBack) => false,
-            Some(GroupPerm::None) => false,
-            None => false,
-        }
+        self.groups.opens(name)
     }
 
     /// A local or a group has this name.
@@ -140,8 +138,9 @@ impl Scope {
         requires { at < length self.old.locals.items }
         ensures locals { self.new.locals.items ≡ hold_at self.old.locals.items at held }
         ensures at { self.new.at.items ≡ self.old.at.items }
-        ensures groups { self.new.groups.items ≡ self.old.groups.items }
+        ensures groups { self.new.groups ≡ self.old.groups }
         ensures trail { self.new.trail.items ≡ self.old.trail.items }
+        ensures group_trail { self.new.group_trail.items ≡ self.old.group_trail.items }
     {
         self.locals[at].held = held;
     }
@@ -163,17 +162,5 @@ impl Scope {
             }
             None => Ok(()),
         }
-    }
-
-    /// A group is known, with this permission.
-    pub fn know(&mut self, name: Name, perm: GroupPerm) -> Result<(), AllocError>
-        requires { name < length self.old.groups.items }
-        ensures context { OnOk result (context_of self.new ≡ with_known name perm (context_of self.old)) }
-        ensures table { length self.new.at.items ≡ length self.old.at.items }
-        ensures groups { length self.new.groups.items ≡ length self.old.groups.items }
-    {
-        self.known.push(name)?;
-        self.groups[name as usize] = Some(perm);
-        Ok(())
     }
 }

@@ -2,7 +2,7 @@
 ghost use Rattle.std.specs.Prelude.{◌≡◌};
 ghost use Rattle.ae_rules.specs.Context as context;
 
-use ae_rules::Held;
+use ae_rules::{GroupPerm, Held};
 use ae_tree::{Form, Name, Perm};
 
 /// A local: its name, its form and what is held of it. One that stays is a parameter that is never assigned.
@@ -21,11 +21,19 @@ pub struct Change {
     pub held: Held,
 }
 
-/// How many locals and changes there were at some point.
+/// The permission that a group had before, and none where it was not known.
+#[derive(Clone, Copy, Debug)]
+pub struct GroupChange {
+    pub name: Name,
+    pub before: Option<GroupPerm>,
+}
+
+/// How many locals, changes of what is held, and changes of groups there were at some point.
 #[derive(Clone, Copy, Debug)]
 pub struct Mark {
     pub locals: usize,
     pub changes: usize,
+    pub groups: usize,
 }
 
 /// What a new local of this form holds.

@@ -5,19 +5,19 @@ use ae_rules::Held;
 use std::alloc::{AllocError, Global};
 
 impl Scope {
-    ghost use Rattle.std.specs.Prelude.{◌≡◌, ℕ, ◌<◌, ◌≤◌, ◌-◌, length, take, drop, OnOk, IfOk};
+    ghost use Rattle.std.specs.Prelude.{◌≡◌, ℕ, ◌<◌, ◌≤◌, ◌-◌, [], length, take, drop, OnOk, IfOk};
     ghost use Rattle.ae_scope.specs.Slots.{hold_at, rewound, now_held, all_same, held_at, replayed};
     ghost use Rattle.ae_scope.specs.Scope.{Empty};
-    ghost use Rattle.ae_scope.specs.Grows.{Grows};
+    ghost use Rattle.ae_scope.specs.Grows.{Grows, Marks};
 
-    /// How many locals and changes there are.
+    /// How many locals, changes of what is held, and changes of groups there are.
     pub fn mark(&self) -> Mark
-        ensures locals { result.locals ≡ length self.now.locals.items }
-        ensures changes { result.changes ≡ length self.now.trail.items }
+        ensures { Marks self.now result }
     {
         Mark {
             locals: self.locals.len(),
             changes: self.trail.len(),
+            groups: self.group_trail.len(),
         }
     }
 
@@ -25,7 +25,8 @@ impl Scope {
     fn forget(&mut self)
         requires { 0 < length self.old.locals.items }
         ensures locals { self.new.locals.items ≡ take (length self.old.locals.items - 1) self.old.locals.items }
-        ensures groups { self.new.groups.items ≡ self.old.groups.items }
+        ensures groups { self.new.groups.perms.items ≡ self.old.groups.perms.items }
+        ensures group_trail { self.new.group_trail.items ≡ self.old.group_trail.items }
         ensures table { length self.new.at.items ≡ length self.old.at.items }
         ensures trail { self.new.trail.items ≡ self.old.trail.items }
     {
@@ -35,11 +36,12 @@ impl Scope {
         }
     }
 
-    /// A block ends: only the first of the locals stay.
+    /// Only the first of the locals stay.
     pub fn cut(&mut self, locals: usize)
         requires { locals ≤ length self.old.locals.items }
         ensures locals { self.new.locals.items ≡ take locals self.old.locals.items }
-        ensures groups { self.new.groups.items ≡ self.old.groups.items }
+        ensures groups { self.new.groups.perms.items ≡ self.old.groups.perms.items }
+        ensures group_trail { self.new.group_trail.items ≡ self.old.group_trail.items }
         ensures table { length self.new.at.items ≡ length self.old.at.items }
         ensures trail { self.new.trail.items ≡ self.old.trail.items }
     {
@@ -53,7 +55,8 @@ impl Scope {
         requires { 0 < length self.old.trail.items }
         ensures locals { (n : ℕ) → n < length self.old.trail.items → rewound (drop n self.new.trail.items)
             self.new.locals.items ≡ rewound (drop n self.old.trail.items) self.old.locals.items }
-        ensures groups { self.new.groups.items ≡ self.old.groups.items }
+        ensures groups { self.new.groups.perms.items ≡ self.old.groups.perms.items }
+        ensures group_trail { self.new.group_trail.items ≡ self.old.group_trail.items }
         ensures table { length self.new.at.items ≡ length self.old.at.items }
         ensures trail { self.new.trail.items ≡ take (length self.old.trail.items - 1) self.old.trail.items }
     {
@@ -71,7 +74,8 @@ impl Scope {
     pub fn rewind(&mut self, changes: usize)
         requires { changes ≤ length self.old.trail.items }
         ensures locals { self.new.locals.items ≡ rewound (drop changes self.old.trail.items) self.old.locals.items }
-        ensures groups { self.new.groups.items ≡ self.old.groups.items }
+        ensures groups { self.new.groups.perms.items ≡ self.old.groups.perms.items }
+        ensures group_trail { self.new.group_trail.items ≡ self.old.group_trail.items }
         ensures table { length self.new.at.items ≡ length self.old.at.items }
         ensures trail { self.new.trail.items ≡ take changes self.old.trail.items }
     {
@@ -125,7 +129,8 @@ impl Scope {
             self.old.locals.items) self.new.locals.items) }
         ensures locals { OnOk result (self.new.locals.items ≡ rewound (drop changes self.old.trail.items)
             self.old.locals.items) }
-        ensures groups { OnOk result (self.new.groups.items ≡ self.old.groups.items) }
+        ensures groups { OnOk result (self.new.groups.perms.items ≡ self.old.groups.perms.items) }
+        ensures group_trail { OnOk result (self.new.group_trail.items ≡ self.old.group_trail.items) }
         ensures table { OnOk result (length self.new.at.items ≡ length self.old.at.items) }
         ensures trail { OnOk result (self.new.trail.items ≡ take changes self.old.trail.items) }
     {
@@ -164,16 +169,17 @@ impl Scope {
 
     // The last group that became known is forgotten.
     fn forget_group(&mut self)
+        requires { self.old.group_trail.items ≡ [] }
         ensures known { self.new.known.items ≡ take (length self.old.known.items - 1) self.old.known.items }
         ensures locals { self.new.locals.items ≡ self.old.locals.items }
         ensures trail { self.new.trail.items ≡ self.old.trail.items }
         ensures table { length self.new.at.items ≡ length self.old.at.items }
-        ensures groups { length self.new.groups.items ≡ length self.old.groups.items }
+        ensures group_trail { self.new.group_trail.items ≡ self.old.group_trail.items }
     {
         match self.known.pop() {
             Some(name) => {
-                if (name as usize) < self.groups.len() {
-                    self.groups[name as usize] = None;
+                if (name as usize) < self.groups.perms.len() {
+                    self.groups.set(name, None);
                 }
             }
             None => {}
@@ -182,10 +188,11 @@ impl Scope {
 
     /// A method ends: nothing is known any more. Costs what was known and what was changed.
     pub fn clear(&mut self)
-        requires { length self.old.groups.items ≡ length self.old.at.items }
+        requires { length self.old.groups.perms.items ≡ length self.old.at.items }
         ensures { Empty (length self.old.at.items) self.new }
     {
         self.trail.clear();
+        self.group_trail.clear();
         self.cut(0);
         while !self.known.is_empty() {
             self.forget_group();

@@ -5,13 +5,12 @@ use Rattle.std.specs.Prelude.{option_map, slice_get}
 use Rattle.std.proofs.lemmas.Bool.{eq-eqb, eqb-true}
 use Rattle.ae_tree.specs.declared.tree.NameAt.{NameAt}
 use Rattle.ae_tree.specs.declared.tree.StmtAt.{StmtAt}
-use Rattle.ae_rules.specs.BuiltUses.{statement_at}
 use Rattle.ae_tree.specs.Plain.{Action, Locks, Lines, End, Next, Definition, Code}
 use Rattle.ae_rules.specs.Verdict.{Verdict, Holds, Broken, given, judged}
 use Rattle.ae_rules.specs.Lookups.{method_at}
 use Rattle.ae_rules.specs.Context.{Context}
 use Rattle.ae_rules.specs.Statements.{while_locked, judge_statement}
-use Rattle.ae_rules.specs.Uses.{contexts, context_at}
+use Rattle.ae_rules.specs.Uses.{statement_at, contexts, context_at}
 use Rattle.ae_rules.specs.Blocks.{Scene, block_at, Opened, scene_numbered, all_scenes, scene}
 use Rattle.ae_rules.specs.Instances.{Instance}
 use Rattle.ae_semantics.specs.Runs.{Where, locking, whole_block}

@@ -4,12 +4,11 @@ use Rattle.std.specs.Prelude.{◌≡◌, ℕ, false, Option, None, Some, option_
 use Rattle.ae_tree.specs.declared.tree.NameAt.{NameAt}
 use Rattle.ae_tree.specs.declared.tree.StmtAt.{StmtAt}
 use Rattle.ae_tree.specs.WellShaped.{WellShaped}
-use Rattle.ae_rules.specs.BuiltUses.{statement_at}
 use Rattle.ae_tree.specs.Plain.{Action, Locks, Lines, Definition, Code}
 use Rattle.ae_rules.specs.Verdict.{given}
 use Rattle.ae_rules.specs.Lookups.{method_at}
 use Rattle.ae_rules.specs.Context.{Context}
-use Rattle.ae_rules.specs.Uses.{context_at}
+use Rattle.ae_rules.specs.Uses.{statement_at, context_at}
 use Rattle.ae_rules.specs.Blocks.{Scene, scene}
 use Rattle.ae_rules.specs.Instances.{Instance}
 use Rattle.ae_semantics.specs.Places.{State}

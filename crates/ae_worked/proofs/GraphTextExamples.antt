@@ -3,7 +3,7 @@ use Rattle.std.proofs.Common.{rules, append_assoc, append-nil}
 use Rattle.std.specs.Prelude.{◌≡◌, refl, ◌++◌, ℕ, List, [], ◌∷◌, codes}
 use Rattle.std.specs.Fmt.{decimal}
 use Rattle.ae_graph.specs.GraphText.{block_text}
-use Rattle.ae_graph.specs.Graphs.{graph_text}
+use Rattle.ae_graph.specs.GraphText.{graph_text}
 use Rattle.ae_worked.proofs.UseExamples.{blocks_of_a_choice_and_a_loop, lent_twice_then_changed, method_of_a_class}
 use Rattle.ae_worked.proofs.GroupUseExamples.{four_in_a_group}
 

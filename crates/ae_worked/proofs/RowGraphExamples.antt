@@ -1,7 +1,7 @@
 -- The texts of the graphs that the page on the language shows.
 use Rattle.std.specs.Prelude.{◌≡◌, refl, ◌++◌, [], ◌∷◌, codes}
 use Rattle.ae_graph.specs.GraphText.{block_text}
-use Rattle.ae_graph.specs.Graphs.{graph_text}
+use Rattle.ae_graph.specs.GraphText.{graph_text}
 use Rattle.ae_worked.proofs.GraphTextExamples.{texts}
 use Rattle.ae_worked.proofs.PageExamples.{calls_that_share_a_group, readers_and_a_writer}
 use Rattle.ae_worked.proofs.UseExamples.{two_locals}

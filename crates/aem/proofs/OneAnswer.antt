@@ -81,7 +81,7 @@ same_program : Laws → (command : Command) (p : Code) (r s : Rule) (at spot : S
 same_program laws command p r s at spot (inl a) (inl b) = (a.0 ∙ sym b.0, a.1 ∙ sym b.1)
 same_program laws command p r s at spot (inl a) (inr b) = absurd (a.2 b.0)
 same_program laws command p r s at spot (inr a) (inl b) = absurd (b.2 a.0)
-same_program laws command p r s at spot (inr a) (inr b) = laws.first p r s at spot a.1 b.1
+same_program laws command p r s at spot (inr a) (inr b) = laws.first p r s at spot a.1.1 b.1.1
 
 two_programs : Laws → (command : Command) (text : List ℕ) (r s : Rule) (at spot : Spot) (p q : Code) → IsSource text p
     → IsSource text q → IsRejected command r at p → IsRejected command s spot q → Same r at s spot
@@ -105,7 +105,7 @@ two_causes laws command text r s at spot (Rejected p a x) (Rejected q b y)
 program_unbroken : Laws → (command : Command) (p : Code) (r : Rule) (at : Spot) → IsOfMode command p → Accepts p
     → IsRejected command r at p → ⊥
 program_unbroken laws command p r at built a (inl b) = b.2 built
-program_unbroken laws command p r at built a (inr b) = laws.never_both p r at a b.1
+program_unbroken laws command p r at built a (inr b) = laws.never_both p r at a b.1.1
 
 -- the text of an accepted program has no cause of a refusal
 uncaused : Laws → (command : Command) (text : List ℕ) (p : Code) (r : Rule) (at : Spot) → IsSource text p

@@ -1,5 +1,4 @@
 pub mod Forms
-pub mod Names
 pub mod Words
 pub mod Small
 pub mod Texts

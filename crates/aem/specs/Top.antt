@@ -8,11 +8,13 @@ use Rattle.ae_text.specs.declared.refusal.Rule.TheVariants.{TooLong, NotBuilt}
 use Rattle.ae_text.specs.Whole.{most}
 use Rattle.ae_text.specs.declared.refusal.Deny.{Deny}
 use Rattle.ae_text.specs.declared.refusal.Deny.TheVariants as d
-use Rattle.ae_tree.specs.Plain.{Code, Definition, Lines}
+use Rattle.ae_tree.specs.Plain.{Code}
 use Rattle.ae_tree.specs.Refused.{IsRefused}
 use Rattle.ae_tree.specs.Built.{Built}
-use Rattle.ae_check.specs.Groupless.{UsesNoGroups}
+use Rattle.ae_rules.specs.OfLanguage.{IsOfLanguage}
 use Rattle.ae_rules.specs.Judges.{Accepts, FirstBroken}
+use Rattle.ae_code.specs.declared.checked.Checked.{Checked}
+use Rattle.ae_tree.specs.Shown.{code as plain}
 use Rattle.ae_meaning.specs.declared.report.RunReport.{RunReport}
 use Rattle.ae_semantics.specs.Means.{seq, bytes}
 use Rattle.ae_cases.specs.Laws.{as_whole}
@@ -21,7 +23,7 @@ use Rattle.aem.specs.declared.answer.What.TheVariants as w
 use Rattle.ae_text.specs.declared.token.Token.{Token}
 use Rattle.ae_text.specs.Tokens.{Lexes, LexFault, place, first_spot}
 use Rattle.aem.specs.Small.{IsSource}
-use Rattle.ae_graph.specs.Graphs.{graph_text}
+use Rattle.ae_graph.specs.GraphText.{graph_text}
 use Rattle.aem.specs.declared.answer.Command.{Command}
 use Rattle.aem.specs.declared.answer.Command.TheVariants.{Check, Graph, Run}
 use Rattle.aem.specs.declared.answer.UsageKind.{UsageKind}
@@ -39,16 +41,20 @@ IsFaultAt rule at text = (offset : ℕ) × LexFault text rule offset × (at ≡ 
 abbrev pub IsTokenAt : Rule → Spot → List ℕ → Type 0
 IsTokenAt rule at text = (tokens : List Token) × Lexes text tokens × IsRefused tokens rule at
 
--- the program has only forms that this mode has today
+-- the program has only forms that this mode has today: `check` has all
 abbrev pub IsOfMode : Command → Code → Type 0
-IsOfMode Check program = UsesNoGroups program
+IsOfMode Check program = Unit {0}
 IsOfMode Graph program = Built program
 IsOfMode Run program = Built program
+
+-- this rule of the language is the first that the program breaks
+abbrev pub IsBrokenFirst : Rule → Spot → Code → Type 0
+IsBrokenFirst rule at program = IsOfLanguage rule × FirstBroken program rule at
 
 -- the program has a form that the mode does not have yet, or it is not accepted, and this is the rule that it breaks first
 abbrev pub IsRejected : Command → Rule → Spot → Code → Type 0
 IsRejected command rule at program = ((rule ≡ NotBuilt) × (at ≡ first_spot) × (IsOfMode command program → ⊥))
-    ⊎ (IsOfMode command program × FirstBroken program rule at)
+    ⊎ (IsOfMode command program × IsBrokenFirst rule at program)
 
 -- why a rule is the first that a whole text breaks, and where: it has no tokens, they are refused, or its program is
 pub data IsBroken (command : Command) (rule : Rule) (at : Spot) (text : List ℕ) : Type 0 where
@@ -60,10 +66,6 @@ pub data IsBroken (command : Command) (rule : Rule) (at : Spot) (text : List ℕ
 pub data IsFirstBroken (c : Command) (rule : Rule) (at : Spot) (taken : List ℕ) (left : Option (List ℕ)) : Type 0 where
   Long : rule ≡ TooLong → at ≡ first_spot → length taken ≡ most + 1 → IsFirstBroken c rule at taken left
   Whole : IsWholeText taken left → IsBroken c rule at taken → IsFirstBroken c rule at taken left
-
--- the body of the one method
-abbrev pub HasBody : Code → Lines → Type 0
-HasBody program b = (m : Definition) × (program.methods ≡ m ∷ []) × (m.body ≡ b)
 
 -- the answer where a layer refuses, or wants memory
 abbrev pub denial : Deny → What
@@ -96,11 +98,11 @@ abbrev pub IsDoneForSource : Command → List ℕ → What → Type 0
 IsDoneForSource command text what = (program : Code) × IsSource text program × IsOfMode command program
     × Accepts program × IsDoneFor command program what
 
--- what is found of a program: it is accepted, or why it is refused
-abbrev pub IsFound : Command → Code → Result (Unit {0}) Deny → Type 0
-IsFound command program (Ok _) = IsOfMode command program × Accepts program
-IsFound command program (Err (d.Refused r)) = IsRejected command r.rule r.at program
-IsFound command program (Err d.Memory) = Unit {0}
+-- what is found of a program: it is accepted, or which rule it breaks first
+abbrev pub IsFound : Code → Result Checked Deny → Type 0
+IsFound program (Ok k) = Accepts program × (plain k.program ≡ program)
+IsFound program (Err (d.Refused r)) = IsBrokenFirst r.rule r.at program
+IsFound program (Err d.Memory) = Unit {0}
 
 -- why this is the answer for a program: it is refused, or accepted and comes to this
 abbrev pub IsDecided : Command → Code → What → Type 0

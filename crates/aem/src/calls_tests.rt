@@ -1,19 +1,22 @@
 // Calls that no mode makes, the graph of a block, and the order in which it is run, on programs that were read.
-ghost use Rattle.std.specs.Prelude.{◌≡◌, true, IfOk};
-ghost use Rattle.ae_tree.specs.Shown.{code};
+ghost use Rattle.std.specs.Prelude.{IfOk};
+ghost use Rattle.ae_tree.specs.Shown.{code as plain};
 ghost use Rattle.ae_tree.specs.Built.{Built};
 ghost use Rattle.ae_tree.specs.Limits.{Within};
-ghost use Rattle.ae_rules.specs.Judgement.{Accepted};
+ghost use Rattle.ae_tree.specs.WellShaped.{WellShaped};
+ghost use Rattle.aem.specs.Small.{HasSource};
 
 use crate::built::is_built;
-use crate::modes::body_of;
-use crate::names::first_broken;
+use crate::modes::judge;
 use crate::top::{aeminium, read_program};
-use ae_graph::{BlockGraph, footprint};
-use ae_meaning::{Ending, Meant, evaluate};
-use ae_rules::{Footprint, Mode, Resource, Use};
+use ae_bodies::method_uses;
+use ae_code::Checked;
+use ae_graph::BlockGraph;
+use ae_meaning::{Ending, evaluate};
+use ae_rules::{Mode, Resource, Use};
 use ae_text::{Deny, Edge, Gate, Items, MemSink, MemSource, Memory, Spot};
-use ae_tree::{Form, Kind, Name, Perm, Program, StmtAt, form_of};
+use ae_tree::{Form, Kind, Name, Perm, Program, derived_programs_are_well_shaped, form_of};
+use ae_uses::OpenedBlock;
 use std::alloc::{AllocError, Global};
 use std::sync::atomic::{AtomicBool, AtomicU32, AtomicUsize, Ordering};
 use std::test::Fail;
@@ -22,12 +25,25 @@ const MOST: usize = 1_048_576;
 
 // The program that a text is.
 fn program_of(alloc: Global, text: &[u8]) -> Result<Program, Deny>
-    ensures { IfOk result (λ p. Within (code p)) }
+    ensures { IfOk result (λ p. HasSource (plain p)) }
 {
     if text.len() > MOST {
         return Err(Deny::Memory);
     }
     read_program(alloc, text)
+}
+
+// The accepted program that a text is.
+fn accepted_of(alloc: Global, text: &[u8]) -> Result<Checked, Deny>
+    ensures shaped { IfOk result (λ k. WellShaped (plain k.program)) }
+    ensures within { IfOk result (λ k. Within (plain k.program)) }
+{
+    derived_programs_are_well_shaped();
+    let program = match program_of(alloc, text) {
+        Ok(program) => program,
+        Err(deny) => return Err(deny),
+    };
+    judge(alloc, program)
 }
 
 // ---- forms of types
@@ -245,54 +261,41 @@ const EDGES: [Edge; 7] = [
     Edge { from: 2, to: 4 },
 ];
 
-// Whether a program breaks no rule.
-fn is_accepted(alloc: Global, program: &Program) -> Result<bool, Memory>
-    requires { Built (code program.now) }
-    ensures { IfOk result (λ held. held ≡ true → Accepted (code program.now)) }
+// What the statements of `main` use.
+fn uses_of(alloc: Global, code: &Checked) -> Result<Items<OpenedBlock>, Memory>
+    requires built { Built (plain code.now.program) }
 {
-    match first_broken(alloc, body_of(program)) {
-        Ok(None) => Ok(true),
-        Ok(Some(_)) => Ok(false),
-        Err(_) => Err(Memory),
-    }
-}
-
-// What a statement of `main` uses.
-fn uses_of(alloc: Global, program: &Program, stmt: u32) -> Result<Footprint, Memory>
-    requires built { Built (code program.now) }
-    requires accepted { Accepted (code program.now) }
-{
-    if stmt as usize >= body_of(program).len() {
+    let program = code.program();
+    let Some(method) = program.methods.get(0) else {
         return Err(Memory);
-    }
-    let at = StmtAt {
-        method: 0,
-        block: 0,
-        stmt,
     };
-    footprint(alloc, program, &at)
+    method_uses(alloc, code, method)
 }
 
 // The graph of the body of `main`.
-fn graph_of(alloc: Global, program: &Program) -> Result<BlockGraph, Memory>
-    requires built { Built (code program.now) }
-    requires accepted { Accepted (code program.now) }
-    requires within { Within (code program.now) }
+fn graph_of(alloc: Global, code: &Checked) -> Result<BlockGraph, Memory>
+    requires built { Built (plain code.now.program) }
+    requires shaped { WellShaped (plain code.now.program) }
+    requires within { Within (plain code.now.program) }
 {
-    BlockGraph::of(alloc, program, 0, 0)
+    BlockGraph::of(alloc, code, 0, 0)
 }
 
 // Each statement has its uses, and the graph is theirs.
 #[test]
 fn uses_and_graph(rt: HostRuntime) -> Result<(), Fail> {
     let alloc = rt.alloc();
-    let program = program_of(alloc, USES.as_bytes())?;
-    assert!(rt; is_built(&program));
-    let accepted = is_accepted(alloc, &program)?;
-    assert!(rt; accepted);
-    let graph = graph_of(alloc, &program)?;
+    let code = accepted_of(alloc, USES.as_bytes())?;
+    assert!(rt; is_built(code.program()));
+    let graph = graph_of(alloc, &code)?;
+    let blocks = uses_of(alloc, &code)?;
+    assert_eq!(rt; blocks.len(), 1);
+    let body = &blocks.as_slice()[0];
+    assert_eq!(rt; body.no, 0);
+    assert_eq!(rt; body.uses.len(), 6);
     for row in &ROWS {
-        let footprint = uses_of(alloc, &program, row.stmt)?;
+        assert!(rt; (row.stmt as usize) < body.uses.len());
+        let footprint = &body.uses.as_slice()[row.stmt as usize];
         assert_eq!(rt; footprint.uses.as_slice(), row.uses, "uses of {}", row.stmt);
         assert!(rt; (row.stmt as usize) < graph.len());
         assert_eq!(rt; graph.preds(row.stmt), row.preds, "before {}", row.stmt);
@@ -365,25 +368,14 @@ const RUNS: [Run; 7] = [
 
 const FUEL: u32 = 100_000;
 
-// The meaning of a program that breaks no rule.
-fn meant_by(alloc: Global, program: &Program) -> Result<Meant, Memory>
-    requires { Built (code program.now) }
-{
-    match first_broken(alloc, body_of(program)) {
-        Ok(None) => evaluate(alloc, program, &[], FUEL),
-        Ok(Some(_)) => Err(Memory),
-        Err(_) => Err(Memory),
-    }
-}
-
 // Each program has its ending, and printed this up to there.
 #[test]
 fn meanings(rt: HostRuntime) -> Result<(), Fail> {
     let alloc = rt.alloc();
     for run in &RUNS {
-        let program = program_of(alloc, run.source.as_bytes())?;
-        assert!(rt; is_built(&program));
-        let meant = meant_by(alloc, &program)?;
+        let code = accepted_of(alloc, run.source.as_bytes())?;
+        assert!(rt; is_built(code.program()));
+        let meant = evaluate(alloc, &code, &[], FUEL)?;
         assert_eq!(rt; meant.ending, Some(run.ending), "{}", run.source);
         assert_eq!(rt; meant.out.as_slice(), run.out.as_bytes(), "{}", run.source);
     }

@@ -8,7 +8,6 @@ mod calls_tests;
 #[cfg(test)]
 mod layout_tests;
 mod modes;
-mod names;
 #[cfg(test)]
 mod tests;
 mod texts;

@@ -67,8 +67,8 @@ fn answer_to<G: Gate>(
     };
     match command {
         Command::Check => checked(alloc, program),
-        Command::Graph => drawn(alloc, &program),
-        Command::Run => ran(rt, alloc, &program, gate),
+        Command::Graph => drawn(alloc, program),
+        Command::Run => ran(rt, alloc, program, gate),
     }
 }
 

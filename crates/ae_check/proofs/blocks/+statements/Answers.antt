@@ -1,22 +1,27 @@
-use Rattle.std.proofs.Common.{◌≡◌, ℕ, Err, length, arith, take, sym, ap, subst, ◌∙◌}
-use Rattle.ae_tree.specs.Plain.{Lines}
-use Rattle.ae_tree.specs.Shown.{definition, action, braced, lines_from, lines-out}
+use Rattle.std.proofs.Common.{◌≡◌, ℕ, List, Err, length, rules, sym, ap, subst, ◌∙◌}
+use Rattle.std.specs.Prelude.{⊤}
+use Rattle.ae_tree.specs.declared.tree.NameAt.{NameAt}
+use Rattle.ae_tree.specs.Plain.{Action, Lines, Splits, Locks}
+use Rattle.ae_tree.specs.Shown.{definition, action, action-Split, action-Atomic, action-Share, braced}
+use Rattle.ae_tree.specs.Shown.{lines_from, lines-out}
 use Rattle.ae_rules.specs.Answers.{Leaves}
-use Rattle.ae_rules.specs.Verdict.{Verdict}
+use Rattle.ae_rules.specs.Verdict.{Verdict, ◌>>◌}
+use Rattle.ae_rules.specs.Groups.{may_split_all, may_lock}
 use Rattle.ae_rules.specs.Context.{Context}
-use Rattle.ae_rules.specs.Statements.{judge_statement, judge_lines}
+use Rattle.ae_rules.specs.Statements.{judge_statement, judge_lines, judge_share, while_split, while_locked}
 use Rattle.ae_judge.specs.Tabled.{code_of}
 use Rattle.ae_scope.specs.Scope.{context_of}
-use Rattle.ae_check.specs.Blocks.{Branched, all_fit, meets, choice_verdict}
+use Rattle.ae_check.specs.Ready.{IsReady, LinesNamed}
+use Rattle.ae_check.specs.Blocks.{Began, Branched, inside_verdict, keeps_held, choice_verdict}
 use Rattle.ae_check.proofs.from_scope.GrowLemmas.{grows_same}
 use Rattle.ae_check.proofs.from_scope.ReplayLemmas.{grows_then}
-use Rattle.ae_check.proofs.from_scope.StackLemmas.{grown_longer, grows_cut, ended}
-use Rattle.ae_check.proofs.from_scope.JoinLemmas.{Alike, back_to}
-use Rattle.ae_check.proofs.BranchLemmas.{blocks_decide}
-use Rattle.ae_check.proofs.BranchLemmas.{lone_block_decides, loop_block_decides, answers_the_same, failure_is_handed_on}
-use Rattle.ae_check.proofs.BranchLemmas.{second_block_fails, both_blocks_hold, branched_so}
-use Rattle.ae_check.proofs.FitLemmas.{next_lines_fit}
-use Rattle.ae_check.proofs.BlockLemmas.{next_line, block_ends_so, body_is_compared, as_long_after_a_cut}
+use Rattle.ae_check.proofs.from_scope.JoinLemmas.{Alike, back_to, same_scope}
+use Rattle.ae_check.proofs.NamedLemmas.{this_line_named, next_lines_named, both_blocks_named}
+use Rattle.ae_check.proofs.BlockLemmas.{next_line, group_is_left, inside_ends, ended_so, ended_grows, still_marked}
+use Rattle.ae_check.proofs.BlockLemmas.{marked_locals, marked_changes, marked_groups, entered, split_begins}
+use Rattle.ae_check.proofs.BlockLemmas.{atomic_begins, body_is_compared}
+use Rattle.ae_check.proofs.BranchLemmas.{answers_the_same, failure_is_handed_on, second_block_fails}
+use Rattle.ae_check.proofs.BranchLemmas.{blocks_decide, both_blocks_hold, branched_so}
 use Rattle.ae_check.proofs.blocks.+statements.Goals as goal
 
 pub judge_lines-loop-stmt-init : goal.judge_lines-loop-stmt-init
@@ -26,67 +31,275 @@ judge_lines-loop-stmt-init t c =
     record {
       rest = ap (λ (b : Lines). judge_lines (code_of c.args.tabled.now) (definition c.args.method.now) b
           (context_of c.args.scope.now)) o;
-      fit = ap (all_fit (length c.args.tabled.now.program.now.names)) (sym o) ∙ c.requires.fits;
+      named = subst (LinesNamed (length c.args.tabled.now.program.now.names)) o c.requires.named;
+      ready = c.requires.ready;
       grows = grows_same c.args.scope.now;
     }
 
 pub judge_lines-loop-stmt-preserved : goal.judge_lines-loop-stmt-preserved
 judge_lines-loop-stmt-preserved t c =
+    let n = length c.args.tabled.now.program.now.names in
     let xs = c.as_slice-stmt-items.result.now in
+    let i = c.loop-stmt.stmt-index in
+    let x = c.stmt-item.result in
     record {
-      rest = next_line (code_of c.args.tabled.now) (definition c.args.method.now) xs c.loop-stmt.stmt-index
-          c.stmt-item.result (braced c.args.block.now).lines (context_of c.args.scope.now)
-          (context_of c.loop-stmt.scope) (context_of c.judge_stmt.new.scope) c.loop-stmt-test.true c.stmt-item.is
-          c.loop-stmt.invariant.rest c.in_ok-judge_stmt.ensures.answer;
-      fit = next_lines_fit (length c.args.tabled.now.program.now.names) xs c.loop-stmt.stmt-index c.stmt-item.result
-          c.loop-stmt-test.true c.stmt-item.is c.loop-stmt.invariant.fit;
+      rest = next_line (code_of c.args.tabled.now) (definition c.args.method.now) xs i x
+          (braced c.args.block.now).lines (context_of c.args.scope.now) (context_of c.loop-stmt.scope)
+          (context_of c.judge_stmt.new.scope) c.loop-stmt-test.true c.stmt-item.is c.loop-stmt.invariant.rest
+          c.in_ok-judge_stmt.ensures.answer;
+      named = next_lines_named n xs i x c.loop-stmt-test.true c.stmt-item.is c.loop-stmt.invariant.named;
+      ready = c.requires.stays.statement x.at (action x.kind) (context_of c.loop-stmt.scope)
+          (context_of c.judge_stmt.new.scope)
+          (this_line_named n xs i x c.loop-stmt-test.true c.stmt-item.is c.loop-stmt.invariant.named)
+          c.loop-stmt.invariant.ready c.in_ok-judge_stmt.ensures.answer;
       grows = grows_then c.args.scope.now c.loop-stmt.scope c.judge_stmt.new.scope c.loop-stmt.invariant.grows
           c.in_ok-judge_stmt.ensures.grows;
     }
 
-pub judge_block-cut-requires : goal.judge_block-cut-requires
-judge_block-cut-requires t c =
-    omega (
-      arith,
-      c.mark-mark.ensures.locals,
-      grown_longer c.args.scope.now c.judge_lines.new.scope
-          c.in_ok-judge_lines.ensures.grows,
-    )
+-- ---- a block
 
-pub judge_block-returns-clause-answer : goal.judge_block-returns-clause-answer
-judge_block-returns-clause-answer t c =
-    let s = c.args.scope.now in
+pub judge_inside-returns-in_err-groups_stay-clause-answer : goal.judge_inside-returns-in_err-groups_stay-clause-answer
+judge_inside-returns-in_err-groups_stay-clause-answer t c =
+    let p = code_of c.args.tabled.now in
+    let m = definition c.args.method.now in
     let d = c.judge_lines.new.scope in
-    let u = c.cut.new.self in
-    block_ends_so (code_of c.args.tabled.now) (definition c.args.method.now)
-    (length c.args.tabled.now.program.now.names) (braced c.args.block.now).lines s d u c.requires.fits
-    c.in_ok-judge_lines.ensures.answer
-    (ended s d u c.in_ok-judge_lines.ensures.grows
-    (c.cut.ensures.locals ∙ ap (λ (n : ℕ). take n d.locals.items) c.mark-mark.ensures.locals) c.cut.ensures.groups)
+    let b = (braced c.args.block.now).lines in
+    let e = c.in_err-groups_stay.field-0.0 in
+    λ s began. failure_is_handed_on (inside_verdict p m b (context_of s) (context_of c.args.scope.now)) (context_of
+    d) _ e
+    c.from_residual-in_err-groups_stay.ensures.1
+    (group_is_left p m b s c.args.scope.now d c.args.mark (context_of d) e c.requires.stays began
+    c.in_ok-judge_lines.ensures.answer c.in_ok-judge_lines.ensures.grows c.in_err-groups_stay.ensures)
 
-pub judge_block-returns-clause-grows : goal.judge_block-returns-clause-grows
-judge_block-returns-clause-grows t c =
-    let d = c.judge_lines.new.scope in
-    grows_cut c.args.scope.now d c.cut.new.self c.in_ok-judge_lines.ensures.grows
-    (c.cut.ensures.locals ∙ ap (λ (n : ℕ). take n d.locals.items) c.mark-mark.ensures.locals) c.cut.ensures.groups
-    c.cut.ensures.trail c.cut.ensures.table
+pub judge_inside-end_block-requires-clause-locals : goal.judge_inside-end_block-requires-clause-locals
+judge_inside-end_block-requires-clause-locals t c =
+    (still_marked c.args.scope.now c.judge_lines.new.scope c.args.mark.locals c.args.mark.changes c.args.mark.groups
+    c.in_ok-judge_lines.ensures.grows c.requires.locals c.requires.changes c.requires.groups).0
 
-pub judge_block-returns-clause-length : goal.judge_block-returns-clause-length
-judge_block-returns-clause-length t c =
-    let d = c.judge_lines.new.scope in
-    as_long_after_a_cut c.args.scope.now d c.cut.new.self c.in_ok-judge_lines.ensures.grows
-    (c.cut.ensures.locals ∙ ap (λ (n : ℕ). take n d.locals.items) c.mark-mark.ensures.locals)
+pub judge_inside-returns-clause-answer : goal.judge_inside-returns-clause-answer
+judge_inside-returns-clause-answer t c =
+    let p = code_of c.args.tabled.now in
+    let m = definition c.args.method.now in
+    λ s began. inside_ends p m (braced c.args.block.now).lines s c.args.scope.now c.judge_lines.new.scope
+    c.end_block.new.self c.args.mark c.requires.stays began c.in_ok-judge_lines.ensures.answer
+    c.in_ok-judge_lines.ensures.grows c.in_ok-groups_stay.ensures c.end_block.ensures
+
+pub judge_inside-returns-clause-ended : goal.judge_inside-returns-clause-ended
+judge_inside-returns-clause-ended t c =
+    λ s began. ended_so (code_of c.args.tabled.now) s c.args.scope.now c.judge_lines.new.scope c.end_block.new.self
+    c.args.mark began c.in_ok-judge_lines.ensures.grows c.end_block.ensures
 
 pub judge_body-returns-clause-answer : goal.judge_body-returns-clause-answer
 judge_body-returns-clause-answer t c =
-    let u = c.judge_block.new.scope in
     let p = code_of c.args.tabled.now in
+    let m = definition c.args.method.now in
+    let u = c.judge_block.new.scope in
     subst (λ (v : Verdict Context). Leaves v (context_of c.meet.new.scope) c.meet.result)
-    (ap (λ (n : ℕ). meets p n u c.args.rule c.args.at) c.mark-mark.ensures.changes
-    ∙ sym (body_is_compared p (definition c.args.method.now) (braced c.args.block.now).lines c.args.rule c.args.at
-    c.args.scope.now u c.in_ok-judge_block.ensures.answer c.in_ok-judge_block.ensures.grows
-    c.in_ok-judge_block.ensures.length))
+    (ap (λ (n : ℕ). keeps_held p n u c.args.rule c.args.at) c.mark-mark.ensures.changes
+    ∙ sym (body_is_compared p m (braced c.args.block.now).lines c.args.rule c.args.at c.args.scope.now u
+    c.in_ok-judge_block.ensures.answer c.in_ok-judge_block.ensures.ended))
     c.meet.ensures.answer
+
+-- ---- choices and loops
+
+pub judge_branch-judge_body-requires : goal.judge_branch-judge_body-requires
+judge_branch-judge_body-requires t c =
+    (search rules, (c.requires.table, (c.requires.stays, (c.requires.ready, c.requires.named))))
+
+pub judge_loop-judge_body-requires : goal.judge_loop-judge_body-requires
+judge_loop-judge_body-requires t c =
+    (search rules, (c.requires.table, (c.requires.stays, (c.requires.ready, c.requires.named))))
+
+-- ---- split and atomic blocks
+
+pub judge_split-judge_inside-requires : goal.judge_split-judge_inside-requires
+judge_split-judge_inside-requires t c =
+    let p = code_of c.args.tabled.now in
+    let s = c.args.scope.now in
+    let i = c.enter_split.new.self in
+    let gs = c.args.groups.now in
+    let grown = c.in_ok-enter_split.ensures.grows in
+    let e = entered (may_split_all (context_of s).group gs) (while_split gs (context_of s)) (context_of i)
+    c.in_ok-enter_split.ensures.answer in (
+      search rules,
+      (
+        grown.table ∙ c.requires.table,
+        (
+          c.requires.stays,
+          (
+            subst (IsReady p) (sym e.1)
+                (c.requires.stays.split gs (context_of s) c.requires.ready e.0),
+            (
+              c.requires.named,
+              (
+                marked_locals s i
+                    c.mark-mark.result c.mark-mark.ensures grown,
+                (
+                  marked_changes s i c.mark-mark.result c.mark-mark.ensures grown,
+                  marked_groups s i c.mark-mark.result c.mark-mark.ensures grown,
+                ),
+              ),
+            ),
+          ),
+        ),
+      ),
+    )
+
+pub judge_split-returns-clause-answer : goal.judge_split-returns-clause-answer
+judge_split-returns-clause-answer t c =
+    let p = code_of c.args.tabled.now in
+    let s = c.args.scope.now in
+    let i = c.enter_split.new.self in
+    let gs = c.args.groups.now in
+    let grown = c.in_ok-enter_split.ensures.grows in
+    let e = entered (may_split_all (context_of s).group gs) (while_split gs (context_of s)) (context_of i)
+    c.in_ok-enter_split.ensures.answer in
+    let began : Began p s c.mark-mark.result i =
+    split_begins p gs s i c.mark-mark.result c.mark-mark.ensures c.requires.ready grown e.1 in
+    let m = definition c.args.method.now in
+    let b = (braced c.args.block.now).lines in
+    λ at. answers_the_same (judge_statement p m at (Splits gs (braced c.args.block.now).no b) (context_of s))
+    (inside_verdict p m b (context_of s) (context_of i)) (context_of c.judge_inside.new.scope) c.judge_inside.result
+    (ap (λ (v : Verdict ⊤). v >> inside_verdict p m b (context_of s) (while_split gs (context_of s))) e.0
+    ∙ ap (inside_verdict p m b (context_of s)) (sym e.1))
+    (c.judge_inside.ensures.answer s began)
+
+pub judge_split-returns-clause-grows : goal.judge_split-returns-clause-grows
+judge_split-returns-clause-grows t c =
+    let p = code_of c.args.tabled.now in
+    let s = c.args.scope.now in
+    let i = c.enter_split.new.self in
+    let gs = c.args.groups.now in
+    let grown = c.in_ok-enter_split.ensures.grows in
+    let e = entered (may_split_all (context_of s).group gs) (while_split gs (context_of s)) (context_of i)
+    c.in_ok-enter_split.ensures.answer in
+    let began : Began p s c.mark-mark.result i =
+    split_begins p gs s i c.mark-mark.result c.mark-mark.ensures c.requires.ready grown e.1 in
+    ended_grows s c.judge_inside.new.scope c.judge_inside.result (c.judge_inside.ensures.ended s began)
+
+pub judge_atomic-judge_inside-requires : goal.judge_atomic-judge_inside-requires
+judge_atomic-judge_inside-requires t c =
+    let p = code_of c.args.tabled.now in
+    let s = c.args.scope.now in
+    let i = c.enter_atomic.new.self in
+    let gs = c.args.group in
+    let grown = c.in_ok-enter_atomic.ensures.grows in
+    let e = entered (may_lock (context_of s).group gs) (while_locked gs.name (context_of s)) (context_of i)
+    c.in_ok-enter_atomic.ensures.answer in (
+      search rules,
+      (
+        grown.table ∙ c.requires.table,
+        (
+          c.requires.stays,
+          (
+            subst (IsReady p) (sym e.1)
+                (c.requires.stays.lock gs (context_of s) c.requires.ready e.0),
+            (
+              c.requires.named,
+              (
+                marked_locals s i
+                    c.mark-mark.result c.mark-mark.ensures grown,
+                (
+                  marked_changes s i c.mark-mark.result c.mark-mark.ensures grown,
+                  marked_groups s i c.mark-mark.result c.mark-mark.ensures grown,
+                ),
+              ),
+            ),
+          ),
+        ),
+      ),
+    )
+
+pub judge_atomic-returns-clause-answer : goal.judge_atomic-returns-clause-answer
+judge_atomic-returns-clause-answer t c =
+    let p = code_of c.args.tabled.now in
+    let s = c.args.scope.now in
+    let i = c.enter_atomic.new.self in
+    let gs = c.args.group in
+    let grown = c.in_ok-enter_atomic.ensures.grows in
+    let e = entered (may_lock (context_of s).group gs) (while_locked gs.name (context_of s)) (context_of i)
+    c.in_ok-enter_atomic.ensures.answer in
+    let began : Began p s c.mark-mark.result i =
+    atomic_begins p gs.name s i c.mark-mark.result c.mark-mark.ensures c.requires.ready grown e.1 in
+    let m = definition c.args.method.now in
+    let b = (braced c.args.block.now).lines in
+    λ at. answers_the_same (judge_statement p m at (Locks gs (braced c.args.block.now).no b) (context_of s))
+    (inside_verdict p m b (context_of s) (context_of i)) (context_of c.judge_inside.new.scope) c.judge_inside.result
+    (ap (λ (v : Verdict ⊤). v >> inside_verdict p m b (context_of s) (while_locked gs.name (context_of s))) e.0
+    ∙ ap (inside_verdict p m b (context_of s)) (sym e.1))
+    (c.judge_inside.ensures.answer s began)
+
+pub judge_atomic-returns-clause-grows : goal.judge_atomic-returns-clause-grows
+judge_atomic-returns-clause-grows t c =
+    let p = code_of c.args.tabled.now in
+    let s = c.args.scope.now in
+    let i = c.enter_atomic.new.self in
+    let gs = c.args.group in
+    let grown = c.in_ok-enter_atomic.ensures.grows in
+    let e = entered (may_lock (context_of s).group gs) (while_locked gs.name (context_of s)) (context_of i)
+    c.in_ok-enter_atomic.ensures.answer in
+    let began : Began p s c.mark-mark.result i =
+    atomic_begins p gs.name s i c.mark-mark.result c.mark-mark.ensures c.requires.ready grown e.1 in
+    ended_grows s c.judge_inside.new.scope c.judge_inside.result (c.judge_inside.ensures.ended s began)
+
+-- ---- statements
+
+pub judge_stmt-returns-in-Split-clause-answer : goal.judge_stmt-returns-in-Split-clause-answer
+judge_stmt-returns-in-Split-clause-answer t c =
+    let p = code_of c.args.tabled.now in
+    let m = definition c.args.method.now in
+    let k = context_of c.args.scope.now in
+    let at = c.args.stmt.now.at in
+    answers_the_same (judge_statement p m at (action c.args.stmt.now.kind) k) _ (context_of
+    c.judge_split.new.scope) c.judge_split.result
+    (ap (λ (x : Action). judge_statement p m at x k) (ap action c.in-Split.is
+    ∙ action-Split c.in-Split.groups c.in-Split.block
+    ∙ ap (λ (gs : List NameAt). Splits gs (braced c.in-Split.block).no (braced c.in-Split.block).lines)
+    (sym c.as_slice-in-Split.ensures)))
+    (c.judge_split.ensures.answer at)
+
+pub judge_stmt-returns-in-Atomic-clause-answer : goal.judge_stmt-returns-in-Atomic-clause-answer
+judge_stmt-returns-in-Atomic-clause-answer t c =
+    let p = code_of c.args.tabled.now in
+    let m = definition c.args.method.now in
+    let k = context_of c.args.scope.now in
+    let at = c.args.stmt.now.at in
+    answers_the_same (judge_statement p m at (action c.args.stmt.now.kind) k) _ (context_of
+    c.judge_atomic.new.scope) c.judge_atomic.result
+    (ap (λ (x : Action). judge_statement p m at x k) (ap action c.in-Atomic.is
+    ∙ action-Atomic c.in-Atomic.group c.in-Atomic.block))
+    (c.judge_atomic.ensures.answer at)
+
+pub judge_stmt-returns-in-Share-clause-answer : goal.judge_stmt-returns-in-Share-clause-answer
+judge_stmt-returns-in-Share-clause-answer t c =
+    let p = code_of c.args.tabled.now in
+    let m = definition c.args.method.now in
+    let k = context_of c.args.scope.now in
+    let at = c.args.stmt.now.at in
+    answers_the_same (judge_statement p m at (action c.args.stmt.now.kind) k) (judge_share k c.in-Share.x
+    c.in-Share.group)
+    (context_of c.judge_share.new.scope) c.judge_share.result
+    (ap (λ (x : Action). judge_statement p m at x k) (ap action c.in-Share.is
+    ∙ action-Share c.in-Share.x c.in-Share.group))
+    c.judge_share.ensures.answer
+
+-- ---- choices with two branches
+
+pub judge_stmt-lines_are_named-requires : goal.judge_stmt-lines_are_named-requires
+judge_stmt-lines_are_named-requires t c =
+    (both_blocks_named (length c.args.tabled.now.program.now.names) c.args.stmt.now.kind c.in-If.expr c.in-If.then
+    c.in-Some.other c.in-If.otherwise c.in-If.is c.in-Some.is c.requires.named).0
+
+pub judge_stmt-context_is_ready-requires : goal.judge_stmt-context_is_ready-requires
+judge_stmt-context_is_ready-requires t c =
+    let s = c.args.scope.now in
+    let u = c.judge_block.new.scope in
+    let r = c.take_back.new.scope in
+    let taken = c.in_ok-first-in-Some.ensures in
+    let done = c.in_ok-judge_block-in-Some.ensures in
+    let a : Alike s r = back_to s u r c.mark-mark.result.changes c.mark-mark.ensures.changes done.ended.grows
+    done.ended.locals taken.locals taken.groups taken.table taken.trail done.ended.group_trail taken.group_trail in
+    subst (IsReady (code_of c.args.tabled.now)) (sym (same_scope s r a)) c.requires.ready
 
 pub judge_stmt-returns-in_err-judge_block-in-Some-2-clause-answer :
     goal.judge_stmt-returns-in_err-judge_block-in-Some-2-clause-answer
@@ -94,23 +307,24 @@ judge_stmt-returns-in_err-judge_block-in-Some-2-clause-answer t c =
     let p = code_of c.args.tabled.now in
     let m = definition c.args.method.now in
     let at = c.args.stmt.now.at in
+    let b = (braced c.in-If.then).lines in
+    let b' = (braced c.in-Some.other).lines in
+    let v = judge_statement p m at (action c.args.stmt.now.kind) (context_of c.args.scope.now) in
+    let decided : v ≡ choice_verdict p m b b' at (context_of c.args.scope.now) =
+    blocks_decide p m at (context_of c.args.scope.now) c.args.stmt.now.kind c.in-If.expr c.in-If.then c.in-Some.other
+    c.in-If.otherwise c.in-If.is c.in-Some.is c.in_ok-is_value-in-Some.ensures in
     let s = c.args.scope.now in
     let u = c.judge_block.new.scope in
     let r = c.take_back.new.scope in
+    let taken = c.in_ok-first-in-Some.ensures in
+    let done = c.in_ok-judge_block-in-Some.ensures in
+    let a : Alike s r = back_to s u r c.mark-mark.result.changes c.mark-mark.ensures.changes done.ended.grows
+    done.ended.locals taken.locals taken.groups taken.table taken.trail done.ended.group_trail taken.group_trail in
     let z = context_of c.judge_block-in-Some.new.scope in
     let e = c.in_err-judge_block-in-Some-2.field-0.0 in
-    let a : Alike s r = back_to s u r c.mark-mark.result.changes c.mark-mark.ensures.changes
-    c.in_ok-judge_block-in-Some.ensures.grows c.in_ok-judge_block-in-Some.ensures.length
-    c.in_ok-first-in-Some.ensures.locals c.in_ok-first-in-Some.ensures.groups
-    c.in_ok-first-in-Some.ensures.table c.in_ok-first-in-Some.ensures.trail in
-    failure_is_handed_on (judge_statement p m at (action c.args.stmt.now.kind) (context_of s)) z _ e
-    c.from_residual-in_err-judge_block-in-Some-2.ensures.1
-    (answers_the_same (judge_statement p m at (action c.args.stmt.now.kind) (context_of s))
-    (choice_verdict p m (braced c.in-If.then).lines (braced c.in-Some.other).lines at (context_of s)) z (Err e)
-    (blocks_decide p m at (context_of s) c.args.stmt.now.kind c.in-If.expr c.in-If.then c.in-Some.other
-    c.in-If.otherwise c.in-If.is c.in-Some.is c.in_ok-is_value-in-Some.ensures)
-    (second_block_fails p m (braced c.in-If.then).lines (braced c.in-Some.other).lines at s u r z e
-    c.in_ok-judge_block-in-Some.ensures.answer a c.in_err-judge_block-in-Some-2.ensures.answer))
+    failure_is_handed_on v z _ e c.from_residual-in_err-judge_block-in-Some-2.ensures.1
+    (answers_the_same v (choice_verdict p m b b' at (context_of s)) z (Err e) decided
+    (second_block_fails p m b b' at s u r z e done.answer a c.in_err-judge_block-in-Some-2.ensures.answer))
 
 pub judge_stmt-returns-in_ok-judge_block-in-Some-2-clause-answer :
     goal.judge_stmt-returns-in_ok-judge_block-in-Some-2-clause-answer
@@ -118,26 +332,26 @@ judge_stmt-returns-in_ok-judge_block-in-Some-2-clause-answer t c =
     let p = code_of c.args.tabled.now in
     let m = definition c.args.method.now in
     let at = c.args.stmt.now.at in
+    let b = (braced c.in-If.then).lines in
+    let b' = (braced c.in-Some.other).lines in
+    let v = judge_statement p m at (action c.args.stmt.now.kind) (context_of c.args.scope.now) in
+    let decided : v ≡ choice_verdict p m b b' at (context_of c.args.scope.now) =
+    blocks_decide p m at (context_of c.args.scope.now) c.args.stmt.now.kind c.in-If.expr c.in-If.then c.in-Some.other
+    c.in-If.otherwise c.in-If.is c.in-Some.is c.in_ok-is_value-in-Some.ensures in
     let s = c.args.scope.now in
     let u = c.judge_block.new.scope in
     let r = c.take_back.new.scope in
+    let taken = c.in_ok-first-in-Some.ensures in
+    let done = c.in_ok-judge_block-in-Some.ensures in
+    let a : Alike s r = back_to s u r c.mark-mark.result.changes c.mark-mark.ensures.changes done.ended.grows
+    done.ended.locals taken.locals taken.groups taken.table taken.trail done.ended.group_trail taken.group_trail in
     let w = c.judge_block-in-Some.new.scope in
-    let n = c.mark-mark.result.changes in
-    let a : Alike s r = back_to s u r n c.mark-mark.ensures.changes c.in_ok-judge_block-in-Some.ensures.grows
-    c.in_ok-judge_block-in-Some.ensures.length c.in_ok-first-in-Some.ensures.locals
-    c.in_ok-first-in-Some.ensures.groups c.in_ok-first-in-Some.ensures.table
-    c.in_ok-first-in-Some.ensures.trail in
-    let b : Branched s u n c.as_slice.result.now w = branched_so s u r w n c.as_slice.result.now
-    c.mark-mark.ensures.changes c.in_ok-judge_block-in-Some.ensures.grows
-    c.in_ok-judge_block-in-Some.ensures.length
-    (c.as_slice.ensures.value ∙ c.in_ok-first-in-Some.ensures.held) a
-    c.in_ok-judge_block-in-Some-2.ensures.grows c.in_ok-judge_block-in-Some-2.ensures.length in
-    answers_the_same _ _ (context_of c.join.new.scope) c.join.result
-    (blocks_decide p m at (context_of s) c.args.stmt.now.kind c.in-If.expr c.in-If.then c.in-Some.other
-    c.in-If.otherwise c.in-If.is c.in-Some.is c.in_ok-is_value-in-Some.ensures
-    ∙ both_blocks_hold p m (braced c.in-If.then).lines (braced c.in-Some.other).lines at s u r w
-    c.in_ok-judge_block-in-Some.ensures.answer a c.in_ok-judge_block-in-Some-2.ensures.answer)
-    (c.join.ensures.answer s u b)
+    let branched : Branched s u c.mark-mark.result c.as_slice.result.now w =
+    branched_so s u r w c.mark-mark.result c.as_slice.result.now c.mark-mark.ensures done.ended
+    (c.as_slice.ensures.value ∙ taken.held) a c.in_ok-judge_block-in-Some-2.ensures.ended in
+    answers_the_same v _ (context_of c.join.new.scope) c.join.result
+    (decided ∙ both_blocks_hold p m b b' at s u r w done.answer a c.in_ok-judge_block-in-Some-2.ensures.answer)
+    (c.join.ensures.answer s u branched)
 
 pub judge_stmt-returns-in_ok-judge_block-in-Some-2-clause-grows :
     goal.judge_stmt-returns-in_ok-judge_block-in-Some-2-clause-grows
@@ -145,31 +359,12 @@ judge_stmt-returns-in_ok-judge_block-in-Some-2-clause-grows t c =
     let s = c.args.scope.now in
     let u = c.judge_block.new.scope in
     let r = c.take_back.new.scope in
+    let taken = c.in_ok-first-in-Some.ensures in
+    let done = c.in_ok-judge_block-in-Some.ensures in
+    let a : Alike s r = back_to s u r c.mark-mark.result.changes c.mark-mark.ensures.changes done.ended.grows
+    done.ended.locals taken.locals taken.groups taken.table taken.trail done.ended.group_trail taken.group_trail in
     let w = c.judge_block-in-Some.new.scope in
-    let n = c.mark-mark.result.changes in
-    let a : Alike s r = back_to s u r n c.mark-mark.ensures.changes c.in_ok-judge_block-in-Some.ensures.grows
-    c.in_ok-judge_block-in-Some.ensures.length c.in_ok-first-in-Some.ensures.locals
-    c.in_ok-first-in-Some.ensures.groups c.in_ok-first-in-Some.ensures.table
-    c.in_ok-first-in-Some.ensures.trail in
-    c.join.ensures.grows s u (branched_so s u r w n c.as_slice.result.now c.mark-mark.ensures.changes
-    c.in_ok-judge_block-in-Some.ensures.grows c.in_ok-judge_block-in-Some.ensures.length
-    (c.as_slice.ensures.value ∙ c.in_ok-first-in-Some.ensures.held) a
-    c.in_ok-judge_block-in-Some-2.ensures.grows c.in_ok-judge_block-in-Some-2.ensures.length)
-
-pub judge_stmt-returns-in_ok-is_value-in-None-clause-answer :
-    goal.judge_stmt-returns-in_ok-is_value-in-None-clause-answer
-judge_stmt-returns-in_ok-is_value-in-None-clause-answer t c =
-    answers_the_same _ _ (context_of c.judge_body.new.scope) c.judge_body.result
-    (lone_block_decides (code_of c.args.tabled.now) (definition c.args.method.now) c.args.stmt.now.at
-    (context_of c.args.scope.now) c.args.stmt.now.kind c.in-If.expr c.in-If.then c.in-If.otherwise c.in-If.is
-    c.in-None.is c.in_ok-is_value-in-None.ensures)
-    c.judge_body.ensures.answer
-
-pub judge_stmt-returns-in_ok-is_value-in-While-clause-answer :
-    goal.judge_stmt-returns-in_ok-is_value-in-While-clause-answer
-judge_stmt-returns-in_ok-is_value-in-While-clause-answer t c =
-    answers_the_same _ _ (context_of c.judge_body-in-While.new.scope) c.judge_body-in-While.result
-    (loop_block_decides (code_of c.args.tabled.now) (definition c.args.method.now) c.args.stmt.now.at
-    (context_of c.args.scope.now) c.args.stmt.now.kind c.in-While.expr c.in-While.block c.in-While.is
-    c.in_ok-is_value-in-While.ensures)
-    c.judge_body-in-While.ensures.answer
+    let branched : Branched s u c.mark-mark.result c.as_slice.result.now w =
+    branched_so s u r w c.mark-mark.result c.as_slice.result.now c.mark-mark.ensures done.ended
+    (c.as_slice.ensures.value ∙ taken.held) a c.in_ok-judge_block-in-Some-2.ensures.ended in
+    c.join.ensures.grows s u branched

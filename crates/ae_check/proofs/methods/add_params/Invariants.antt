@@ -9,5 +9,5 @@ invariant-loop-param l = record {
   rest : with_params l.params (context_of l.initial.scope)
       ≡ with_params (drop l.param-index l.params) (context_of l.scope);
   table : length l.scope.at.items ≡ length l.initial.scope.at.items;
-  groups : length l.scope.groups.items ≡ length l.initial.scope.groups.items;
+  groups : length l.scope.groups.perms.items ≡ length l.initial.scope.groups.perms.items;
 }

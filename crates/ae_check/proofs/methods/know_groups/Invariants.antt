@@ -10,5 +10,5 @@ invariant-loop-group l = record {
   rest : with_needed l.needs (bare_names l.groups) (context_of l.initial.scope)
       ≡ with_needed l.needs (bare_names (drop l.group-index l.groups)) (context_of l.scope);
   table : length l.scope.at.items ≡ length l.initial.scope.at.items;
-  groups : length l.scope.groups.items ≡ length l.initial.scope.groups.items;
+  groups : length l.scope.groups.perms.items ≡ length l.initial.scope.groups.perms.items;
 }

@@ -12,7 +12,8 @@ use Rattle.ae_rules.specs.Context.{Context}
 use Rattle.ae_rules.specs.Lookups.{groups_of, own_kind}
 use Rattle.ae_judge.specs.Tabled.{code_of}
 use Rattle.ae_scope.specs.Scope.{context_of, with_known}
-use Rattle.ae_check.specs.Methods.{needed, with_needed, with_params}
+use Rattle.ae_groups.specs.Contexts.{needed}
+use Rattle.ae_check.specs.Methods.{with_needed, with_params}
 use Rattle.ae_check.proofs.MethodLemmas.{no_receiver_yet, starts_so}
 use Rattle.ae_check.proofs.methods.start.Goals as goal
 

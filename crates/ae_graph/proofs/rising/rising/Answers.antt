@@ -2,7 +2,7 @@ use Rattle.std.proofs.lemmas.List.Filters.{dedup_is}
 use Rattle.std.proofs.lemmas.List.Kept.{Contains-dedup_nat, Contains-from_dedup}
 use Rattle.std.proofs.lemmas.List.Sorted.{Contains-permutation, IsPermutation-sym}
 use Rattle.std.proofs.lemmas.Map.Keys.{IsStrictlyIncreasing-dedup}
-use Rattle.ae_graph.proofs.Elements.{rising_from}
+use Rattle.ae_graph.proofs.from_uses.Elements.{rising_from}
 use Rattle.ae_graph.proofs.rising.rising.Goals as goal
 
 pub returns : goal.returns

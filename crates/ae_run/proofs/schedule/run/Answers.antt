@@ -1,49 +1,52 @@
-use Rattle.std.proofs.Common.{◌≡◌, ◌∙◌, Option, Some, IsSome, ap, sym, subst}
-use Rattle.ae_tree.specs.Plain.{Lines}
-use Rattle.ae_tree.specs.Shown.{code, lines_from}
-use Rattle.ae_graph.specs.Graph.{IsGraph}
-use Rattle.ae_meaning.specs.Meaning.{Meaning, today_many, begin, meaning_of_run, today_seq}
+use Rattle.std.proofs.Common.{◌≡◌, ◌∙◌, [], Some, IsSome, ap, sym, subst}
+use Rattle.ae_tree.specs.Plain.{Code}
+use Rattle.ae_tree.specs.Shown.{code}
+use Rattle.ae_meaning.specs.Meaning.{Meaning, meaning_of_run, today_seq}
 use Rattle.ae_meaning.specs.declared.report.RunReport.{RunReport}
-use Rattle.ae_run.proofs.Programs.{block_lines, seq_lines}
-use Rattle.ae_run.proofs.Reports.{handed, weaker}
+use Rattle.ae_semantics.specs.Means.{seq, bytes}
+use Rattle.ae_cases.specs.Laws.{as_whole}
+use Rattle.ae_run.specs.Main.{main_run}
+use Rattle.ae_run.proofs.Programs.{seq_is, graph_there, graph_right}
+use Rattle.ae_run.proofs.Reports.{handed, weaker, ending_meant, out_meant}
 use Rattle.ae_run.proofs.schedule.run.Goals as goal
+
+pub of-requires-clause-block : goal.of-requires-clause-block
+of-requires-clause-block g c = graph_there (code c.args.code.now.program) c.requires.built
 
 pub run_main-requires-clause-graph : goal.run_main-requires-clause-graph
 run_main-requires-clause-graph g c κs met =
-    subst (λ (o : Option Lines). IsGraph o c.in_ok-graph.graph)
-    (block_lines c.args.program.now c.requires.accepted c.as_slice.result.now c.as_slice.ensures
-    c.index-as_slice-0.result c.as_slice-stmts.result.now c.as_slice-stmts.ensures)
-    c.in_ok-graph.ensures
+    let p : Code = code c.args.code.now.program in
+    graph_right c.names_are_of_the_program.ensures p c.requires.shaped c.args.code.now.accepted c.requires.built
+    c.in_ok-graph.graph c.in_ok-graph.ensures
 
 pub run_main-requires-clause-ends : goal.run_main-requires-clause-ends
 run_main-requires-clause-ends g c κs met =
-    subst (λ (m : Meaning). IsSome m.ending)
-    (seq_lines c.args.program.now c.requires.accepted c.as_slice.result.now c.as_slice.ensures
-    c.index-as_slice-0.result c.as_slice-stmts.result.now c.as_slice-stmts.ensures c.args.ints.now c.args.fuel)
-    (c.accepted_programs_end.ensures (code c.args.program.now) c.requires.accepted c.args.ints.now c.args.fuel)
+    let p : Code = code c.args.code.now.program in
+    subst (λ (m : Meaning). IsSome m.ending) (seq_is p c.requires.built c.args.ints.now c.args.fuel)
+    (c.accepted_programs_end.ensures p c.args.code.now.accepted c.requires.built c.args.ints.now c.args.fuel)
 
 pub returns-clause-ending : goal.returns-clause-ending
 returns-clause-ending g c =
-    let b = lines_from c.as_slice-stmts.result.now in
-    let p = code c.args.program.now in
-    let e : today_seq p c.args.ints.now c.args.fuel ≡ meaning_of_run (today_many b begin) =
-    seq_lines c.args.program.now c.requires.accepted c.as_slice.result.now c.as_slice.ensures
-    c.index-as_slice-0.result c.as_slice-stmts.result.now c.as_slice-stmts.ensures c.args.ints.now c.args.fuel in
-    handed (λ (r : RunReport). Some r.ending ≡ (today_seq p c.args.ints.now c.args.fuel).ending) _ c.run_main.result
-    c.map_err.result c.map_err.ensures.cases c.map_err.ensures.variant
-    (weaker (λ (r : RunReport). Some r.ending ≡ (meaning_of_run (today_many b begin)).ending)
-    (λ (r : RunReport). Some r.ending ≡ (today_seq p c.args.ints.now c.args.fuel).ending)
-    (λ r h. h ∙ ap (λ (m : Meaning). m.ending) (sym e)) c.run_main.result c.run_main.ensures.ending)
+    let p : Code = code c.args.code.now.program in
+    let same = c.today_is_a_case.ensures p c.requires.shaped c.args.code.now.accepted c.requires.built c.args.ints.now
+    c.args.fuel in
+    handed (λ (r : RunReport). Some (as_whole r.ending) ≡ (seq p c.args.ints.now c.args.fuel).ending) _
+    c.run_main.result c.map_err.result c.map_err.ensures.cases c.map_err.ensures.variant
+    (weaker (λ (r : RunReport). Some r.ending ≡ (meaning_of_run (main_run p)).ending)
+    (λ (r : RunReport). Some (as_whole r.ending) ≡ (seq p c.args.ints.now c.args.fuel).ending)
+    (λ r h. ending_meant r (today_seq p c.args.ints.now c.args.fuel) (seq p c.args.ints.now c.args.fuel) same
+    (h ∙ ap (λ (m : Meaning). m.ending) (sym (seq_is p c.requires.built c.args.ints.now c.args.fuel))))
+    c.run_main.result c.run_main.ensures.ending)
 
 pub returns-clause-out : goal.returns-clause-out
 returns-clause-out g c =
-    let b = lines_from c.as_slice-stmts.result.now in
-    let p = code c.args.program.now in
-    let e : today_seq p c.args.ints.now c.args.fuel ≡ meaning_of_run (today_many b begin) =
-    seq_lines c.args.program.now c.requires.accepted c.as_slice.result.now c.as_slice.ensures
-    c.index-as_slice-0.result c.as_slice-stmts.result.now c.as_slice-stmts.ensures c.args.ints.now c.args.fuel in
-    handed (λ (r : RunReport). r.out ≡ (today_seq p c.args.ints.now c.args.fuel).out) _ c.run_main.result
+    let p : Code = code c.args.code.now.program in
+    let same = c.today_is_a_case.ensures p c.requires.shaped c.args.code.now.accepted c.requires.built c.args.ints.now
+    c.args.fuel in
+    handed (λ (r : RunReport). r.out ≡ bytes (seq p c.args.ints.now c.args.fuel) []) _ c.run_main.result
     c.map_err.result c.map_err.ensures.cases c.map_err.ensures.variant
-    (weaker (λ (r : RunReport). r.out ≡ (meaning_of_run (today_many b begin)).out)
-    (λ (r : RunReport). r.out ≡ (today_seq p c.args.ints.now c.args.fuel).out)
-    (λ r h. h ∙ ap (λ (m : Meaning). m.out) (sym e)) c.run_main.result c.run_main.ensures.out)
+    (weaker (λ (r : RunReport). r.out ≡ (meaning_of_run (main_run p)).out)
+    (λ (r : RunReport). r.out ≡ bytes (seq p c.args.ints.now c.args.fuel) [])
+    (λ r h. out_meant r (today_seq p c.args.ints.now c.args.fuel) (seq p c.args.ints.now c.args.fuel) same
+    (h ∙ ap (λ (m : Meaning). m.out) (sym (seq_is p c.requires.built c.args.ints.now c.args.fuel))))
+    c.run_main.result c.run_main.ensures.out)

@@ -1,33 +1,35 @@
-use Rattle.std.proofs.Common.{refl}
-use Rattle.ae_tree.specs.Shown.{code}
-use Rattle.ae_tree.specs.Plain.{Code}
+use Rattle.std.proofs.Common.{◌≡◌, refl, subst, sym, ap, ◌∙◌}
 use Rattle.ae_tree.specs.Built.{Built}
-use Rattle.ae_rules.specs.Cases.{DeclaresOne}
-use Rattle.aem.proofs.Whole.{declares, accepted}
-use Rattle.aem.proofs.Numbers.{names_below}
-use Rattle.aem.proofs.GraphTexts.{text_is}
+use Rattle.ae_tree.specs.Limits.{Within}
+use Rattle.ae_tree.specs.WellShaped.{WellShaped}
+use Rattle.ae_tree.specs.Shown.{code as plain}
+use Rattle.ae_graph.specs.GraphText.{graph_text}
+use Rattle.aem.specs.declared.answer.Command.TheVariants.{Graph}
+use Rattle.aem.specs.Top.{IsDecided}
+use Rattle.aem.proofs.Whole.{refusal_is_decided}
 use Rattle.aem.proofs.modes.drawn.Goals as goal
 
-pub graph_text-requires-clause-accepted : goal.graph_text-requires-clause-accepted
-graph_text-requires-clause-accepted c =
-    let p : Code = code c.args.program.now in
-    accepted c.todays_judgement_is_a_case.ensures p c.in-Ok.ensures.0
-    (declares c.a_built_program_declares_one_method.ensures c.requires.0 p c.requires.1 c.in-Ok.ensures.0)
-    c.in-Ok.ensures.1
+pub judge-requires : goal.judge-requires
+judge-requires c =
+    c.derived_programs_are_well_shaped.ensures c.requires.1.tokens (plain c.args.program) c.requires.1.derives
+
+pub returns-in-Err : goal.returns-in-Err
+returns-in-Err c = subst (IsDecided Graph (plain c.args.program)) (sym c.denied-in-Err.ensures)
+    (refusal_is_decided Graph (plain c.args.program) c.in-Err.deny c.if-not-is_built.ensures c.in-Err.ensures)
+
+pub graph_text-requires-clause-shaped : goal.graph_text-requires-clause-shaped
+graph_text-requires-clause-shaped c = subst WellShaped (sym c.in-Ok.ensures.1)
+    (c.derived_programs_are_well_shaped.ensures c.requires.1.tokens (plain c.args.program) c.requires.1.derives)
+
+pub graph_text-requires-clause-within : goal.graph_text-requires-clause-within
+graph_text-requires-clause-within c = subst Within (sym c.in-Ok.ensures.1) c.requires.1.within
 
 pub returns-in-Ok-graph_text : goal.returns-in-Ok-graph_text
-returns-in-Ok-graph_text c =
-    let source = c.requires in
-    let p : Code = code c.args.program.now in
-    let b : Built p = c.in-Ok.ensures.0 in
-    let d : DeclaresOne p = declares c.a_built_program_declares_one_method.ensures source.0 p source.1 b in (
-      b,
-      c.in-Ok.ensures.1,
-      (
-        refl,
-        text_is c.todays_uses_are_a_case.ensures c.preds_are_edges.ensures p
-            (accepted c.todays_judgement_is_a_case.ensures p b d c.in-Ok.ensures.1) d b
-            (names_below c.derived_programs_are_well_shaped.ensures source.1.tokens p source.1.derives b)
-            c.in-Ok-graph_text.text c.in-Ok-graph_text.ensures,
-      ),
-    )
+returns-in-Ok-graph_text c = (
+  c.if-not-is_built.ensures,
+  c.in-Ok.ensures.0,
+  (refl, c.in-Ok-graph_text.ensures ∙ ap graph_text c.in-Ok.ensures.1),
+)
+
+pub graph_text-requires-clause-built : goal.graph_text-requires-clause-built
+graph_text-requires-clause-built c = subst Built (sym c.in-Ok.ensures.1) c.if-not-is_built.ensures

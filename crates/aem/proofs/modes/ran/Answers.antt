@@ -1,29 +1,37 @@
-use Rattle.std.proofs.Common.{refl}
-use Rattle.ae_tree.specs.Shown.{code}
-use Rattle.ae_tree.specs.Plain.{Code}
+use Rattle.std.proofs.Common.{refl, subst, sym}
 use Rattle.ae_tree.specs.Built.{Built}
-use Rattle.ae_rules.specs.Cases.{DeclaresOne}
-use Rattle.aem.proofs.Whole.{declares, accepted, meant}
+use Rattle.ae_tree.specs.Limits.{Within}
+use Rattle.ae_tree.specs.WellShaped.{WellShaped}
+use Rattle.ae_tree.specs.Shown.{code as plain}
+use Rattle.aem.specs.declared.answer.Command.TheVariants.{Run}
+use Rattle.aem.specs.Top.{IsMeant, IsDecided}
+use Rattle.aem.proofs.Whole.{refusal_is_decided}
 use Rattle.aem.proofs.modes.ran.Goals as goal
 
-pub run-requires-clause-accepted : goal.run-requires-clause-accepted
-run-requires-clause-accepted g c κs within =
-    let p : Code = code c.args.program.now in
-    accepted c.todays_judgement_is_a_case.ensures p c.in-Ok.ensures.0
-    (declares c.a_built_program_declares_one_method.ensures c.requires.0 p c.requires.1 c.in-Ok.ensures.0)
-    c.in-Ok.ensures.1
+pub judge-requires : goal.judge-requires
+judge-requires g c =
+    c.derived_programs_are_well_shaped.ensures c.requires.1.tokens (plain c.args.program) c.requires.1.derives
+
+pub returns-in-Err : goal.returns-in-Err
+returns-in-Err g c = subst (IsDecided Run (plain c.args.program)) (sym c.denied-in-Err.ensures)
+    (refusal_is_decided Run (plain c.args.program) c.in-Err.deny c.if-not-is_built.ensures c.in-Err.ensures)
+
+pub run-requires-clause-built : goal.run-requires-clause-built
+run-requires-clause-built g c κs met = subst Built (sym c.in-Ok.ensures.1) c.if-not-is_built.ensures
+
+pub run-requires-clause-shaped : goal.run-requires-clause-shaped
+run-requires-clause-shaped g c κs met = subst WellShaped (sym c.in-Ok.ensures.1)
+    (c.derived_programs_are_well_shaped.ensures c.requires.1.tokens (plain c.args.program) c.requires.1.derives)
+
+pub run-requires-clause-within : goal.run-requires-clause-within
+run-requires-clause-within g c κs met = subst Within (sym c.in-Ok.ensures.1) c.requires.1.within
 
 pub returns-in-Ok-run : goal.returns-in-Ok-run
-returns-in-Ok-run g c =
-    let source = c.requires in
-    let p : Code = code c.args.program.now in
-    let b : Built p = c.in-Ok.ensures.0 in
-    let d : DeclaresOne p = declares c.a_built_program_declares_one_method.ensures source.0 p source.1 b in (
-      b,
-      c.in-Ok.ensures.1,
-      (
-        refl,
-        meant c.todays_judgement_is_a_case.ensures c.today_is_a_case.ensures p b d c.in-Ok.ensures.1
-            c.in-Ok-run.report c.in-Ok-run.ensures.ending c.in-Ok-run.ensures.out,
-      ),
-    )
+returns-in-Ok-run g c = (
+  c.if-not-is_built.ensures,
+  c.in-Ok.ensures.0,
+  (
+    refl,
+    subst (IsMeant c.in-Ok-run.report) c.in-Ok.ensures.1 (c.in-Ok-run.ensures.ending, c.in-Ok-run.ensures.out),
+  ),
+)

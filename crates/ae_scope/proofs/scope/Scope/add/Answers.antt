@@ -13,6 +13,8 @@ invariant_of-self c =
     record {
       tied = subst (λ (xs : List Slot). Tied s.at.items (names xs)) (sym c.in_err-push.ensures.items) s.tied;
       listed = s.listed;
+      rising = s.rising;
+      sized = s.sized;
     }
 
 pub invariant_of-self-2 : goal.invariant_of-self-2
@@ -23,15 +25,17 @@ invariant_of-self-2 c =
       tied = tied_declared s.at.items s.locals.items c.push.new.self.items c.args.name c.len-at.result _ s.tied
           c.requires.new c.in_ok-push.ensures.items refl (c.len-at.ensures ∙ s.locals.ok.0) w;
       listed = s.listed;
+      rising = s.rising;
+      sized = s.sized ∙ sym (length-set s.at.items c.args.name _);
     }
 
 pub returns : goal.returns
 returns c =
     let s = c.args.self.now in
     let d = context_declared s c.args.name c.args.form c.args.stays c.held_of-held.result s.locals.items
-    c.push.new.self.items s.groups.items c.requires.new refl c.held_of-held.ensures c.in_ok-push.ensures.items
+    c.push.new.self.items s.groups.perms.items c.requires.new refl c.held_of-held.ensures c.in_ok-push.ensures.items
     refl in
     record {
       context = d.1;
-      grows = grows_declared s _ _ d.0 refl refl (length-set s.at.items c.args.name _);
+      grows = grows_declared s _ _ d.0 refl refl refl (length-set s.at.items c.args.name _);
     }

@@ -6,7 +6,7 @@ invariant-loop-self l = record {
   locals : l.self.locals.items ≡ [];
   trail : l.self.trail.items ≡ [];
   table : length l.self.at.items ≡ length l.fn.self.at.items;
-  groups : length l.self.groups.items ≡ length l.fn.self.groups.items;
+  group_trail : l.self.group_trail.items ≡ [];
 }
 
 abbrev pub decreases-loop-self : goal.decreases-loop-self

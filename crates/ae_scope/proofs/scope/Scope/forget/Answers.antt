@@ -1,4 +1,5 @@
-use Rattle.std.proofs.Common.{arith, ◌<◌, length}
+use Rattle.std.proofs.Common.{arith, ◌<◌, length, sym, ◌∙◌}
+use Rattle.std.proofs.lemmas.List.{length-set}
 use Rattle.ae_scope.proofs.ChangeLemmas.{forgotten, last_in_table}
 use Rattle.ae_scope.proofs.scope.Scope.forget.Goals as goal
 
@@ -15,4 +16,6 @@ invariant_of-self c =
     record {
       tied = forgotten s.at.items s.locals.items _ c.in-Some.slot c.in-Some.ensures.items s.tied;
       listed = s.listed;
+      rising = s.rising;
+      sized = s.sized ∙ sym (length-set s.at.items _ _);
     }

@@ -2,6 +2,7 @@ use Rattle.std.proofs.Common.{arith, ◌<◌, length, sym, ◌∙◌, ap}
 use Rattle.ae_scope.proofs.SlotLemmas.{within, lost}
 use Rattle.ae_scope.proofs.ContextLemmas.{context_held, context_not_held}
 use Rattle.ae_scope.proofs.GrowLemmas.{grows_held, grows_same}
+use Rattle.ae_groups.specs.declared.context.GroupContext.{GroupContext}
 use Rattle.ae_scope.proofs.scope.Scope.hold.Goals as goal
 
 pub index-requires : goal.index-requires
@@ -22,11 +23,12 @@ returns-in_ok-push-in-Some c =
     let t = c.set_held.new.self in
     record {
       context = context_held s t c.args.name c.in-Some.at c.args.held
-          (sym c.in-Some.ensures) c.set_held.ensures.locals c.set_held.ensures.groups;
+          (sym c.in-Some.ensures) c.set_held.ensures.locals (ap (λ (g : GroupContext). g.perms.items) c.set_held.ensures.groups);
       grows = grows_held s t c.in-Some.at c.args.held c.index.result.now
           (within s.at.items s.locals.items c.args.name c.in-Some.at s.tied
           (sym c.in-Some.ensures)) c.index.ensures c.set_held.ensures.locals (c.set_held.ensures.trail
-          ∙ c.in_ok-push-in-Some.ensures.items) c.set_held.ensures.groups (ap length c.set_held.ensures.at);
+          ∙ c.in_ok-push-in-Some.ensures.items) (ap (λ (g : GroupContext). g.perms.items) c.set_held.ensures.groups)
+          c.set_held.ensures.group_trail (ap length c.set_held.ensures.at);
     }
 
 pub returns-in-None : goal.returns-in-None

@@ -8,7 +8,8 @@ invariant-loop-self l = record {
   same : take l.changes l.self.trail.items ≡ take l.changes l.initial.self.trail.items;
   back : rewound (drop l.changes l.self.trail.items) l.self.locals.items
       ≡ rewound (drop l.changes l.initial.self.trail.items) l.initial.self.locals.items;
-  groups : l.self.groups.items ≡ l.initial.self.groups.items;
+  groups : l.self.groups.perms.items ≡ l.initial.self.groups.perms.items;
+  group_trail : l.self.group_trail.items ≡ l.initial.self.group_trail.items;
   table : length l.self.at.items ≡ length l.initial.self.at.items;
 }
 

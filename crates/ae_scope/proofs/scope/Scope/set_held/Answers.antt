@@ -12,6 +12,8 @@ invariant_of-self c =
       tied = subst P (sym (set_hold s.locals.items c.args.at c.args.held c.index_mut.result.now c.requires
           c.index_mut.ensures.value)) (tied_hold s.at.items s.locals.items c.args.at c.args.held s.tied);
       listed = s.listed;
+      rising = s.rising;
+      sized = s.sized;
     }
 
 pub returns-clause-locals : goal.returns-clause-locals
