@@ -98,8 +98,7 @@ mutual
   whole_in p m atomic at (Locks g n b) c d h =
       let r = first_holds (may_lock c.group g) (λ _. judge_lines p m b (while_locked g.name c) >>= end_block p c b) d
       h in
-      let l = first_holds (judge_lines p m b (while_locked g.name c)) (end_block p c b) d r.2 in
-      whole_if p m atomic _ _ (whole_block p m n b (while_locked g.name c) _ _ (l.0, l.1)
+      let l = first_holds (judge_lines p m b (while_locked g.name c)) (end_block p c b) d r.2 in whole_if p m atomic _ _ (whole_block p m n b (while_locked g.name c) _ _ (l.0, l.1)
       (whole_among p m atomic b (while_locked g.name c) l.0 l.1))
   whole_in p m atomic at (Declares t x e) c d h = whole_none p m
   whole_in p m atomic at (Assigns x e) c d h = whole_none p m

@@ -538,7 +538,7 @@ right_kept p m =
       };
     }
 
-named_method : (p : Code) (n : ℕ) (m : Definition) → WellShaped p → method_at p n ≡ Some m
+pub named_method : (p : Code) (n : ℕ) (m : Definition) → WellShaped p → method_at p n ≡ Some m
     → MethodNamed (length p.names) m
 named_method p n m w e = found_has (MethodNamed (length p.names)) p.methods n m w.method_names e
 

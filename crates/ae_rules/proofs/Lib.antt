@@ -8,7 +8,7 @@ mod MoveLemmas
 mod KeepLemmas
 pub mod EdgeLemmas
 pub mod SeenLemmas
-mod VisibleLemmas
+pub mod VisibleLemmas
 pub mod PredLemmas
 mod LessLemmas
 mod InstanceLemmas
@@ -26,5 +26,5 @@ mod ChangeLemmas
 mod EverywhereLemmas
 pub mod BelowLemmas
 pub mod ShapeLemmas
-mod HeldLemmas
+pub mod HeldLemmas
 pub mod OfLanguageLemmas

@@ -401,7 +401,7 @@ split_opens c gs h (resource.Group g) n s = (
       (c.group g) n (h g) e,
 )
 
-back_known : (o : Option GroupPerm) → is_some o ≡ true → is_some (held_back o) ≡ true
+pub back_known : (o : Option GroupPerm) → is_some o ≡ true → is_some (held_back o) ≡ true
 back_known None e = absurd (cc)
 back_known (Some group.Exclusive) e = refl
 back_known (Some group.Shared) e = refl

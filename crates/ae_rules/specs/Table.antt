@@ -180,7 +180,3 @@ table_verdict p =
 -- the declarations break no clause
 abbrev pub TableHolds : Code → Type 0
 TableHolds p = table_verdict p ≡ fine
-
--- the first clause that the declarations break is this rule's, at this place
-abbrev pub TableFault : Code → Rule → Spot → Type 0
-TableFault p rule at = table_verdict p ≡ Broken rule at
