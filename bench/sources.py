@@ -1,4 +1,4 @@
-"""What `bench/check` goes by: an ordinary source of 1 MiB and three that are made to be hard
+"""What `bench/check` and `bench/graph` go by: an ordinary source of 1 MiB and three that are made to be hard
 (1,024 locals with 1,024 branches behind them; blocks 63 deep with locals at each level; calls with 16 arguments each),
 and how long a mode of the program needs for one, and how much memory."""
 import os

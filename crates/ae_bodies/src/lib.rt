@@ -1,7 +1,8 @@
-//! What the statements of the one body of a program use that has only forms that run.
+//! What each statement of each block of a method of an accepted program uses.
 #![tactic(auto)]
 
-mod bodies;
-mod statements;
+mod blocks;
+mod methods;
+mod opened;
 
-pub use bodies::method_uses;
+pub use methods::{method_uses, tabled_of};

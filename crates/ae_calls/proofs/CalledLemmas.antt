@@ -1,6 +1,6 @@
 -- A call, once its groups fit and as many arguments are given as there are parameters.
-use Rattle.std.proofs.Common.{◌≡◌, ℕ, nat_eq, Bool, true, List, map, length}
-use Rattle.std.proofs.Common.{Option, Some, Err, refl, sym, ap, ◌∙◌, subst}
+use Rattle.std.proofs.Common.{◌≡◌, ℕ, nat_eq, true, List, map, length}
+use Rattle.std.proofs.Common.{Option, Err, sym, ap, ◌∙◌}
 use Rattle.std.proofs.lemmas.Bool.{eq-eqb}
 use Rattle.std.specs.Prelude.{zip, filter_map, option_map, ⊤}
 use Rattle.ae_text.specs.declared.refusal.Rule.TheVariants as rule

@@ -1,22 +1,22 @@
 -- Where the declarations of a program hold, no method of a class has the name of a field.
-use Rattle.std.proofs.Common.{◌≡◌, ◌⊎◌, inl, inr, ℕ, zero, suc, nat_eq, Bool}
+use Rattle.std.proofs.Common.{◌≡◌, ℕ, zero, suc, nat_eq, Bool}
 use Rattle.std.proofs.Common.{true, false, ◌||◌, not, if◌then◌else◌, List, [], ◌∷◌, ◌++◌, map}
 use Rattle.std.proofs.Common.{Option, None, Some, refl, sym, ap, ◌∙◌, ◌<◌, length, get_or, arith}
-use Rattle.std.specs.Prelude.{option_map, find, filter_map, position, ⊤, is_some}
+use Rattle.std.specs.Prelude.{option_map, find, filter_map, position, ⊤}
 use Rattle.std.specs.List.{list_any, cons_option}
 use Rattle.std.proofs.lemmas.List.Quantifiers.{position-Some}
-use Rattle.std.proofs.lemmas.Bool.{or_right, eqb-true, not-true, or_parts, or_from, or_left, both_ways, cases_Bool}
+use Rattle.std.proofs.lemmas.Bool.{or_right, eqb-true, not-true, or_parts, or_from, or_left, both_ways}
 use Rattle.ae_text.specs.declared.refusal.Rule.TheVariants as rule
 use Rattle.ae_tree.specs.declared.tree.NameAt.{NameAt}
 use Rattle.ae_tree.specs.declared.tree.Field.{Field}
 use Rattle.ae_tree.specs.declared.tree.Class.{Class}
 use Rattle.ae_tree.specs.Plain.{Definition, Code}
 use Rattle.ae_rules.specs.declared.table.Member.TheVariants as member
-use Rattle.ae_rules.specs.Verdict.{Verdict, Holds, require, each, in_turn, given, fine}
+use Rattle.ae_rules.specs.Verdict.{Holds, require, each, in_turn, given}
 use Rattle.ae_rules.specs.Lookups.{Names, class_at, method_at, is_called}
 use Rattle.ae_rules.specs.Lookups.{field_number, method_number, member_called, member_names}
 use Rattle.ae_rules.specs.Table.{no_names, and_also, is_new, tops_differ}
-use Rattle.ae_rules.specs.Table.{members_differ, decl_holds, has_main, TableHolds}
+use Rattle.ae_rules.specs.Table.{members_differ, TableHolds}
 use Rattle.ae_calls.proofs.from_rules.PathLemmas.{first_holds, each_holds}
 use Rattle.ae_calls.proofs.from_rules.SeenLemmas.{required}
 use Rattle.ae_calls.proofs.from_judge.LookupLemmas.{of_field}

@@ -3,7 +3,6 @@ use Rattle.std.proofs.Common.{◌≡◌, ℕ, nat_eq, Bool, true, false, ◌||�
 use Rattle.std.proofs.Common.{if◌then◌else◌, List, [], ◌∷◌, ◌++◌, Option, None, Some}
 use Rattle.std.proofs.Common.{refl, ap, ◌∙◌}
 use Rattle.std.specs.Prelude.{option_map}
-use Rattle.ae_rules.specs.declared.held.Held.TheVariants as held
 use Rattle.ae_rules.specs.Lookups.{has_name}
 use Rattle.ae_rules.specs.Context.{Local, Context, with_name_moved}
 use Rattle.ae_rules.specs.Effects.{all_moved}
@@ -19,7 +18,7 @@ or_later true b d = refl
 or_later false b d = refl
 
 -- a name behind others is one of all
-has_the_last : (xs : List ℕ) (x y : ℕ) → has_name (xs ++ x ∷ []) y ≡ (has_name xs y || nat_eq x y)
+pub has_the_last : (xs : List ℕ) (x y : ℕ) → has_name (xs ++ x ∷ []) y ≡ (has_name xs y || nat_eq x y)
 has_the_last [] x y = or_nothing (nat_eq x y)
 has_the_last (z ∷ zs) x y = ap (λ b. nat_eq z y || b) (has_the_last zs x y)
     ∙ or_later (nat_eq z y) (has_name zs y) (nat_eq x y)

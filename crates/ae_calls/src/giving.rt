@@ -170,13 +170,16 @@ impl Given {
         }
     }
 
-    // The name that goes for good, behind those before.
+    // The name that goes for good where its slot is one for good, behind those before.
     #[tactic(auto, using(crate::proofs::GivenLemmas::one_more_goes))]
-    fn goes(&mut self, name: Option<Name>) -> Result<(), AllocError>
+    fn goes(&mut self, away: bool, name: Option<Name>) -> Result<(), AllocError>
         ensures gone { OnOk result ((rest : List ℕ)
-            → self.new.gone.items ++ rest ≡ self.old.gone.items ++ cons_option name rest) }
+            → self.new.gone.items ++ rest ≡ self.old.gone.items ++ cons_option (if away then name else None) rest) }
         ensures roots { OnOk result (roots_of self.new.roots ≡ roots_of self.old.roots) }
     {
+        if !away {
+            return Ok(());
+        }
         match name {
             Some(name) => {
                 self.gone.push(name)?;
@@ -205,12 +208,7 @@ impl Given {
             away: slot.away,
         };
         path_to_param(tabled, scope, object, path, path.root.at, &mut self.roots)?;
-        let name = if slot.away {
-            moves(slot.perm, path)
-        } else {
-            None
-        };
-        self.goes(name)?;
+        self.goes(slot.away, moves(slot.perm, path))?;
         Ok(())
     }
 
@@ -228,12 +226,7 @@ impl Given {
             ≡ self.old.gone.items ++ cons_option (gone_name (slot_of slot.now, expression expr.now)) rest) }
     {
         to_form(tabled, scope, slot, expr, &mut self.roots)?;
-        let name = if slot.away {
-            name_into(&slot.form, expr)
-        } else {
-            None
-        };
-        self.goes(name)?;
+        self.goes(slot.away, name_into(&slot.form, expr))?;
         Ok(())
     }
 

@@ -1,6 +1,6 @@
 -- A block's statements, its end, and what is compared after it.
 use Rattle.std.proofs.Common.{◌≡◌, ◌<◌, ◌≤◌, ◌+◌, ℕ, List, ◌∷◌, drop, get_or, arith, Bool, true, false}
-use Rattle.std.proofs.Common.{length, Result, Ok, Err, refl, sym, ap, ◌∙◌}
+use Rattle.std.proofs.Common.{length, Result, Ok, Err, refl, sym, ap, subst, ◌∙◌}
 use Rattle.std.specs.Prelude.{⊤, OnOk}
 use Rattle.std.proofs.lemmas.List.{drop_more, length-take}
 use Rattle.std.proofs.lemmas.List.Elements.{All-weaker}
@@ -14,7 +14,7 @@ use Rattle.ae_tree.specs.Plain.{Lines, Code, Definition}
 use Rattle.ae_tree.specs.Shown.{action, lines_from}
 use Rattle.ae_rules.specs.Answers.{Answers, Leaves, done}
 use Rattle.ae_rules.specs.Verdict.{Verdict, Holds, Broken, ◌>>=◌, ◌>>◌, fine, require, each}
-use Rattle.ae_rules.specs.Groups.{known}
+use Rattle.ae_rules.specs.Groups.{known, may_split_all, may_lock}
 use Rattle.ae_rules.specs.Context.{Context, closed, hold_alike}
 use Rattle.ae_rules.specs.Statements.{judge_statement, judge_lines, groups_stay, end_block, while_split, while_locked}
 use Rattle.ae_rules.specs.BlockLaws.{groups_in_lines}
@@ -28,7 +28,6 @@ use Rattle.ae_check.specs.Blocks.{Began, Ended, inside_verdict, block_verdict, b
 use Rattle.ae_check.specs.Blocks.{is_not_left, left_outside}
 use Rattle.ae_check.proofs.from_text.Basics.{no_test_is_both}
 use Rattle.ae_check.proofs.from_scope.ContextLemmas.{same_context, groups_in}
-use Rattle.ae_check.proofs.from_scope.GrowLemmas.{grows_same}
 use Rattle.ae_check.proofs.from_scope.ReplayLemmas.{grows_then}
 use Rattle.ae_check.proofs.from_scope.StackLemmas.{ended, length_ended, group_trail_ended, grows_cut, grown_longer}
 use Rattle.ae_check.proofs.from_scope.StackLemmas.{before_is, compared}
@@ -52,12 +51,6 @@ groups_are_told p m b s t d mark stays began j g =
     (λ (x : NameAt). known (context_of s).group x.name ≡ false)
     (λ x u. not_before (known (context_of s).group x.name) (known (context_of t).group x.name)
     (began.knows x.name) u) (groups_in_lines b) (stays.declared b (context_of t) (context_of d) j))
-
--- the statements of a block fail
-pub lines_fail : (p : Code) (m : Definition) (b : Lines) (outside c y z : Context) (e : Deny)
-    → Leaves (judge_lines p m b c) y (Err e) → Leaves (inside_verdict p m b outside c) z (Err e)
-lines_fail p m b outside c y z deny.Memory h = tt
-lines_fail p m b outside c y z (deny.Refused r) h = ap (λ (v : Verdict Context). v >>= end_block p outside b) h
 
 -- a group that a block declares is left
 pub group_is_left : (p : Code) (m : Definition) (b : Lines) (s t d : Scope) (mark : Mark) (z : Context) (e : Deny)
@@ -95,47 +88,80 @@ pub ended_grows : (s u : Scope) (r : Result (Unit {0}) Deny) → OnOk r (Ended s
 ended_grows s u (Ok x) h = h.grows
 ended_grows s u (Err e) h = tt
 
--- a block begins where its mark is set
-pub begins_here : (p : Code) (s : Scope) (mark : Mark) → Marks s mark → IsReady p (context_of s) → Began p s mark s
-begins_here p s mark k r = record { marks = k; grows = grows_same s; ready = r; knows = λ g e. e }
-
 -- what was entered holds, and this is the context then
-pub entered : (v : Verdict ⊤) (c d : Context) → (v >> Holds c) ≡ Holds d → (v ≡ fine) × (d ≡ c)
+entered : (v : Verdict ⊤) (c d : Context) → (v >> Holds c) ≡ Holds d → (v ≡ fine) × (d ≡ c)
 entered (Holds u) c d e = (refl, let i : c ≡ d = cc in sym i)
 entered (Broken rule at) c d e = absurd (cc)
 
--- a split block begins
-pub split_begins : (p : Code) (gs : List NameAt) (s t : Scope) (mark : Mark) → Marks s mark
-    → IsReady p (context_of s) → Grows s t → context_of t ≡ while_split gs (context_of s) → Began p s mark t
-split_begins p gs s t mark k r g e = record {
-  marks = k;
-  grows = g;
-  ready = r;
-  knows = λ x h. ap (λ (c : Context). known c.group x) e ∙ known_while_split gs (context_of s) x h;
-}
-
--- an atomic block begins
-pub atomic_begins : (p : Code) (x : ℕ) (s t : Scope) (mark : Mark) → Marks s mark → IsReady p (context_of s)
-    → Grows s t → context_of t ≡ while_locked x (context_of s) → Began p s mark t
-atomic_begins p x s t mark k r g e = record {
-  marks = k;
-  grows = g;
-  ready = r;
-  knows = λ y h. ap (λ (c : Context). known c.group y) e ∙ known_while_locked x (context_of s) y h;
-}
-
 -- what a mark counts is still there in a scope that grew
-pub marked_locals : (s t : Scope) (mark : Mark) → Marks s mark → Grows s t → mark.locals ≤ length t.locals.items
+marked_locals : (s t : Scope) (mark : Mark) → Marks s mark → Grows s t → mark.locals ≤ length t.locals.items
 marked_locals s t mark k g = omega (arith, k.locals, grown_longer s t g)
 
-pub marked_changes : (s t : Scope) (mark : Mark) → Marks s mark → Grows s t → mark.changes ≤ length t.trail.items
+marked_changes : (s t : Scope) (mark : Mark) → Marks s mark → Grows s t → mark.changes ≤ length t.trail.items
 marked_changes s t mark k g =
     omega (arith, k.changes, ap length g.trail, length-take (length s.trail.items) t.trail.items)
 
-pub marked_groups : (s t : Scope) (mark : Mark) → Marks s mark → Grows s t
+marked_groups : (s t : Scope) (mark : Mark) → Marks s mark → Grows s t
     → mark.groups ≤ length t.group_trail.items
 marked_groups s t mark k g =
     omega (arith, k.groups, ap length g.group_trail, length-take (length s.group_trail.items) t.group_trail.items)
+
+-- a block inside which a context is known was entered, where these premises held: its first statement has that context
+pub record Opened (p : Code) (v : Verdict ⊤) (inside : Context) (s t : Scope) (mark : Mark) : Type 0 where
+  pub holds : v ≡ fine
+  pub context : context_of t ≡ inside
+  pub began : Began p s mark t
+  pub ready : IsReady p (context_of t)
+  pub locals : mark.locals ≤ length t.locals.items
+  pub changes : mark.changes ≤ length t.trail.items
+  pub groups : mark.groups ≤ length t.group_trail.items
+
+-- it was entered where the context inside is ready and knows what is known outside
+block_opens : (p : Code) (v : Verdict ⊤) (inside : Context) (s t : Scope) (mark : Mark) → IsReady p (context_of s)
+    → Marks s mark → Grows s t → (v >> Holds inside) ≡ Holds (context_of t) → (v ≡ fine → IsReady p inside)
+    → ((x : ℕ) → known (context_of s).group x ≡ true → known inside.group x ≡ true) → Opened p v inside s t mark
+block_opens p v inside s t mark r k g a i n =
+    let e = entered v inside (context_of t) a in
+    record {
+      holds = e.0;
+      context = e.1;
+      began = record {
+        marks = k;
+        grows = g;
+        ready = r;
+        knows = λ x h. ap (λ (c : Context). known c.group x) e.1 ∙ n x h;
+      };
+      ready = subst (IsReady p) (sym e.1) (i e.0);
+      locals = marked_locals s t mark k g;
+      changes = marked_changes s t mark k g;
+      groups = marked_groups s t mark k g;
+    }
+
+-- a split block is entered
+pub split_opens : (p : Code) (m : Definition) (gs : List NameAt) (s t : Scope) (mark : Mark) → StaysReady p m
+    → IsReady p (context_of s) → Marks s mark → Grows s t
+    → (may_split_all (context_of s).group gs >> Holds (while_split gs (context_of s))) ≡ Holds (context_of t)
+    → Opened p (may_split_all (context_of s).group gs) (while_split gs (context_of s)) s t mark
+split_opens p m gs s t mark stays r k g a = block_opens p (may_split_all (context_of s).group gs)
+    (while_split gs (context_of s)) s t mark r k g a (stays.split gs (context_of s) r)
+    (known_while_split gs (context_of s))
+
+-- an atomic block is entered
+pub atomic_opens : (p : Code) (m : Definition) (x : NameAt) (s t : Scope) (mark : Mark) → StaysReady p m
+    → IsReady p (context_of s) → Marks s mark → Grows s t
+    → (may_lock (context_of s).group x >> Holds (while_locked x.name (context_of s))) ≡ Holds (context_of t)
+    → Opened p (may_lock (context_of s).group x) (while_locked x.name (context_of s)) s t mark
+atomic_opens p m x s t mark stays r k g a = block_opens p (may_lock (context_of s).group x)
+    (while_locked x.name (context_of s)) s t mark r k g a (stays.lock x (context_of s) r)
+    (known_while_locked x.name (context_of s))
+
+-- what was entered is judged from the context inside
+pub opened_decides : (p : Code) (m : Definition) (b : Lines) (v : Verdict ⊤) (inside : Context) (s t : Scope)
+    (mark : Mark) → Opened p v inside s t mark → (v >> inside_verdict p m b (context_of s) inside)
+    ≡ inside_verdict p m b (context_of s) (context_of t)
+opened_decides p m b v inside s t mark o =
+    ap (λ (w : Verdict ⊤). w >> inside_verdict p m b (context_of s) inside) o.holds
+    ∙ ap (inside_verdict p m b (context_of s)) (sym o.context)
 
 -- what was marked before a scope grew is there, and stays there
 pub still_marked : (s t : Scope) (n m k : ℕ) → Grows s t → n ≤ length s.locals.items → m ≤ length s.trail.items

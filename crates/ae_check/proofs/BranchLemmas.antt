@@ -1,7 +1,6 @@
 -- Two branches from one scope, compared, and what the statements with blocks come to.
 use Rattle.std.proofs.Common.{◌≡◌, ℕ, Bool, true, false, ◌&&◌, List, [], ◌∷◌, take, drop, length, arith, Result, Ok}
-use Rattle.std.proofs.Common.{Err}
-use Rattle.std.proofs.Common.{Option, Some, refl, sym, ap, subst, ◌∙◌}
+use Rattle.std.proofs.Common.{Err, Option, None, Some, refl, sym, ap, subst, ◌∙◌}
 use Rattle.std.specs.Prelude.{⊤, OnOk}
 use Rattle.std.specs.Result.{IsErrAnd}
 use Rattle.ae_text.specs.declared.refusal.Spot.{Spot}
@@ -14,7 +13,7 @@ use Rattle.ae_tree.specs.declared.tree.StmtKind.{StmtKind}
 use Rattle.ae_tree.specs.declared.tree.StmtKind.TheVariants as stmt
 use Rattle.ae_tree.specs.declared.form.Form.TheVariants as formed
 use Rattle.ae_tree.specs.Plain.{Action, Lines, Definition, Code}
-use Rattle.ae_tree.specs.Shown.{expression, action, action-If_else, braced}
+use Rattle.ae_tree.specs.Shown.{expression, action, action-If, action-If_else, action-While, braced}
 use Rattle.ae_rules.specs.Answers.{Leaves}
 use Rattle.ae_rules.specs.Verdict.{Verdict, Holds, ◌>>=◌, ◌>>◌, fine, require}
 use Rattle.ae_rules.specs.Context.{Context, hold_alike}
@@ -27,7 +26,7 @@ use Rattle.ae_scope.specs.Slots.{Tied, names, local_in, all_same, now_held, rewo
 use Rattle.ae_scope.specs.Scope.{context_of}
 use Rattle.ae_scope.specs.declared.slot.Mark.{Mark}
 use Rattle.ae_scope.specs.Grows.{Marks}
-use Rattle.ae_check.specs.Blocks.{Branched, Ended, block_verdict, choice_verdict}
+use Rattle.ae_check.specs.Blocks.{Branched, Ended, block_verdict, choice_verdict, tested_verdict}
 use Rattle.std.proofs.lemmas.List.{length-map, take_all}
 use Rattle.ae_rules.specs.declared.held.Held.{Held}
 use Rattle.ae_scope.specs.Slots.{hold_at}
@@ -121,6 +120,22 @@ blocks_decide p m at c kind e then other o k l v =
     ap (λ (x : StmtKind). judge_statement p m at (action x) c) (k ∙ ap (λ (x : Option Block). stmt.If e then x) l)
     ∙ ap (λ (x : Action). judge_statement p m at x c) (action-If_else e then other)
     ∙ ap (λ (x : Verdict ⊤). x >> choice_verdict p m (braced then).lines (braced other).lines at c) v
+
+-- a choice with one branch is its block under its condition
+pub lone_block_decides : (p : Code) (m : Definition) (at : Spot) (c : Context) (kind : StmtKind) (e : Expr)
+    (then : Block) (o : Option Block) → kind ≡ stmt.If e then o → o ≡ None → judge_statement p m at (action kind) c
+    ≡ tested_verdict p m (expression e) (braced then).lines rule.BranchesDiffer at c
+lone_block_decides p m at c kind e then o k l =
+    ap (λ (x : StmtKind). judge_statement p m at (action x) c) (k ∙ ap (λ (x : Option Block). stmt.If e then x) l)
+    ∙ ap (λ (x : Action). judge_statement p m at x c) (action-If e then)
+
+-- a loop is its block under its condition
+pub loop_block_decides : (p : Code) (m : Definition) (at : Spot) (c : Context) (kind : StmtKind) (e : Expr) (b : Block)
+    → kind ≡ stmt.While e b → judge_statement p m at (action kind) c
+    ≡ tested_verdict p m (expression e) (braced b).lines rule.LoopChanges at c
+loop_block_decides p m at c kind e b k =
+    ap (λ (x : StmtKind). judge_statement p m at (action x) c) k
+    ∙ ap (λ (x : Action). judge_statement p m at x c) (action-While e b)
 
 -- an answer to what is the same
 pub answers_the_same : {A : Type 0} (v w : Verdict A) (x : A) (r : Result (Unit {0}) Deny) → v ≡ w → Leaves w x r

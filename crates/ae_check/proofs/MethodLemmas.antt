@@ -29,17 +29,19 @@ use Rattle.ae_rules.specs.Context.{Local, Context, held_of}
 use Rattle.ae_rules.specs.Judges.{start, me_local, param_local, param_called, does_stay, is_return, returns}
 use Rattle.ae_rules.specs.Judges.{end_method, judge_method}
 use Rattle.ae_scope.specs.Scope.{nothing_known, with_parameter, with_known}
-use Rattle.ae_groups.specs.Contexts.{needed}
-use Rattle.ae_check.specs.Methods.{with_needed, with_params, with_me, whole_verdict}
+use Rattle.ae_groups.specs.Contexts.{needed, no_groups}
+use Rattle.ae_check.specs.Methods.{with_groups_needed, with_params, with_me, whole_verdict}
 use Rattle.ae_check.proofs.from_text.Basics.{first_of_neither}
+use Rattle.ae_check.proofs.from_groups.PermLemmas.{known_at_start}
 use Rattle.ae_check.proofs.from_scope.ContextLemmas.{same_context}
 
 -- ---- groups
 
 -- one group, and then the others
 first_known : (ns : List GroupNeed) (x : ℕ) (xs : List ℕ) (c : Context)
-    → with_needed ns (x ∷ xs) c ≡ with_needed ns xs (with_known x (needed ns x) c)
-first_known ns x xs c = same_context (with_needed ns (x ∷ xs) c) (with_needed ns xs (with_known x (needed ns x) c)) refl
+    → with_groups_needed ns (x ∷ xs) c ≡ with_groups_needed ns xs (with_known x (needed ns x) c)
+first_known ns x xs c = same_context (with_groups_needed ns (x ∷ xs) c)
+    (with_groups_needed ns xs (with_known x (needed ns x) c)) refl
     (fun_ext (λ g. by_name g (nat_eq x g) refl (has_name xs g)))
   where
     by_name : (g : ℕ) (b : Bool) → nat_eq x g ≡ b → (d : Bool)
@@ -52,14 +54,14 @@ first_known ns x xs c = same_context (with_needed ns (x ∷ xs) c) (with_needed 
 
 -- one group more is known
 pub next_known : (ns : List GroupNeed) (xs : List NameAt) (i : ℕ) (x : NameAt) (q : GroupPerm) (c0 c d : Context)
-    → i < length xs → with_needed ns (bare_names xs) c0 ≡ with_needed ns (bare_names (drop i xs)) c
+    → i < length xs → with_groups_needed ns (bare_names xs) c0 ≡ with_groups_needed ns (bare_names (drop i xs)) c
     → q ≡ needed ns (get_or xs i x).name → d ≡ with_known (get_or xs i x).name q c
-    → with_needed ns (bare_names xs) c0 ≡ with_needed ns (bare_names (drop (i + 1) xs)) d
+    → with_groups_needed ns (bare_names xs) c0 ≡ with_groups_needed ns (bare_names (drop (i + 1) xs)) d
 next_known ns xs i x q c0 c d l r e s =
     let y = get_or xs i x in
-    r ∙ ap (λ (ys : List NameAt). with_needed ns (bare_names ys) c) (drop_more xs i x l)
+    r ∙ ap (λ (ys : List NameAt). with_groups_needed ns (bare_names ys) c) (drop_more xs i x l)
     ∙ first_known ns y.name (bare_names (drop (i + 1) xs)) c
-    ∙ ap (with_needed ns (bare_names (drop (i + 1) xs)))
+    ∙ ap (with_groups_needed ns (bare_names (drop (i + 1) xs)))
     (sym (s ∙ ap (λ (k : GroupPerm). with_known y.name k c) e))
 
 -- ---- parameters
@@ -163,20 +165,17 @@ one_is_added x f stays c w i s = same_context (with_params (x ∷ []) c) (with_p
     by_name y false e false k None g = refl
     by_name y false e true k None g = ap Some this_one
 
--- ---- the receiver
-
 -- ---- the start
 
 started : (p : Code) (m : Definition)
-    → with_params m.params (with_me p m (with_needed m.needs (bare_names m.groups)
-    (with_needed m.needs (groups_of (own_kind p m.class)) (with_known io (needed m.needs io) nothing_known))))
+    → with_params m.params (with_me p m (with_groups_needed m.needs (bare_names m.groups)
+    (with_groups_needed m.needs (groups_of (own_kind p m.class)) (with_known io (needed m.needs io) nothing_known))))
     ≡ start p m
 started p m = same_context
-    (with_params m.params (with_me p m (with_needed m.needs (bare_names m.groups)
-    (with_needed m.needs (groups_of (own_kind p m.class)) (with_known io (needed m.needs io) nothing_known)))))
+    (with_params m.params (with_me p m (with_groups_needed m.needs (bare_names m.groups)
+    (with_groups_needed m.needs (groups_of (own_kind p m.class)) (with_known io (needed m.needs io) nothing_known)))))
     (start p m) (fun_ext (λ y. by_local (nat_eq this y) m.me (option_map param_local (param_called m.params y))))
-    (fun_ext (λ g. by_group g (nat_eq io g) refl (has_name (groups_of (own_kind p m.class)) g)
-    (has_name (bare_names m.groups) g)))
+    (known_at_start p m no_groups _ _ _ refl refl refl refl)
   where
     by_local : (b : Bool) (o : Option Me) (k : Option Local)
         → given (if b then option_map (me_local p m) o else None) (if b then None else k) (λ (l : Local). Some l)
@@ -185,29 +184,15 @@ started p m = same_context
     by_local true (Some me) k = refl
     by_local false o k = refl
 
-    by_group : (g : ℕ) (a : Bool) → nat_eq io g ≡ a → (b d : Bool)
-        → (if d then Some (needed m.needs g) else if b then Some (needed m.needs g) else
-        if a then Some (needed m.needs io) else None)
-        ≡ (if a || b || d then Some (needed m.needs g) else None)
-    by_group g true e true true = refl
-    by_group g true e true false = refl
-    by_group g true e false true = refl
-    by_group g true e false false =
-        let j : io ≡ g = grind (arith, nat_tests, e) in ap (λ (z : ℕ). Some (needed m.needs z)) j
-    by_group g false e true true = refl
-    by_group g false e true false = refl
-    by_group g false e false true = refl
-    by_group g false e false false = refl
-
 -- what is known, step by step, is what is known at the start
 pub starts_so : (p : Code) (m : Definition) (c0 c1 c2 c3 c4 c5 : Context) → c0 ≡ nothing_known
-    → c1 ≡ with_known io (needed m.needs io) c0 → c2 ≡ with_needed m.needs (groups_of (own_kind p m.class)) c1
-    → c3 ≡ with_needed m.needs (bare_names m.groups) c2 → c4 ≡ with_me p m c3 → with_params m.params c4 ≡ c5
+    → c1 ≡ with_known io (needed m.needs io) c0 → c2 ≡ with_groups_needed m.needs (groups_of (own_kind p m.class)) c1
+    → c3 ≡ with_groups_needed m.needs (bare_names m.groups) c2 → c4 ≡ with_me p m c3 → with_params m.params c4 ≡ c5
     → start p m ≡ c5
 starts_so p m c0 c1 c2 c3 c4 c5 e0 e1 e2 e3 e4 e5 =
     sym (started p m)
-    ∙ ap (with_params m.params) (sym (e4 ∙ ap (with_me p m) (e3 ∙ ap (with_needed m.needs (bare_names m.groups))
-    (e2 ∙ ap (with_needed m.needs (groups_of (own_kind p m.class)))
+    ∙ ap (with_params m.params) (sym (e4 ∙ ap (with_me p m) (e3 ∙ ap (with_groups_needed m.needs (bare_names m.groups))
+    (e2 ∙ ap (with_groups_needed m.needs (groups_of (own_kind p m.class)))
     (e1 ∙ ap (with_known io (needed m.needs io)) e0)))))
     ∙ e5
 
@@ -230,10 +215,10 @@ last_line_returns (x ∷ ys) o e =
 
 -- at a method's start no receiver is visible before it is added
 pub no_receiver_yet : (ns : List GroupNeed) (xs ys : List ℕ) (c0 c1 c2 c3 : Context) → c0 ≡ nothing_known
-    → c1 ≡ with_known io (needed ns io) c0 → c2 ≡ with_needed ns xs c1 → c3 ≡ with_needed ns ys c2
+    → c1 ≡ with_known io (needed ns io) c0 → c2 ≡ with_groups_needed ns xs c1 → c3 ≡ with_groups_needed ns ys c2
     → c3.local this ≡ None
 no_receiver_yet ns xs ys c0 c1 c2 c3 e0 e1 e2 e3 =
-    ap (λ (c : Context). c.local this) (e3 ∙ ap (with_needed ns ys) (e2 ∙ ap (with_needed ns xs)
+    ap (λ (c : Context). c.local this) (e3 ∙ ap (with_groups_needed ns ys) (e2 ∙ ap (with_groups_needed ns xs)
     (e1 ∙ ap (with_known io (needed ns io)) e0)))
 
 pub ruleset parameters = (nothing_is_added, one_is_added, is_new_so)

@@ -1,8 +1,7 @@
 -- The statements in a statement have names of the program where it has.
-use Rattle.std.proofs.Common.{◌≡◌, ◌<◌, ◌+◌, ℕ, List, ◌∷◌, drop, get_or, length, Option, Some, None}
+use Rattle.std.proofs.Common.{◌≡◌, ◌<◌, ◌+◌, ℕ, List, ◌∷◌, drop, get_or, length, Option, Some}
 use Rattle.std.proofs.Common.{sym, ap, subst, ◌∙◌}
 use Rattle.std.proofs.lemmas.List.{drop_more}
-use Rattle.ae_tree.specs.declared.tree.NameAt.{NameAt}
 use Rattle.ae_tree.specs.declared.tree.Expr.{Expr}
 use Rattle.ae_tree.specs.declared.tree.Block.{Block}
 use Rattle.ae_tree.specs.declared.tree.Stmt.{Stmt}
@@ -38,28 +37,6 @@ pub both_blocks_named : (n : ℕ) (kind : StmtKind) (e : Expr) (then other : Blo
 both_blocks_named n kind e then other o k l f =
     let g = subst (StatementNamed n) (ap action (k ∙ ap (λ (x : Option Block). stmt.If e then x) l)
     ∙ action-If_else e then other) f in g.1
-
--- the one block of a choice is named
-pub lone_block_named : (n : ℕ) (kind : StmtKind) (e : Expr) (then : Block) (o : Option Block)
-    → kind ≡ stmt.If e then o → o ≡ None → StatementNamed n (action kind) → LinesNamed n (braced then).lines
-lone_block_named n kind e then o k l f =
-    let g = subst (StatementNamed n) (ap action (k ∙ ap (λ (x : Option Block). stmt.If e then x) l)
-    ∙ action-If e then) f in g.1
-
--- the block of a loop is named
-pub loop_block_named : (n : ℕ) (kind : StmtKind) (e : Expr) (b : Block) → kind ≡ stmt.While e b
-    → StatementNamed n (action kind) → LinesNamed n (braced b).lines
-loop_block_named n kind e b k f = let g = subst (StatementNamed n) (ap action k ∙ action-While e b) f in g.1
-
--- the block of a split is named
-pub split_block_named : (n : ℕ) (kind : StmtKind) (gs : List NameAt) (b : Block) → kind ≡ stmt.Split gs b
-    → StatementNamed n (action kind) → LinesNamed n (braced b).lines
-split_block_named n kind gs b k f = let g = subst (StatementNamed n) (ap action k ∙ action-Split gs b) f in g.1
-
--- an atomic block is named
-pub atomic_block_named : (n : ℕ) (kind : StmtKind) (g : NameAt) (b : Block) → kind ≡ stmt.Atomic g b
-    → StatementNamed n (action kind) → LinesNamed n (braced b).lines
-atomic_block_named n kind g b k f = let h = subst (StatementNamed n) (ap action k ∙ action-Atomic g b) f in h.1
 
 pub ruleset lines = (grows_same, grows_then, this_line_named)
 

@@ -31,6 +31,7 @@ use Rattle.ae_check.specs.Ready.{FormsAreKnown}
 use Rattle.ae_check.proofs.from_text.Basics.{first_of_both}
 use Rattle.ae_check.proofs.from_rules.PathLemmas.{first_holds, mapped}
 use Rattle.ae_check.proofs.from_rules.SeenLemmas.{required}
+use Rattle.ae_check.proofs.from_rules.VisibleLemmas.{back_known}
 
 -- ---- types
 
@@ -100,14 +101,6 @@ either_known : (b : Bool) (q : GroupPerm) (o : Option GroupPerm) → is_some o �
     → is_some (if b then Some q else o) ≡ true
 either_known true q o e = refl
 either_known false q o e = e
-
-back_known : (o : Option GroupPerm) → is_some o ≡ true → is_some (held_back o) ≡ true
-back_known None e = absurd (cc)
-back_known (Some group.Exclusive) e = refl
-back_known (Some group.Shared) e = refl
-back_known (Some group.Protected) e = refl
-back_known (Some group.HeldBack) e = refl
-back_known (Some group.None) e = refl
 
 -- what is known outside a split block is known inside
 pub known_while_split : (gs : List NameAt) (c : Context) (g : ℕ) → known c.group g ≡ true

@@ -1,17 +1,18 @@
 -- What is judged of a block, and what is compared after it.
-use Rattle.std.specs.Prelude.{◌≡◌, ℕ, nat_eq, nat_lt, Bool, true, ◌&&◌, not, List, length, drop, ⊤}
+use Rattle.std.specs.Prelude.{◌≡◌, ℕ, nat_lt, Bool, true, ◌&&◌, not, List, length, drop, ⊤}
 use Rattle.std.specs.List.{list_any}
-use Rattle.std.specs.HashSet.{HashSet, contains}
 use Rattle.ae_text.specs.declared.refusal.Spot.{Spot}
 use Rattle.ae_text.specs.declared.refusal.Rule.{Rule}
 use Rattle.ae_text.specs.declared.refusal.Rule.TheVariants as rule
 use Rattle.ae_tree.specs.declared.tree.NameAt.{NameAt}
-use Rattle.ae_tree.specs.Plain.{Lines, Definition, Code}
+use Rattle.ae_tree.specs.declared.form.Form.TheVariants as f
+use Rattle.ae_tree.specs.Plain.{Expression, Lines, Definition, Code}
 use Rattle.ae_rules.specs.declared.held.Held.TheVariants as held
 use Rattle.ae_rules.specs.Verdict.{Verdict, Holds, ◌>>=◌, ◌>>◌, require}
 use Rattle.ae_rules.specs.Lookups.{Names}
 use Rattle.ae_rules.specs.Groups.{known}
 use Rattle.ae_rules.specs.Context.{Context, same_held, hold_alike}
+use Rattle.ae_rules.specs.Expressions.{is_value}
 use Rattle.ae_rules.specs.Statements.{judge_lines, end_block, branches_meet}
 use Rattle.ae_scope.specs.declared.scope.Scope.{Scope}
 use Rattle.ae_scope.specs.declared.slot.Change.{Change}
@@ -32,6 +33,10 @@ block_verdict p m b c = inside_verdict p m b c c
 -- a block after which each local from outside holds the same as before
 abbrev pub body_verdict : Code → Definition → Lines → Rule → Spot → Context → Verdict Context
 body_verdict p m b rule at c = block_verdict p m b c >>= λ d. require (hold_alike p c d c) rule at >> Holds c
+
+-- a block under a condition, after which each local from outside holds the same as before
+abbrev pub tested_verdict : Code → Definition → Expression → Lines → Rule → Spot → Context → Verdict Context
+tested_verdict p m e b rule at c = is_value p c f.Bool e >> body_verdict p m b rule at c
 
 -- after these changes each local from before holds the same
 abbrev pub keeps_held : Code → ℕ → Scope → Rule → Spot → Verdict Context
@@ -64,10 +69,6 @@ pub record Branched (s u : Scope) (mark : Mark) (first : List Change) (w : Scope
   pub first_ended : Ended s u
   pub noted : first ≡ now_held (drop mark.changes u.trail.items) u.locals.items
   pub second_ended : Ended s w
-
--- the names in a set
-abbrev pub names_in : {S : Type 0} → HashSet ℕ S → Names
-names_in set g = contains nat_eq set g
 
 -- one of the first n locals holds what is shared in this group
 abbrev pub shares_outside : ℕ → ℕ → Change → Bool

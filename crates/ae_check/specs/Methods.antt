@@ -5,16 +5,15 @@ use Rattle.ae_tree.specs.declared.tree.GroupNeed.{GroupNeed}
 use Rattle.ae_tree.specs.Names.{this}
 use Rattle.ae_tree.specs.Plain.{Definition, Code}
 use Rattle.ae_rules.specs.Verdict.{Verdict, ◌>>=◌, given}
-use Rattle.ae_rules.specs.Lookups.{has_name}
 use Rattle.ae_rules.specs.Context.{Local, Context}
-use Rattle.ae_groups.specs.Contexts.{needed}
+use Rattle.ae_groups.specs.Contexts.{with_needed}
 use Rattle.ae_rules.specs.Judges.{me_local, param_local, param_called, end_method}
 use Rattle.ae_code.specs.declared.checked.Checked.{Checked}
 use Rattle.ae_check.specs.Blocks.{block_verdict}
 
 -- more groups are known, each with the permission of its need
-abbrev pub with_needed : List GroupNeed → List ℕ → Context → Context
-with_needed ns xs c = record c { group = λ g. if has_name xs g then Some (needed ns g) else c.group g }
+abbrev pub with_groups_needed : List GroupNeed → List ℕ → Context → Context
+with_groups_needed ns xs c = record c { group = with_needed ns xs c.group }
 
 -- more parameters are visible: of those with one name the first, and none that is called `this`
 abbrev pub with_params : List Param → Context → Context

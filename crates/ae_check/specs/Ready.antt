@@ -33,8 +33,7 @@ pub record IsReady (p : Code) (c : Context) : Type 0 where
   pub forms : FormsAreKnown c
 
 -- a method begins so; judged statements whose names are the program's keep it, and split and atomic blocks begin so;
--- and
--- a group that judged statements declare was not known before them
+-- and a group that judged statements declare was not known before them
 pub record StaysReady (p : Code) (m : Definition) : Type 0 where
   pub first : IsReady p (start p m)
   pub statement : (at : Spot) (a : Action) (c d : Context) → StatementNamed (length p.names) a → IsReady p c

@@ -13,8 +13,8 @@ abbrev pub introduced : ℕ → Context → Introduced → Context
 introduced x c a = with_local x a.form (all_moved a.moved.items c)
 
 -- the context after an assignment
-abbrev pub assigned : ℕ → Context → Assigned → Context
-assigned x c a = with_held x a.held (all_moved a.moved.items c)
+abbrev pub after_assignment : ℕ → Context → Assigned → Context
+after_assignment x c a = with_held x a.held (all_moved a.moved.items c)
 
 -- a call as a statement: the context after it
 abbrev pub called : Code → Context → Invocation → Verdict Context

@@ -12,15 +12,13 @@ ghost use Rattle.ae_scope.specs.Scope.{context_of};
 ghost use Rattle.ae_scope.specs.Slots.{now_held, rewound};
 ghost use Rattle.ae_scope.specs.Grows.{Grows};
 ghost use Rattle.ae_check.specs.Ready.{IsReady, StaysReady, StatementNamed, LinesNamed};
-ghost use Rattle.ae_check.specs.Blocks.{Began, Branched, Ended, block_verdict, body_verdict, inside_verdict};
-ghost use Rattle.ae_check.specs.Blocks.{keeps_held};
+ghost use Rattle.ae_check.specs.Blocks.{Began, Branched, Ended, block_verdict, body_verdict};
+ghost use Rattle.ae_check.specs.Blocks.{inside_verdict, keeps_held, tested_verdict};
 
 use crate::escapes::groups_stay;
 use crate::laws::{context_is_ready, lines_are_named};
-use crate::simple::{
-    call, judge_assign, judge_freeze, judge_let, judge_return, judge_share, prints, store, store_at,
-};
-use ae_judge::{Scalar, Tabled, deny, is_value, judge_value};
+use crate::simple::judge_simple;
+use ae_judge::{Scalar, Tabled, deny, is_value};
 use ae_scope::{Change, Mark, Scope};
 use ae_text::{Deny, Rule, Spot};
 use ae_tree::{Block, Expr, Method, NameAt, Stmt, StmtKind};
@@ -199,52 +197,28 @@ fn judge_body(
     meet(tabled, scope, mark.changes, rule, at)
 }
 
-// A choice with one branch.
+// A block under a condition, after which each local from outside holds the same as before.
 #[cycle(statements)]
 #[tactic(auto, using(crate::proofs::NamedLemmas::statements))]
-fn judge_branch(
-    tabled: &Tabled,
-    method: &Method,
-    scope: &mut Scope,
-    then: &Block,
-    expr: &Expr,
-    at: Spot,
-) -> Result<(), Deny>
-    requires table { length scope.old.at.items ≡ length tabled.now.program.now.names }
-    requires stays { StaysReady (code_of tabled.now) (definition method.now) }
-    requires ready { IsReady (code_of tabled.now) (context_of scope.old) }
-    requires named { LinesNamed (length tabled.now.program.now.names) (braced then.now).lines }
-    ensures answer { Leaves (spec.judge_statement (code_of tabled.now) (definition method.now) at
-        (plain.Chooses (expression expr.now) (braced then.now).no (braced then.now).lines) (context_of scope.old))
-        (context_of scope.new) result }
-    ensures grows { OnOk result (Grows scope.old scope.new) }
-{
-    is_value(tabled, scope, Scalar::Bool, expr)?;
-    judge_body(tabled, method, scope, then, Rule::BranchesDiffer, at)
-}
-
-// A loop.
-#[cycle(statements)]
-#[tactic(auto, using(crate::proofs::NamedLemmas::statements))]
-fn judge_loop(
+fn judge_tested(
     tabled: &Tabled,
     method: &Method,
     scope: &mut Scope,
     block: &Block,
     expr: &Expr,
+    rule: Rule,
     at: Spot,
 ) -> Result<(), Deny>
     requires table { length scope.old.at.items ≡ length tabled.now.program.now.names }
     requires stays { StaysReady (code_of tabled.now) (definition method.now) }
     requires ready { IsReady (code_of tabled.now) (context_of scope.old) }
     requires named { LinesNamed (length tabled.now.program.now.names) (braced block.now).lines }
-    ensures answer { Leaves (spec.judge_statement (code_of tabled.now) (definition method.now) at
-        (plain.Repeats (expression expr.now) (braced block.now).no (braced block.now).lines) (context_of
-        scope.old)) (context_of scope.new) result }
+    ensures answer { Leaves (tested_verdict (code_of tabled.now) (definition method.now) (expression expr.now)
+        (braced block.now).lines rule at (context_of scope.old)) (context_of scope.new) result }
     ensures grows { OnOk result (Grows scope.old scope.new) }
 {
     is_value(tabled, scope, Scalar::Bool, expr)?;
-    judge_body(tabled, method, scope, block, Rule::LoopChanges, at)
+    judge_body(tabled, method, scope, block, rule, at)
 }
 
 // A split block: inside it its groups are shared.
@@ -315,11 +289,6 @@ pub fn judge_stmt(
 {
     let at = stmt.at;
     match &stmt.kind {
-        StmtKind::Let(ty, x, rhs) => judge_let(tabled, scope, ty, *x, rhs),
-        StmtKind::Assign(x, rhs) => judge_assign(tabled, scope, *x, rhs),
-        StmtKind::Field(path, expr) => store(tabled, scope, path, expr),
-        StmtKind::Index(path, index, expr) => store_at(tabled, scope, path, index, expr),
-        StmtKind::Call(invoked) => call(tabled, scope, invoked),
         StmtKind::If(expr, then, otherwise) => match otherwise {
             Some(other) => {
                 is_value(tabled, scope, Scalar::Bool, expr)?;
@@ -334,14 +303,13 @@ pub fn judge_stmt(
             }
             None => {
                 lines_are_named(tabled, then);
-                judge_branch(tabled, method, scope, then, expr, at)
+                judge_tested(tabled, method, scope, then, expr, Rule::BranchesDiffer, at)
             }
         },
         StmtKind::While(expr, block) => {
             lines_are_named(tabled, block);
-            judge_loop(tabled, method, scope, block, expr, at)
+            judge_tested(tabled, method, scope, block, expr, Rule::LoopChanges, at)
         }
-        StmtKind::Group(group) => scope.declare_group(*group),
         StmtKind::Split(groups, block) => {
             lines_are_named(tabled, block);
             judge_split(tabled, method, scope, groups.as_slice(), block)
@@ -350,14 +318,17 @@ pub fn judge_stmt(
             lines_are_named(tabled, block);
             judge_atomic(tabled, method, scope, *group, block)
         }
-        StmtKind::Freeze(x) => judge_freeze(scope, *x),
-        StmtKind::Share(x, group) => judge_share(scope, *x, *group),
-        StmtKind::PrintExpr(expr) => {
-            judge_value(tabled, scope, expr)?;
-            prints(scope, at)
-        }
-        StmtKind::PrintText(_) => prints(scope, at),
-        StmtKind::Assert(expr) => is_value(tabled, scope, Scalar::Bool, expr),
-        StmtKind::Return(expr) => judge_return(tabled, method, scope, expr, at),
+        StmtKind::Let(..)
+        | StmtKind::Assign(..)
+        | StmtKind::Field(..)
+        | StmtKind::Index(..)
+        | StmtKind::Call(_)
+        | StmtKind::Group(_)
+        | StmtKind::Freeze(_)
+        | StmtKind::Share(..)
+        | StmtKind::PrintExpr(_)
+        | StmtKind::PrintText(_)
+        | StmtKind::Assert(_)
+        | StmtKind::Return(_) => judge_simple(tabled, method, scope, stmt),
     }
 }

@@ -6,8 +6,9 @@ ghost use Rattle.ae_rules.specs.Answers.{Answers, done};
 ghost use Rattle.ae_rules.specs.BlockLaws.{group_in_line, groups_in_lines};
 ghost use Rattle.ae_rules.specs.Lookups.{is_empty};
 ghost use Rattle.ae_rules.specs.Verdict.{each, given};
+ghost use Rattle.ae_groups.specs.Contexts.{set_of_names};
 ghost use Rattle.ae_scope.specs.Slots.{now_held};
-ghost use Rattle.ae_check.specs.Blocks.{is_not_left, left_outside, names_in, shares_outside};
+ghost use Rattle.ae_check.specs.Blocks.{is_not_left, left_outside, shares_outside};
 
 use ae_judge::{Tabled, deny};
 use ae_rules::Held;
@@ -82,7 +83,7 @@ fn groups_shared(
     changes: &[Change],
     locals: usize,
 ) -> Result<HashSet<Name>, AllocError>
-    ensures { IfOk result (λ set. (g : ℕ) → names_in set g ≡ list_any (shares_outside locals g) changes.now) }
+    ensures { IfOk result (λ set. (g : ℕ) → set_of_names set g ≡ list_any (shares_outside locals g) changes.now) }
 {
     let mut groups = HashSet::new(alloc);
     for change in changes {
@@ -98,7 +99,7 @@ fn groups_shared(
 
 // No group that the block declares is one of these.
 fn none_left(groups: &HashSet<Name>, block: &Block) -> Result<(), Deny>
-    ensures { Answers (each (is_not_left (names_in groups.now)) (groups_in_lines (braced block.now).lines)) done
+    ensures { Answers (each (is_not_left (set_of_names groups.now)) (groups_in_lines (braced block.now).lines)) done
         result }
 {
     for stmt in block.stmts.as_slice() {

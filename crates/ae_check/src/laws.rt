@@ -11,9 +11,8 @@ use ae_scope::Scope;
 use ae_tree::Block;
 
 /// In each method of a well-shaped program whose declarations hold only names of the program are visible, of each
-/// local is
-/// held what may be, and the groups of the forms of locals are known: at its start, after each judged statement, and at
-/// the beginning of its split and atomic blocks.
+/// local is held what may be, and the groups of the forms of locals are known: at its start, after each judged
+/// statement, and at the beginning of its split and atomic blocks.
 pub fn judging_stays_ready()
     ensures { JudgingStaysReady }
 {

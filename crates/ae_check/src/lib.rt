@@ -13,5 +13,5 @@ pub use laws::judging_stays_ready;
 pub use methods::{end_method, judge_method, start};
 pub use program::check_program;
 pub use simple::{
-    judge_assign, judge_freeze, judge_let, judge_return, judge_share, prints, release,
+    judge_assign, judge_freeze, judge_let, judge_return, judge_share, judge_simple, prints, release,
 };

@@ -17,7 +17,7 @@ ghost use Rattle.ae_judge.specs.Tabled.{code_of};
 ghost use Rattle.ae_scope.specs.Scope.{Empty, context_of};
 ghost use Rattle.ae_check.specs.Ready.{IsReady, StaysReady};
 ghost use Rattle.ae_scope.specs.Grows.{Grows};
-ghost use Rattle.ae_check.specs.Methods.{whole_verdict, with_me, with_needed, with_params};
+ghost use Rattle.ae_check.specs.Methods.{whole_verdict, with_me, with_groups_needed, with_params};
 
 use crate::blocks::judge_block;
 use crate::simple::form_at;
@@ -36,7 +36,7 @@ use std::alloc::{AllocError, Global};
 fn know_groups(scope: &mut Scope, needs: &[GroupNeed], groups: &[NameAt]) -> Result<(), AllocError>
     requires { AreNamed (length scope.old.groups.perms.items) groups.now }
     ensures context { OnOk result (context_of scope.new
-        ≡ with_needed needs.now (bare_names groups.now) (context_of scope.old)) }
+        ≡ with_groups_needed needs.now (bare_names groups.now) (context_of scope.old)) }
     ensures table { OnOk result (length scope.new.at.items ≡ length scope.old.at.items) }
     ensures groups { OnOk result (length scope.new.groups.perms.items ≡ length scope.old.groups.perms.items) }
 {
@@ -264,7 +264,7 @@ fn own_class<'a>(tabled: &'a Tabled, method: &Method) -> Option<&'a Class>
 fn know_own_groups(tabled: &Tabled, method: &Method, scope: &mut Scope) -> Result<(), AllocError>
     requires classes { All (ClassNamed (length tabled.now.program.now.names)) tabled.now.program.now.classes }
     requires groups { length scope.old.groups.perms.items ≡ length tabled.now.program.now.names }
-    ensures context { OnOk result (context_of scope.new ≡ with_needed method.now.needs
+    ensures context { OnOk result (context_of scope.new ≡ with_groups_needed method.now.needs
         (lookup.groups_of (lookup.own_kind (code_of tabled.now) method.now.class)) (context_of scope.old)) }
     ensures table { OnOk result (length scope.new.at.items ≡ length scope.old.at.items) }
     ensures groups { OnOk result (length scope.new.groups.perms.items ≡ length scope.old.groups.perms.items) }

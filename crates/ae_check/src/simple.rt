@@ -1,26 +1,29 @@
 // Statements without blocks.
-ghost use Rattle.std.specs.Prelude.{◌≡◌, ◌<◌, length, false, OnOk};
+ghost use Rattle.std.specs.Prelude.{◌≡◌, ◌<◌, length, true, false, [], OnOk};
 ghost use Rattle.ae_tree.specs.Form.{form};
-ghost use Rattle.ae_tree.specs.Shown.{definition, expression, invocation, right_side};
+ghost use Rattle.ae_tree.specs.Shown.{action, definition, expression, invocation, right_side};
+ghost use Rattle.ae_tree.specs.WellShaped.{ActionNamed};
 ghost use Rattle.ae_rules.specs.Answers.{Answers, Leaves, done};
 ghost use Rattle.ae_rules.specs.Verdict.{Holds};
 ghost use Rattle.ae_rules.specs.Context.{is_visible, with_name_moved};
+ghost use Rattle.ae_rules.specs.Blocks.{blocks_in};
 ghost use Rattle.ae_rules.specs.Effects.{all_moved};
 ghost use Rattle.ae_rules.specs.Expressions.{expression_spot};
 ghost use Rattle.ae_rules.specs.Statements as spec;
 ghost use Rattle.ae_judge.specs.Tabled.{code_of};
 ghost use Rattle.ae_scope.specs.Scope.{context_of};
 ghost use Rattle.ae_scope.specs.Grows.{Grows};
-ghost use Rattle.ae_check.specs.Simple.{assigned, called, introduced};
+ghost use Rattle.ae_check.specs.Simple.{after_assignment, called, introduced};
 
 use ae_calls::{judge_call, judge_right};
 use ae_judge::{
-    Tabled, deny, forms_type, group_access, into, is_group, judge_store, judge_store_at,
+    Scalar, Tabled, deny, forms_type, group_access, into, is_group, is_value, judge_store,
+    judge_store_at, judge_value,
 };
 use ae_rules::Held;
 use ae_scope::{Scope, held_of};
 use ae_text::{Deny, Rule, Spot};
-use ae_tree::{Call, Expr, Form, IO, Method, Name, NameAt, Path, Rhs, Ty, form_of};
+use ae_tree::{Call, Expr, Form, IO, Method, Name, NameAt, Path, Rhs, Stmt, StmtKind, Ty, form_of};
 use std::alloc::{AllocError, Global};
 
 /// Nothing is held of these locals any more.
@@ -118,7 +121,7 @@ struct Assigned {
 // The premises of an assignment.
 fn may_assign(tabled: &Tabled, scope: &Scope, x: NameAt, rhs: &Rhs) -> Result<Assigned, Deny>
     ensures { Answers (spec.judge_assign (code_of tabled.now) (context_of scope.now) x (right_side rhs.now))
-        (assigned x.name (context_of scope.now)) result }
+        (after_assignment x.name (context_of scope.now)) result }
 {
     match scope.find(x.name) {
         Some(local) => {
@@ -190,10 +193,8 @@ pub fn judge_freeze(scope: &mut Scope, x: NameAt) -> Result<(), Deny>
 }
 
 /// `share`: an object held alone becomes a member of a group. Refused where the name is no local's, no object's, or
-/// that
-/// of an object that is not held alone; and where the group is not known, is `io`, or may not be reached. After a
-/// refusal
-/// what is known is not said.
+/// that of an object that is not held alone; and where the group is not known, is `io`, or may not be reached. After a
+/// refusal what is known is not said.
 pub fn judge_share(scope: &mut Scope, x: NameAt, group: NameAt) -> Result<(), Deny>
     ensures answer { Leaves (spec.judge_share (context_of scope.old) x group) (context_of scope.new) result }
     ensures grows { OnOk result (Grows scope.old scope.new) }
@@ -229,8 +230,8 @@ pub fn judge_return(
     }
 }
 
-/// A write to a field: what moves holds nothing any more. After a refusal what is known is not said.
-pub fn store(tabled: &Tabled, scope: &mut Scope, path: &Path, expr: &Expr) -> Result<(), Deny>
+// A write to a field: what moves holds nothing any more.
+fn store(tabled: &Tabled, scope: &mut Scope, path: &Path, expr: &Expr) -> Result<(), Deny>
     ensures answer { Leaves (spec.judge_store (code_of tabled.now) (context_of scope.old) path.now
         (expression expr.now) (expression_spot (expression expr.now))) (context_of scope.new) result }
     ensures grows { OnOk result (Grows scope.old scope.new) }
@@ -240,8 +241,8 @@ pub fn store(tabled: &Tabled, scope: &mut Scope, path: &Path, expr: &Expr) -> Re
     Ok(())
 }
 
-/// A write to an item of integers.
-pub fn store_at(
+// A write to an item of integers.
+fn store_at(
     tabled: &Tabled,
     scope: &Scope,
     path: &Path,
@@ -254,8 +255,8 @@ pub fn store_at(
     judge_store_at(tabled, scope, path, index, expr)
 }
 
-/// A call as a statement: what it gives is dropped.
-pub fn call(tabled: &Tabled, scope: &mut Scope, invoked: &Call) -> Result<(), Deny>
+// A call as a statement: what it gives is dropped.
+fn call(tabled: &Tabled, scope: &mut Scope, invoked: &Call) -> Result<(), Deny>
     ensures answer { Leaves (called (code_of tabled.now) (context_of scope.old) (invocation invoked.now))
         (context_of scope.new) result }
     ensures grows { OnOk result (Grows scope.old scope.new) }
@@ -263,4 +264,42 @@ pub fn call(tabled: &Tabled, scope: &mut Scope, invoked: &Call) -> Result<(), De
     let called = judge_call(tabled, scope, invoked)?;
     release(scope, called.gone.as_slice())?;
     Ok(())
+}
+
+/// A statement without blocks: refused by its first premise that fails, with its rule and place. After a refusal what
+/// is known is not said.
+#[tactic(auto, using(crate::proofs::NamedLemmas::statements))]
+pub fn judge_simple(
+    tabled: &Tabled,
+    method: &Method,
+    scope: &mut Scope,
+    stmt: &Stmt,
+) -> Result<(), Deny>
+    requires table { length scope.old.at.items ≡ length tabled.now.program.now.names }
+    requires named { ActionNamed (length tabled.now.program.now.names) (action stmt.now.kind) }
+    requires simple { blocks_in true (action stmt.now.kind) ≡ [] }
+    ensures answer { Leaves (spec.judge_statement (code_of tabled.now) (definition method.now) stmt.now.at
+        (action stmt.now.kind) (context_of scope.old)) (context_of scope.new) result }
+    ensures grows { OnOk result (Grows scope.old scope.new) }
+{
+    let at = stmt.at;
+    match &stmt.kind {
+        StmtKind::Let(ty, x, rhs) => judge_let(tabled, scope, ty, *x, rhs),
+        StmtKind::Assign(x, rhs) => judge_assign(tabled, scope, *x, rhs),
+        StmtKind::Field(path, expr) => store(tabled, scope, path, expr),
+        StmtKind::Index(path, index, expr) => store_at(tabled, scope, path, index, expr),
+        StmtKind::Call(invoked) => call(tabled, scope, invoked),
+        StmtKind::Group(group) => scope.declare_group(*group),
+        StmtKind::Freeze(x) => judge_freeze(scope, *x),
+        StmtKind::Share(x, group) => judge_share(scope, *x, *group),
+        StmtKind::PrintExpr(expr) => {
+            judge_value(tabled, scope, expr)?;
+            prints(scope, at)
+        }
+        StmtKind::PrintText(_) => prints(scope, at),
+        StmtKind::Assert(expr) => is_value(tabled, scope, Scalar::Bool, expr),
+        StmtKind::Return(expr) => judge_return(tabled, method, scope, expr, at),
+        StmtKind::If(..) | StmtKind::While(..) | StmtKind::Split(..) | StmtKind::Atomic(..) =>
+            unreachable!(),
+    }
 }

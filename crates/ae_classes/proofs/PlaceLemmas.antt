@@ -8,7 +8,6 @@ use Rattle.std.proofs.lemmas.Bool.{lt-ltb, le-ltb, ltb-true, ltb-false}
 use Rattle.std.proofs.lemmas.List.Folds.{find-append}
 use Rattle.std.proofs.lemmas.List.Elements.{filter_map-append}
 use Rattle.ae_tree.specs.Grammar.{numbers_from}
-use Rattle.ae_rules.specs.Forms.{in_place}
 use Rattle.ae_rules.specs.Verdict.{given}
 use Rattle.ae_rules.specs.declared.table.Member.{Member}
 use Rattle.ae_rules.specs.declared.table.Member.TheVariants as member
@@ -117,10 +116,3 @@ pub fields_with_last : (found : Option ℕ) (b : Bool) (n : ℕ)
 fields_with_last (Some i) b n = refl
 fields_with_last None true n = refl
 fields_with_last None false n = refl
-
--- ---- groups in the place of others
-
--- where there is nothing to put in its place, a name stays
-pub nothing_in_place : (xs : List ℕ) (g : ℕ) → in_place xs [] g ≡ g
-nothing_in_place [] g = refl
-nothing_in_place (x ∷ xs) g = refl

@@ -1,6 +1,6 @@
 -- What the maps of a class table have, one by one.
 use Rattle.std.specs.Prelude.{◌≡◌, ℕ, nat_eq, Bool, false, List, length, slice_get, filter_map, find, map, Option, Some}
-use Rattle.std.specs.Prelude.{option_map, position, None, ⊤}
+use Rattle.std.specs.Prelude.{option_map, position, ⊤}
 use Rattle.indexmap.specs.IndexMap.{IndexMap, get}
 use Rattle.ae_tree.specs.declared.tree.NameAt.{NameAt}
 use Rattle.ae_tree.specs.declared.tree.Field.{Field}
@@ -12,9 +12,7 @@ use Rattle.ae_rules.specs.declared.table.Member.{Member}
 use Rattle.ae_rules.specs.declared.table.Member.TheVariants as member
 use Rattle.ae_rules.specs.Verdict.{given}
 use Rattle.ae_rules.specs.Lookups.{class_at, method_at, class_number, top_number, top_in, is_called, member_called}
-use Rattle.ae_rules.specs.Lookups.{field_form}
 use Rattle.ae_rules.specs.Table.{Declared}
-use Rattle.ae_tree.specs.declared.form.Form.{Form}
 use Rattle.ae_classes.specs.declared.tops.TopNames.{TopNames}
 use Rattle.ae_classes.specs.Named.{named_in}
 
@@ -72,8 +70,3 @@ pub record GivesAllMembers {S : Type 0} (ms : List (IndexMap ℕ Member S)) (p :
   pub count : length ms ≡ length p.classes
   pub members : (n x : ℕ) (c : Class) → class_at p n ≡ Some c
       → option_map (λ m. get nat_eq m x) (slice_get ms n) ≡ Some (member_called p c x)
-
--- the form of the field with this number in an object of the class with this number and these groups
-abbrev pub field_form_at : Code → ℕ → ℕ → List ℕ → Option Form
-field_form_at p class field gs =
-    given (class_at p class) None (λ (c : Class). option_map (field_form c gs) (slice_get c.fields field))

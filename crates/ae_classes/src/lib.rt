@@ -3,7 +3,6 @@
 
 mod answer;
 mod declarations;
-mod form;
 mod known;
 mod lookups;
 mod main_method;
@@ -13,7 +12,6 @@ mod table;
 mod tops;
 mod types;
 
-pub use form::{field_form, form_with};
 pub use known::KnownGroups;
 pub use lookups::class_called;
 pub use table::build;

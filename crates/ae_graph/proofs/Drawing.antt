@@ -8,8 +8,6 @@ use Rattle.std.proofs.lemmas.List.Elements.{All-head, All-tail}
 use Rattle.std.proofs.lemmas.Grind.{flat_map-append}
 use Rattle.std.proofs.lemmas.List.Concat.{flat_map-cons}
 use Rattle.ae_tree.specs.Plain.{Code, Definition}
-use Rattle.ae_rules.specs.declared.uses.Footprint.{Footprint}
-use Rattle.ae_rules.specs.Edges.{BlockUses}
 use Rattle.ae_rules.specs.EdgeLists.{graph}
 use Rattle.ae_tree.specs.Limits.{Within}
 use Rattle.ae_tree.specs.WellShaped.{WellShaped}
@@ -24,8 +22,7 @@ use Rattle.ae_graph.specs.Graph.{Graph, IsGraphOf}
 use Rattle.ae_graph.specs.Drawn.{AreOfSome, IsDrawable, AreDrawable}
 use Rattle.std.proofs.lemmas.List.{take_more, map-append}
 use Rattle.ae_tree.specs.declared.tree.Method.{Method}
-use Rattle.ae_tree.specs.declared.tree.Program.{Program}
-use Rattle.ae_tree.specs.Shown.{definition, code as plain}
+use Rattle.ae_tree.specs.Shown.{definition}
 use Rattle.ae_graph.specs.GraphText.{block_text, text_of_block, text_of_method}
 use Rattle.ae_graph.proofs.Exact.{graph_is_one}
 use Rattle.ae_graph.proofs.Few.{IsFewIn, blocks_are_few}
@@ -44,10 +41,6 @@ opened_are_drawable p (x ∷ xs) (o ∷ os) a b f = (
 -- what is drawn is what some statements use
 pub drawn_are_of_some : (p : Code) (x : Opened) (o : OpenedBlock) → IsDrawable p x o → AreOfSome o.uses
 drawn_are_of_some p x o d = (scene_uses p x.1, (refl, d.opened.1.1))
-
--- and they are few
-pub drawn_are_few : (p : Code) (x : Opened) (o : OpenedBlock) → IsDrawable p x o → length o.uses ≤ 1024
-drawn_are_few p x o d = subst (λ (n : ℕ). n ≤ 1024) (sym d.opened.1.0) d.few
 
 -- what the statements of the block use, as many as it has
 pub uses_are_drawn : (p : Code) (x : Opened) (o : OpenedBlock) → IsDrawable p x o
@@ -87,11 +80,10 @@ numbered_matches p (x ∷ xs) (o ∷ os) n a = by (nat_eq o.no n) refl (numbered
     by true e h = (x, past true e, a.0)
     by false e h = later e (find (λ (q : OpenedBlock). nat_eq q.no n) os) h
 
--- the text of the graph by these uses is that of the block
+-- a block under its number and with its graph is written as its text
 pub text_is_drawn : (p : Code) (x : Opened) (o : OpenedBlock) → IsDrawable p x o → (g : Graph)
-    → IsGraphOf (scene_uses p x.1) (length o.uses) g → block_text o.no g ≡ text_of_block p x
-text_is_drawn p x o d g h = ap (λ (n : ℕ). block_text n g) d.opened.0
-    ∙ ap (block_text x.0) (graph_is_drawn p x o d g h)
+    → g ≡ scene_graph p x.1 → block_text o.no g ≡ text_of_block p x
+text_is_drawn p x o d g h = ap (λ (n : ℕ). block_text n g) d.opened.0 ∙ ap (block_text x.0) h
 
 -- the block that stands here can be drawn
 pub drawable_at : (p : Code) (xs : List Opened) (os : List OpenedBlock) → AreDrawable p xs os → (i : ℕ)
@@ -136,40 +128,29 @@ texts_one_more p old now new xs ys x e f h =
 -- the blocks of a method of an accepted program within the limits can be drawn
 pub method_is_drawable : NamesAreBelow → (p : Code) → WellShaped p → Accepts p → Within p → (k : ℕ) (m : Definition)
     → method_at p k ≡ Some m → (os : List OpenedBlock) → AreOpenedFor p (scenes p m) os → AreDrawable p (scenes p m) os
-method_is_drawable below p shaped a w k m e os h =
-    opened_are_drawable p (scenes p m) os h (below p shaped a k m e).1 (blocks_are_few p w k m e)
+method_is_drawable below p shaped a w k m e os h = opened_are_drawable p (scenes p m) os h
+    (below p shaped a k m e).1 (blocks_are_few p w k m e)
 
--- what stands under this number in the method
+-- what stands under this number among them
 pub drawn_under : (p : Code) (xs : List Opened) (os : List OpenedBlock) (n : ℕ) → AreDrawable p xs os
     → (o : OpenedBlock) → find (λ (q : OpenedBlock). nat_eq q.no n) os ≡ Some o
     → (x : Opened) × (scene_numbered n xs ≡ Some x.1) × IsDrawable p x o
 drawn_under p xs os n a o e = subst (λ (r : Option OpenedBlock). Matches p r xs n) e (numbered_matches p xs os n a)
 
--- its graph is that of the block with this number
-pub graph_under : (p : Code) (k n : ℕ) (m : Definition) → method_at p k ≡ Some m → (x : Opened)
-    → scene_numbered n (scenes p m) ≡ Some x.1 → (g : Graph) → g ≡ scene_graph p x.1 → graph_of p k n ≡ Some g
-graph_under p k n m e x f g h =
-    ap (λ (o : Option Definition). given o None
+-- a block of a method has the graph of what stands under its number there
+pub graph_in_method : (p : Code) (k n : ℕ) (m : Definition) → method_at p k ≡ Some m
+    → graph_of p k n ≡ option_map (scene_graph p) (scene_numbered n (scenes p m))
+graph_in_method p k n m e = ap (λ (o : Option Definition). given o None
     (λ (d : Definition). option_map (scene_graph p) (scene_numbered n (scenes p d)))) e
-    ∙ ap (option_map (scene_graph p)) f ∙ ap Some (sym h)
 
--- a number of no method has no graph
-pub no_method_no_graph : (p : Code) (k n : ℕ) → method_at p k ≡ None → is_some (graph_of p k n) ≡ true → ⊥
-no_method_no_graph p k n e s =
-    let f : graph_of p k n ≡ None = ap (λ (o : Option Definition). given o None
-    (λ (d : Definition). option_map (scene_graph p) (scene_numbered n (scenes p d)))) e in
-    absurd (cc)
-
--- and so has a number of no block
-pub no_block_no_graph : (p : Code) (k n : ℕ) (m : Definition) → method_at p k ≡ Some m → (os : List OpenedBlock)
-    → AreDrawable p (scenes p m) os → find (λ (q : OpenedBlock). nat_eq q.no n) os ≡ None
-    → is_some (graph_of p k n) ≡ true → ⊥
-no_block_no_graph p k n m e os a f s =
-    let h : scene_numbered n (scenes p m) ≡ None =
-    subst (λ (r : Option OpenedBlock). Matches p r (scenes p m) n) f (numbered_matches p (scenes p m) os n a) in
-    let g : graph_of p k n ≡ None = ap (λ (o : Option Definition). given o None
-    (λ (d : Definition). option_map (scene_graph p) (scene_numbered n (scenes p d)))) e
-    ∙ ap (option_map (scene_graph p)) h in
+-- a number of none of these has no graph
+pub no_graph_without_block : (p : Code) (xs : List Opened) (os : List OpenedBlock) (n : ℕ) → AreDrawable p xs os
+    → find (λ (q : OpenedBlock). nat_eq q.no n) os ≡ None
+    → is_some (option_map (scene_graph p) (scene_numbered n xs)) ≡ true → ⊥
+no_graph_without_block p xs os n a f s =
+    let h : scene_numbered n xs ≡ None =
+    subst (λ (r : Option OpenedBlock). Matches p r xs n) f (numbered_matches p xs os n a) in
+    let g : option_map (scene_graph p) (scene_numbered n xs) ≡ None = ap (option_map (scene_graph p)) h in
     absurd (cc)
 
 -- ---- the texts of methods
@@ -188,68 +169,3 @@ methods_one_more p now new ms i m l e f h =
     ∙ ap (λ (t : List ℕ). flat_map (text_of_method p) (map definition (take i ms)) ++ t)
     (flat_map-cons (text_of_method p) (definition m) [] ∙ append-nil (text_of_method p (definition m))))
     ∙ ap (flat_map (text_of_method p)) (sym q)
-
--- ---- what calls find
-
--- the program that was handed out, with what it is
-abbrev pub IsHandedOut : Program → Program → Type 0
-IsHandedOut q r = (q ≡ r) × Accepts (plain q)
-
--- the method that was found in it, with its opened blocks
-pub record AreFoundIn (q r : Program) (k : ℕ) (m : Method) (os qs : List OpenedBlock) : Type 0 where
-  pub handed : IsHandedOut q r
-  pub method : method_at (plain q) k ≡ Some (definition m)
-  pub opened : AreOpenedFor (plain r) (scenes (plain r) (definition m)) os
-  pub same : qs ≡ os
-
-method_found : (q r : Program) (k : ℕ) (m : Method) (os qs : List OpenedBlock) → AreFoundIn q r k m os qs
-    → method_at (plain r) k ≡ Some (definition m)
-method_found q r k m os qs f = subst (λ (x : Program). method_at (plain x) k ≡ Some (definition m)) f.handed.0 f.method
-
-found_drawable : NamesAreBelow → (q r : Program) (k : ℕ) (m : Method) (os qs : List OpenedBlock)
-    → AreFoundIn q r k m os qs → WellShaped (plain r) → Within (plain r)
-    → AreDrawable (plain r) (scenes (plain r) (definition m)) qs
-found_drawable below q r k m os qs f shaped w =
-    subst (λ (xs : List OpenedBlock). AreDrawable (plain r) (scenes (plain r) (definition m)) xs) (sym f.same)
-    (method_is_drawable below (plain r) shaped (subst (λ (x : Program). Accepts (plain x)) f.handed.0 f.handed.1) w k
-    (definition m) (method_found q r k m os qs f) os f.opened)
-
--- the block that was found among them
-pub found_drawn : NamesAreBelow → (q r : Program) (k : ℕ) (m : Method) (os qs : List OpenedBlock)
-    → AreFoundIn q r k m os qs → WellShaped (plain r) → Within (plain r) → (n : ℕ) (o : OpenedBlock)
-    → find (λ (b : OpenedBlock). nat_eq b.no n) qs ≡ Some o
-    → (x : Opened) × (scene_numbered n (scenes (plain r) (definition m)) ≡ Some x.1) × IsDrawable (plain r) x o
-found_drawn below q r k m os qs f shaped w n o e = drawn_under (plain r) (scenes (plain r) (definition m)) qs n
-    (found_drawable below q r k m os qs f shaped w) o e
-
--- one is found where there is a graph
-pub found_there : NamesAreBelow → (q r : Program) (k : ℕ) (m : Method) (os qs : List OpenedBlock)
-    → AreFoundIn q r k m os qs → WellShaped (plain r) → Within (plain r) → (n : ℕ)
-    → find (λ (b : OpenedBlock). nat_eq b.no n) qs ≡ None → is_some (graph_of (plain r) k n) ≡ true → ⊥
-found_there below q r k m os qs f shaped w n e s = no_block_no_graph (plain r) k n (definition m)
-    (method_found q r k m os qs f) qs (found_drawable below q r k m os qs f shaped w) e s
-
--- and the graph by its uses is the one
-pub found_graph : NamesAreBelow → (q r : Program) (k : ℕ) (m : Method) (os qs : List OpenedBlock)
-    → AreFoundIn q r k m os qs → WellShaped (plain r) → Within (plain r) → (n : ℕ) (o : OpenedBlock)
-    → find (λ (b : OpenedBlock). nat_eq b.no n) qs ≡ Some o → (fs : List Footprint) → fs ≡ o.uses → (g : Graph)
-    → ((uses : BlockUses) → AreFootprints uses (length fs) fs → IsGraphOf uses (length fs) g)
-    → graph_of (plain r) k n ≡ Some g
-found_graph below q r k m os qs f shaped w n o e fs s g h =
-    let d = found_drawn below q r k m os qs f shaped w n o e in
-    let by : (uses : BlockUses) → AreFootprints uses (length o.uses) o.uses → IsGraphOf uses (length o.uses) g =
-    subst (λ (xs : List Footprint). (uses : BlockUses) → AreFootprints uses (length xs) xs
-    → IsGraphOf uses (length xs) g) s h in
-    graph_under (plain r) k n (definition m) (method_found q r k m os qs f) d.0 d.1 g
-    (graph_is_drawn (plain r) d.0 o d.2 g (by (scene_uses (plain r) d.0.1) (uses_are_drawn (plain r) d.0 o d.2)))
-
--- the blocks of a method can be drawn in the program that was handed out
-pub handed_drawable : NamesAreBelow → (q r : Program) → IsHandedOut q r → WellShaped (plain r) → Within (plain r)
-    → (k : ℕ) (m : Method) → method_at (plain r) k ≡ Some (definition m) → (os qs : List OpenedBlock) → qs ≡ os
-    → AreOpenedFor (plain r) (scenes (plain r) (definition m)) os
-    → AreDrawable (plain q) (scenes (plain r) (definition m)) qs
-handed_drawable below q r (e, a) shaped w k m f os qs s h =
-    subst (λ (x : Program). AreDrawable (plain x) (scenes (plain r) (definition m)) qs) (sym e)
-    (subst (λ (xs : List OpenedBlock). AreDrawable (plain r) (scenes (plain r) (definition m)) xs) (sym s)
-    (method_is_drawable below (plain r) shaped (subst (λ (x : Program). Accepts (plain x)) e a) w k (definition m) f os
-    h))

@@ -301,5 +301,5 @@ pub preds_found : (b : BlockUses) (j : ℕ) (us : List Use) (f : Resource → Li
     → IsFootprintOf (b j) us
     → ((r : Resource) → f r ≡ opened b j r) → IsRisingOf (waited_by f us) waits → Preds b j waits
 preds_found b j us f waits k h r =
-    let same : f ≡ opened b j = λ i. λ x. h x i in
-    preds_are b j us waits k (subst (λ (x : Resource → List Past). IsRisingOf (waited_by x us) waits) same r)
+    let same : f ≡ opened b j = λ i. λ x. h x i in preds_are b j us waits k
+    (subst (λ (x : Resource → List Past). IsRisingOf (waited_by x us) waits) same r)

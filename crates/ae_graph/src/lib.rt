@@ -2,6 +2,7 @@
 #![tactic(auto)]
 
 mod block;
+mod drawable;
 mod preds;
 mod rising;
 mod succs;

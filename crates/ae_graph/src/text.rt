@@ -7,18 +7,22 @@ ghost use Rattle.ae_tree.specs.Plain.{Code};
 ghost use Rattle.ae_tree.specs.Shown.{definition, code as plain};
 ghost use Rattle.ae_tree.specs.Limits.{Within};
 ghost use Rattle.ae_tree.specs.WellShaped.{WellShaped};
-ghost use Rattle.ae_tree.specs.Built.{Built};
 ghost use Rattle.ae_rules.specs.Lookups.{method_at};
+ghost use Rattle.ae_rules.specs.Judges.{Accepts};
 ghost use Rattle.ae_rules.specs.Blocks.{Opened};
+ghost use Rattle.ae_judge.specs.Tabled.{code_of};
+ghost use Rattle.ae_scope.specs.Scope.{Empty};
 ghost use Rattle.ae_graph.specs.Graph.{Graph};
 ghost use Rattle.ae_graph.specs.GraphText as texts;
 ghost use Rattle.ae_graph.specs.GraphText.{written_name, spaced, line_text, lines_text, block_text};
 ghost use Rattle.ae_graph.specs.Drawn.{AreDrawable, IsDrawable};
 
-use crate::block::{BlockGraph, graph_by};
-use ae_bodies::method_uses;
+use crate::block::{BlockGraph, graph_drawn};
+use crate::drawable::{drawable_blocks, empty_scope};
+use ae_bodies::tabled_of;
 use ae_code::{Checked, Method, Name, Program};
-use ae_rules::names_are_of_the_program;
+use ae_judge::Tabled;
+use ae_scope::Scope;
 use ae_text::{Items, Memory};
 use ae_uses::OpenedBlock;
 use std::alloc::{AllocError, Global};
@@ -113,7 +117,7 @@ fn put_opened(alloc: Global, text: &mut Vec<u8>, opened: &OpenedBlock) -> Result
     ensures { (p : Code) (x : Opened) → IsDrawable p x opened.now
         → OnOk result (text.new.items ≡ text.old.items ++ texts.text_of_block p x) }
 {
-    let graph = graph_by(alloc, opened.uses.as_slice())?;
+    let graph = graph_drawn(alloc, opened)?;
     put_block(alloc, text, opened.no, &graph)
 }
 
@@ -180,39 +184,53 @@ fn put_named(
 
 // A method with the graphs of its blocks.
 fn put_method(
-    alloc: Global,
+    tabled: &Tabled,
     text: &mut Vec<u8>,
-    code: &Checked,
     method: &Method,
+    scope: &mut Scope,
 ) -> Result<(), Memory>
-    requires shaped { WellShaped (plain code.now.program) }
-    requires within { Within (plain code.now.program) }
-    requires built { Built (plain code.now.program) }
-    requires method { (n : ℕ) × (method_at (plain code.now.program) n ≡ Some (definition method.now)) }
-    ensures { OnOk result (text.new.items
-        ≡ text.old.items ++ texts.text_of_method (plain code.now.program) (definition method.now)) }
+    requires accepted { Accepts (code_of tabled.now) }
+    requires shaped { WellShaped (code_of tabled.now) }
+    requires within { Within (code_of tabled.now) }
+    requires method { (n : ℕ) × (method_at (code_of tabled.now) n ≡ Some (definition method.now)) }
+    requires empty { Empty (length tabled.now.program.now.names) scope.old }
+    ensures text { OnOk result (text.new.items
+        ≡ text.old.items ++ texts.text_of_method (code_of tabled.now) (definition method.now)) }
+    ensures empty { OnOk result (Empty (length tabled.now.program.now.names) scope.new) }
 {
-    names_are_of_the_program();
-    let program = code.program();
-    let blocks = method_uses(alloc, code, method)?;
-    match put_named(alloc, text, program, method, blocks.as_slice()) {
+    let blocks = drawable_blocks(tabled, method, scope)?;
+    let program = tabled.program;
+    match put_named(tabled.alloc, text, program, method, blocks.as_slice()) {
         Ok(()) => Ok(()),
         Err(_) => Err(Memory),
     }
 }
 
-/// The text of the graphs of an accepted program within the limits, of the forms that run: the methods in order, a class's with its name before
-/// theirs, under each its blocks that are not inside an atomic block with their numbers and how many statements they have,
-/// and a line for each statement that waits for others.
+// The methods in order, each with the graphs of its blocks.
+fn methods_text(tabled: &Tabled, scope: &mut Scope) -> Result<Items<u8>, Memory>
+    requires accepted { Accepts (code_of tabled.now) }
+    requires shaped { WellShaped (code_of tabled.now) }
+    requires within { Within (code_of tabled.now) }
+    requires empty { Empty (length tabled.now.program.now.names) scope.old }
+    ensures { IfOk result (λ text. text ≡ texts.graph_text (code_of tabled.now)) }
+{
+    let mut text = Vec::new(tabled.alloc);
+    for method in tabled.program.methods.as_slice() {
+        put_method(tabled, &mut text, method, scope)?;
+    }
+    Ok(Items::from_vec(text))
+}
+
+/// The text of the graphs of an accepted program within the limits: the methods in order, a class's with its name
+/// before theirs, under each its blocks that are not inside an atomic block, in the order in which they are opened, with
+/// their numbers and how many statements they have, and a line for each statement that waits for others. Nothing is
+/// refused but for memory.
 pub fn graph_text(alloc: Global, code: &Checked) -> Result<Items<u8>, Memory>
     requires shaped { WellShaped (plain code.now.program) }
     requires within { Within (plain code.now.program) }
-    requires built { Built (plain code.now.program) }
     ensures { IfOk result (λ text. text ≡ texts.graph_text (plain code.now.program)) }
 {
-    let mut text = Vec::new(alloc);
-    for method in code.program().methods.as_slice() {
-        put_method(alloc, &mut text, code, method)?;
-    }
-    Ok(Items::from_vec(text))
+    let tabled = tabled_of(alloc, code);
+    let mut scope = empty_scope(alloc, tabled.program.names.len())?;
+    methods_text(&tabled, &mut scope)
 }

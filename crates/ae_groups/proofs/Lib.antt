@@ -1,5 +1,6 @@
 -- The lemmas of the crates below that this one goes by, and its own.
 pub use Rattle.ae_text.proofs as from_text
+pub use Rattle.ae_rules.proofs as from_rules
 pub mod PermLemmas
 mod ClashLemmas
 pub mod TurnLemmas

@@ -22,8 +22,8 @@ use Rattle.ae_rules.specs.Groups.{Groups, same_group_perm, with_all, forget, hel
 use Rattle.ae_rules.specs.Groups.{enter_atomic, while_others_held_back}
 use Rattle.ae_rules.specs.Judges.{groups_at_start}
 use Rattle.ae_groups.specs.declared.context.GroupContext.{GroupContext}
-use Rattle.ae_groups.specs.Contexts.{groups_of, with_permission, every_held_back, needed, with_needed, AreKnown}
-use Rattle.ae_groups.specs.Contexts.{AreShared, no_groups}
+use Rattle.ae_groups.specs.Contexts.{known_groups, with_permission, every_held_back, needed, with_needed, AreKnown}
+use Rattle.ae_groups.specs.Contexts.{no_groups}
 
 -- ---- one after the other
 
@@ -104,7 +104,7 @@ known_is_within ps g e = elim (cases_lt g (length ps)) [
 ]
 
 -- known groups are within the table
-pub known_are_named : (c : GroupContext) (xs : List NameAt) → AreKnown (groups_of c) xs
+pub known_are_named : (c : GroupContext) (xs : List NameAt) → AreKnown (known_groups c) xs
     → AreNamed (length c.perms.items) xs
 known_are_named c xs h = λ i d l. known_is_within c.perms.items (get_or xs i d).name (h i d l)
 
@@ -124,7 +124,7 @@ held_back_at (p ∷ ps) (suc g) = held_back_at ps g
 
 -- a table whose permissions are held back is one of groups that are
 pub all_held_back : (c d : GroupContext) → d.perms.items ≡ map held_back c.perms.items
-    → groups_of d ≡ every_held_back (groups_of c)
+    → known_groups d ≡ every_held_back (known_groups c)
 all_held_back c d e = fun_ext (λ g. ap (λ (ps : List (Option GroupPerm)). get_or ps g None) e
     ∙ held_back_at c.perms.items g)
 

@@ -16,8 +16,8 @@ use Rattle.ae_rules.specs.Judges.{permission_needed, need_for}
 use Rattle.ae_groups.specs.declared.context.GroupContext.{GroupContext}
 
 -- the known groups of a context, each with its permission
-abbrev pub groups_of : GroupContext → Groups
-groups_of c = λ g. slice_index_or c.perms.items g None
+abbrev pub known_groups : GroupContext → Groups
+known_groups c = λ g. slice_index_or c.perms.items g None
 
 -- no group is known
 abbrev pub no_groups : Groups

@@ -25,12 +25,12 @@ impl GroupContext {
     ghost use Rattle.std.specs.Prelude.{◌≡◌, length, IfOk, OnErr};
     ghost use Rattle.ae_rules.specs.Answers.{Answers, done};
     ghost use Rattle.ae_rules.specs.Groups as group;
-    ghost use Rattle.ae_groups.specs.Contexts.{groups_of, every_held_back};
+    ghost use Rattle.ae_groups.specs.Contexts.{known_groups, every_held_back};
 
     /// A group may be locked: refused where it is not known (G1), held back (G8), or not shared (G5). Changes nothing,
     /// takes no memory.
     pub fn may_lock(&self, g: NameAt) -> Result<(), Deny>
-        ensures { Answers (group.may_lock (groups_of self.now) g) done result }
+        ensures { Answers (group.may_lock (known_groups self.now) g) done result }
     {
         if !self.knows(g.name) {
             return Err(deny(Rule::UnknownGroup, g.at));
@@ -46,7 +46,7 @@ impl GroupContext {
 
     // The context in which every shared group is held back.
     fn others_held_back(&self, alloc: Global) -> Result<GroupContext, AllocError>
-        ensures groups { IfOk result (λ c. groups_of c ≡ every_held_back (groups_of self.now)) }
+        ensures groups { IfOk result (λ c. known_groups c ≡ every_held_back (known_groups self.now)) }
         ensures table { IfOk result (λ c. length c.perms.items ≡ length self.now.perms.items) }
     {
         let mut perms = Vec::new(alloc);
@@ -60,7 +60,7 @@ impl GroupContext {
     /// outside, which the caller puts back at the block's end. Refused where the group is not known (G1), held back
     /// (G8), or not shared (G5). A refused call leaves the context unchanged.
     pub fn enter_atomic(&mut self, alloc: Global, g: NameAt) -> Result<GroupContext, Deny>
-        ensures answer { Answers (group.enter_atomic g (groups_of self.old)) (λ _. groups_of self.new) result }
+        ensures answer { Answers (group.enter_atomic g (known_groups self.old)) (λ _. known_groups self.new) result }
         ensures outside { IfOk result (λ c. c ≡ self.old) }
         ensures kept { OnErr result (self.new ≡ self.old) }
         ensures table { length self.new.perms.items ≡ length self.old.perms.items }

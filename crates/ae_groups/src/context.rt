@@ -34,11 +34,11 @@ impl GroupContext {
     ghost use Rattle.ae_rules.specs.Groups as group;
     ghost use Rattle.ae_rules.specs.Lookups.{has_name};
     ghost use Rattle.ae_rules.specs.Verdict.{require};
-    ghost use Rattle.ae_groups.specs.Contexts.{groups_of, with_permission, no_groups};
+    ghost use Rattle.ae_groups.specs.Contexts.{known_groups, with_permission, no_groups};
 
     /// A context in which no group is known, for this many names.
     pub fn new(alloc: Global, names: usize) -> Result<GroupContext, AllocError>
-        ensures groups { IfOk result (λ c. groups_of c ≡ no_groups) }
+        ensures groups { IfOk result (λ c. known_groups c ≡ no_groups) }
         ensures table { IfOk result (λ c. length c.perms.items ≡ names) }
     {
         let perms = vec![in alloc; None; names]?;
@@ -47,7 +47,7 @@ impl GroupContext {
 
     /// The permission of a group, and none exactly where it is not known. Takes no memory.
     pub fn perm(&self, g: Name) -> Option<GroupPerm>
-        ensures { result ≡ groups_of self.now g }
+        ensures { result ≡ known_groups self.now g }
     {
         match self.perms.get(g as usize) {
             Some(perm) => *perm,
@@ -57,14 +57,14 @@ impl GroupContext {
 
     /// A group with this name is known. Takes no memory.
     pub fn knows(&self, g: Name) -> bool
-        ensures { result ≡ group.known (groups_of self.now) g }
+        ensures { result ≡ group.known (known_groups self.now) g }
     {
         self.perm(g).is_some()
     }
 
     /// The group is known, with this permission. Takes no memory.
     pub fn is(&self, perm: GroupPerm, g: Name) -> bool
-        ensures { result ≡ group.group_is perm (groups_of self.now) g }
+        ensures { result ≡ group.group_is perm (known_groups self.now) g }
     {
         match self.perm(g) {
             Some(found) => is_same_group_perm(perm, found),
@@ -74,7 +74,7 @@ impl GroupContext {
 
     /// The members of the group may be reached. Takes no memory.
     pub fn opens(&self, g: Name) -> bool
-        ensures { result ≡ group.opens (groups_of self.now) g }
+        ensures { result ≡ group.opens (known_groups self.now) g }
     {
         self.is(GroupPerm::Exclusive, g) || self.is(GroupPerm::Protected, g)
     }
@@ -83,7 +83,7 @@ impl GroupContext {
     pub fn set(&mut self, g: Name, perm: Option<GroupPerm>)
         requires { g < length self.old.perms.items }
         ensures items { self.new.perms.items ≡ slice_set self.old.perms.items g perm }
-        ensures groups { groups_of self.new ≡ with_permission g perm (groups_of self.old) }
+        ensures groups { known_groups self.new ≡ with_permission g perm (known_groups self.old) }
     {
         self.perms[g as usize] = perm;
     }
@@ -91,7 +91,7 @@ impl GroupContext {
     // Each of these groups is known, with this permission.
     pub(crate) fn set_all(&mut self, gs: &[NameAt], perm: GroupPerm)
         requires { AreNamed (length self.old.perms.items) gs.now }
-        ensures groups { groups_of self.new ≡ group.with_all (has_name (bare_names gs.now)) perm (groups_of self.old) }
+        ensures groups { known_groups self.new ≡ group.with_all (has_name (bare_names gs.now)) perm (known_groups self.old) }
         ensures table { length self.new.perms.items ≡ length self.old.perms.items }
     {
         for g in gs {
@@ -101,7 +101,7 @@ impl GroupContext {
 
     /// A group may be declared: refused (N6) where a group with its name is known. Changes nothing, takes no memory.
     pub fn may_declare(&self, g: NameAt) -> Result<(), Deny>
-        ensures { Answers (require (not (group.known (groups_of self.now) g.name)) Rule.DuplicateLocal g.at) done
+        ensures { Answers (require (not (group.known (known_groups self.now) g.name)) Rule.DuplicateLocal g.at) done
             result }
     {
         if self.knows(g.name) {
@@ -114,7 +114,7 @@ impl GroupContext {
     /// call leaves the context unchanged. Takes no memory.
     pub fn declare(&mut self, g: NameAt) -> Result<(), Deny>
         requires { g.name < length self.old.perms.items }
-        ensures answer { Leaves (group.declare g (groups_of self.old)) (groups_of self.new) result }
+        ensures answer { Leaves (group.declare g (known_groups self.old)) (known_groups self.new) result }
         ensures kept { OnErr result (self.new ≡ self.old) }
         ensures table { length self.new.perms.items ≡ length self.old.perms.items }
     {
@@ -125,7 +125,7 @@ impl GroupContext {
 
     // A group is not known any more.
     fn forget_one(&mut self, g: Name)
-        ensures groups { groups_of self.new ≡ with_permission g None (groups_of self.old) }
+        ensures groups { known_groups self.new ≡ with_permission g None (known_groups self.old) }
         ensures table { length self.new.perms.items ≡ length self.old.perms.items }
     {
         if (g as usize) < self.perms.len() {
@@ -135,7 +135,7 @@ impl GroupContext {
 
     /// These groups are not known any more, as at a block's end. All others stay. Takes no memory.
     pub fn forget(&mut self, gs: &[Name])
-        ensures groups { groups_of self.new ≡ group.forget gs.now (groups_of self.old) }
+        ensures groups { known_groups self.new ≡ group.forget gs.now (known_groups self.old) }
         ensures table { length self.new.perms.items ≡ length self.old.perms.items }
     {
         for g in gs {

@@ -60,12 +60,12 @@ impl GroupContext {
     ghost use Rattle.ae_tree.specs.WellShaped.{AreNamed, ClassNamed, MethodNamed, WellShaped};
     ghost use Rattle.ae_rules.specs.Judges as spec;
     ghost use Rattle.ae_rules.specs.Lookups as lookup;
-    ghost use Rattle.ae_groups.specs.Contexts.{groups_of, with_needed};
+    ghost use Rattle.ae_groups.specs.Contexts.{known_groups, with_needed};
 
     // These groups are known, each with the permission of its need.
     fn know_all(&mut self, needs: &[GroupNeed], groups: &[NameAt])
         requires { AreNamed (length self.old.perms.items) groups.now }
-        ensures groups { groups_of self.new ≡ with_needed needs.now (bare_names groups.now) (groups_of self.old) }
+        ensures groups { known_groups self.new ≡ with_needed needs.now (bare_names groups.now) (known_groups self.old) }
         ensures table { length self.new.perms.items ≡ length self.old.perms.items }
     {
         for group in groups {
@@ -77,8 +77,8 @@ impl GroupContext {
     fn know_own(&mut self, p: &Program, method: &Method)
         requires classes { All (ClassNamed (length p.now.names)) p.now.classes }
         requires table { length self.old.perms.items ≡ length p.now.names }
-        ensures groups { groups_of self.new ≡ with_needed method.now.needs
-            (lookup.groups_of (lookup.own_kind (code p.now) method.now.class)) (groups_of self.old) }
+        ensures groups { known_groups self.new ≡ with_needed method.now.needs
+            (lookup.groups_of (lookup.own_kind (code p.now) method.now.class)) (known_groups self.old) }
         ensures table { length self.new.perms.items ≡ length self.old.perms.items }
     {
         match own_class(p, method) {
@@ -93,7 +93,7 @@ impl GroupContext {
         requires named { MethodNamed (length p.now.names) (definition method.now) }
         requires classes { All (ClassNamed (length p.now.names)) p.now.classes }
         requires names { io < length p.now.names }
-        ensures groups { IfOk result (λ c. groups_of c ≡ spec.groups_at_start (code p.now) (definition method.now)) }
+        ensures groups { IfOk result (λ c. known_groups c ≡ spec.groups_at_start (code p.now) (definition method.now)) }
         ensures table { IfOk result (λ c. length c.perms.items ≡ length p.now.names) }
     {
         let needs = method.needs.as_slice();
@@ -109,7 +109,7 @@ impl GroupContext {
         requires within { method < length p.now.methods }
         requires shaped { WellShaped (code p.now) }
         ensures groups { IfOk result (λ c. option_map (λ m. (spec.start (code p.now) m).group)
-            (lookup.method_at (code p.now) method) ≡ Some (groups_of c)) }
+            (lookup.method_at (code p.now) method) ≡ Some (known_groups c)) }
         ensures table { IfOk result (λ c. length c.perms.items ≡ length p.now.names) }
     {
         match GroupContext::start(alloc, p, &p.methods.as_slice()[method as usize]) {

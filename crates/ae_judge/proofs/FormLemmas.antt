@@ -1,14 +1,11 @@
 -- Lists of names compared, and names replaced, one after another.
-use Rattle.std.proofs.Common.{◌≡◌, ◌⊎◌, inl, inr, ℕ, ◌+◌, ◌<◌, ◌≤◌, zero}
-use Rattle.std.proofs.Common.{suc, nat_eq, Bool, true, false, ◌&&◌, if◌then◌else◌, List, [], ◌∷◌}
-use Rattle.std.proofs.Common.{◌++◌, map, length, take, drop, get_or, refl, sym, ap, ◌∙◌, arith}
+use Rattle.std.proofs.Common.{◌≡◌, inl, inr, ℕ, ◌+◌, ◌<◌, ◌≤◌}
+use Rattle.std.proofs.Common.{suc, nat_eq, Bool, true, false, if◌then◌else◌, List, [], ◌∷◌}
+use Rattle.std.proofs.Common.{length, drop, get_or, refl, ap, ◌∙◌, arith}
 use Rattle.std.specs.Prelude.{min}
 use Rattle.std.proofs.lemmas.Bool.{cases_lt, eqb-true, and_right}
-use Rattle.std.proofs.lemmas.List.{drop_more, take_more, drop_all, map-append}
-use Rattle.ae_tree.specs.declared.tree.NameAt.{NameAt}
-use Rattle.ae_tree.specs.Form.{bare_names}
+use Rattle.std.proofs.lemmas.List.{drop_more, drop_all}
 use Rattle.ae_rules.specs.Forms.{same_names, in_place}
-use Rattle.ae_judge.proofs.from_text.Basics.{number_is_itself}
 
 -- lists of two lengths have not the same names
 pub lengths_tell_apart : (xs ys : List ℕ) → (length xs ≡ length ys → ⊥) → same_names xs ys ≡ false

@@ -1,5 +1,5 @@
 -- What a class has under a name, by its kind.
-use Rattle.std.proofs.Common.{◌≡◌, ℕ, Option, None, Some, refl, sym, ap, ◌∙◌}
+use Rattle.std.proofs.Common.{◌≡◌, ℕ, Option, None, Some, refl, sym, ap}
 use Rattle.std.specs.Prelude.{option_map, slice_get}
 use Rattle.ae_tree.specs.declared.tree.Field.{Field}
 use Rattle.ae_tree.specs.declared.tree.Class.{Class}

@@ -1,5 +1,5 @@
 -- The path to the object that has a path's last field.
-use Rattle.std.proofs.Common.{◌≡◌, ℕ, ◌-◌, suc, List, [], ◌∷◌, length, take, refl, ap, ◌∙◌, arith}
+use Rattle.std.proofs.Common.{◌≡◌, ◌-◌, suc, List, [], ◌∷◌, length, take, refl, ap, ◌∙◌, arith}
 use Rattle.ae_rules.specs.Walks.{without_last}
 
 -- all steps but the last

@@ -27,4 +27,7 @@ pub use lookups::{
 pub use stores::{judge_store, judge_store_at, judge_take};
 pub use tabled::Tabled;
 pub use values::{Scalar, expression_spot, holds_nothing, is_value, judge_value};
-pub use walks::{Place, access, group_access, is_name, owner_write_access, walk, write_access};
+pub use walks::{
+    Place, access, group_access, held_in_field, held_inside, is_name, owner_write_access,
+    root_place, step, walk, without_last, write_access,
+};

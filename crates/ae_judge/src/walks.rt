@@ -58,8 +58,8 @@ fn may_change(held: Held) -> bool
     }
 }
 
-// What is held in a unique field, by what is held of the object that has it.
-fn held_inside(held: Held) -> Held
+/// What is held in a unique field, by what is held of the object that has it.
+pub fn held_inside(held: Held) -> Held
     ensures { result ≡ spec.held_inside held }
 {
     match held {
@@ -72,8 +72,8 @@ fn held_inside(held: Held) -> Held
     }
 }
 
-// What is held in a field of this form, by what is held of the object that has it.
-fn held_in_field(whole: Held, form: &Form) -> Held
+/// What is held in a field of this form, by what is held of the object that has it.
+pub fn held_in_field(whole: Held, form: &Form) -> Held
     ensures { result ≡ spec.held_in_field whole form.now }
 {
     match form {
@@ -87,8 +87,15 @@ fn held_in_field(whole: Held, form: &Form) -> Held
     }
 }
 
-// A step from a place to a field of the object there.
-fn step(tabled: &Tabled, scope: &Scope, at: Spot, x: NameAt, from: &Place) -> Result<Place, Deny>
+/// A step from a place to a field of the object there. Refused where the field is not there, and where the object may
+/// not be reached. Takes memory for the groups of the field's form alone.
+pub fn step(
+    tabled: &Tabled,
+    scope: &Scope,
+    at: Spot,
+    x: NameAt,
+    from: &Place,
+) -> Result<Place, Deny>
     ensures { Answers (spec.step (code_of tabled.now) (context_of scope.now) at x (place_of from.now)) place_of result }
 {
     match field_in(tabled, &from.form, x.name) {
@@ -102,8 +109,9 @@ fn step(tabled: &Tabled, scope: &Scope, at: Spot, x: NameAt, from: &Place) -> Re
     }
 }
 
-// The place that a visible local stands for.
-fn root_place(tabled: &Tabled, scope: &Scope, root: NameAt) -> Result<Place, Deny>
+/// The place that a visible local stands for. Refused where no local has the name. Takes memory for the groups of its
+/// form alone.
+pub fn root_place(tabled: &Tabled, scope: &Scope, root: NameAt) -> Result<Place, Deny>
     ensures { Answers (spec.walk (code_of tabled.now) (context_of scope.now) (record { root = root; steps = [] }))
         place_of result }
 {
@@ -152,9 +160,9 @@ pub fn write_access(scope: &Scope, at: Spot, held: Held) -> Result<(), Deny>
     }
 }
 
-// All but the last.
+/// All steps of a path but the last, and none of a path without steps. Takes no memory.
 #[tactic(auto, using(crate::proofs::WalkLemmas::all_but_the_last))]
-fn without_last(steps: &[NameAt]) -> &[NameAt]
+pub fn without_last(steps: &[NameAt]) -> &[NameAt]
     ensures { result.now ≡ spec.without_last steps.now }
 {
     if steps.is_empty() {

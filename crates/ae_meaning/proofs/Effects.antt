@@ -27,7 +27,7 @@ use Rattle.ae_meaning.specs.Values.{Env, TodayOutcome, Fine, Traps, Lacks, then_
 use Rattle.ae_meaning.specs.Values.{stepped, today_value}
 use Rattle.ae_meaning.specs.Meaning.{TodayState, Run, Went, Ends, Stops, today_given, bound, today_printed, today_one}
 use Rattle.ae_meaning.specs.Running.{sought}
-use Rattle.ae_meaning.specs.Judged.{Statement, uses_of, Integers, IsJudged}
+use Rattle.ae_meaning.specs.Judged.{Statement, uses_at, Integers, IsJudged}
 use Rattle.ae_meaning.specs.Frame.{expression_uses}
 use Rattle.ae_meaning.proofs.Rules.{right-given}
 use Rattle.ae_meaning.proofs.Judged.{Assigned, assign_is}
@@ -213,7 +213,7 @@ effect_read p m x j e f h = action_read p m x.at x.action x.context j.later j.bu
 -- what a statement reads it uses
 read_is_used : (p : Code) (m : Definition) (a : Action) (c : Context) (at : Spot) (y : ℕ)
     → IsSome (expression_uses p c a (resource.Local y))
-    → IsSome (uses_of p m (record { at = at; action = a; context = c }) (resource.Local y))
+    → IsSome (uses_at p m (record { at = at; action = a; context = c }) (resource.Local y))
 read_is_used p m (Declares ty x r) c at y t = used_right (write_use x.name (resource.Local y)) _ t
 read_is_used p m (Assigns x r) c at y t = used_right (write_use x.name (resource.Local y)) _ t
 read_is_used p m (Prints a) c at y t = used_left (value_uses p c a (resource.Local y)) None t
@@ -234,7 +234,7 @@ read_is_used p m (Returns a) c at y t = absurd (cc)
 
 -- The effect of a judged statement is told by the locals that it uses.
 pub effect_same : (p : Code) (m : Definition) (x : Statement) → IsJudged p m x → (e f : Env)
-    → SameOn (λ y. is_some (uses_of p m x (resource.Local y))) e f → effect x.action e ≡ effect x.action f
+    → SameOn (λ y. is_some (uses_at p m x (resource.Local y))) e f → effect x.action e ≡ effect x.action f
 effect_same p m x j e f h = effect_read p m x j e f
     (λ y r. h y (read_is_used p m x.action x.context x.at y r))
 
@@ -259,15 +259,15 @@ written : (x : ℕ) (o : Option Mode) → stronger (write_use x (resource.Local 
 written x o = ap (λ (b : Bool). stronger (if b then Some mode.Write else None) o) (number_is_itself x) ∙ write_first o
 
 action_allowed : (p : Code) (m : Definition) (at : Spot) (a : Action) (c : Context) → IsBuiltAction a → (env : Env)
-    → Allowed (uses_of p m (record { at = at; action = a; context = c })) (effect a env)
-action_allowed p m at (Declares ty x e) c b env =
-    doing_allowed (statement_uses p m (Declares ty x e) c) (sought e env) (Binds x.name)
+    → Allowed (uses_at p m (record { at = at; action = a; context = c })) (effect a env)
+action_allowed p m at (Declares ty x e) c b env = doing_allowed (statement_uses p m (Declares ty x e) c)
+    (sought e env) (Binds x.name)
     (λ v. written x.name (right_uses p c (form ty) e (resource.Local x.name)))
-action_allowed p m at (Assigns x e) c b env =
-    doing_allowed (statement_uses p m (Assigns x e) c) (sought e env) (Binds x.name)
+action_allowed p m at (Assigns x e) c b env = doing_allowed (statement_uses p m (Assigns x e) c) (sought e env)
+    (Binds x.name)
     (λ v. written x.name (expression_uses p c (Assigns x e) (resource.Local x.name)))
-action_allowed p m at (Prints e) c b env =
-    doing_allowed (statement_uses p m (Prints e) c) (today_value e env) (λ v. Adds (signed_decimal v ++ 10 ∷ []))
+action_allowed p m at (Prints e) c b env = doing_allowed (statement_uses p m (Prints e) c) (today_value e env)
+    (λ v. Adds (signed_decimal v ++ 10 ∷ []))
     (λ v. ap (λ o. stronger o (Some mode.GroupWhole)) (no_group p c io e b))
 action_allowed p m at (Stores path e) c b env = absurd b
 action_allowed p m at (StoresAt path i e) c b env = absurd b
@@ -286,5 +286,5 @@ action_allowed p m at (Returns e) c b env = absurd b
 
 -- The uses of a judged statement allow its effect.
 pub allowed : (p : Code) (m : Definition) (x : Statement) → IsJudged p m x → (env : Env)
-    → Allowed (uses_of p m x) (effect x.action env)
+    → Allowed (uses_at p m x) (effect x.action env)
 allowed p m x j env = action_allowed p m x.at x.action x.context j.built env

@@ -187,8 +187,8 @@ pub action_ends : (p : Code) (m : Definition) (at : Spot) (a : Action) (c d : Co
     → ((t : TodayState) → Fits d t.env → HasEnding (rest t))
     → HasEnding (today_and_then (today_one at a s) rest)
 action_ends p m at (Declares (ty.Int place) x (Value e)) c d b i h s f rest r =
-    let j = let_is p c d place x e h in
-    given_ends (today_value e s.env) (knows p c s.env f e b.1 j.1) at s (λ v. Went (bound x.name v s)) rest
+    let j = let_is p c d place x e h in given_ends
+    (today_value e s.env) (knows p c s.env f e b.1 j.1) at s (λ v. Went (bound x.name v s)) rest
     (λ v. r (bound x.name v s)
     (subst (λ (k : Context). Fits k (today_with x.name v s.env)) (sym j.0) (fits-declared c s.env f x.name v)))
 action_ends p m at (Declares (ty.Bool place) x e) c d b i h s f rest r = absurd b.0
@@ -198,8 +198,8 @@ action_ends p m at (Declares (ty.Int z) x (Zeros e place)) c d b i h s f rest r 
 action_ends p m at (Declares (ty.Int z) x (Made q gs args place)) c d b i h s f rest r = absurd b.1
 action_ends p m at (Declares (ty.Int z) x (Returned q)) c d b i h s f rest r = absurd b.1
 action_ends p m at (Assigns x (Value e)) c d b i h s f rest r =
-    let j : Assigned p c x.name e d = assign_is p c d i x e h in
-    given_ends (today_value e s.env) (knows p c s.env f e b j.value) at s (λ v. Went (bound x.name v s)) rest
+    let j : Assigned p c x.name e d = assign_is p c d i x e h in given_ends
+    (today_value e s.env) (knows p c s.env f e b j.value) at s (λ v. Went (bound x.name v s)) rest
     (λ v. r (bound x.name v s)
     (subst (λ (k : Context). Fits k (today_with x.name v s.env)) (sym j.after)
     (fits-assigned c s.env f x.name (held_of j.local.form) v)))
@@ -208,8 +208,8 @@ action_ends p m at (Assigns x (Zeros e place)) c d b i h s f rest r = absurd b
 action_ends p m at (Assigns x (Made q gs args place)) c d b i h s f rest r = absurd b
 action_ends p m at (Assigns x (Returned q)) c d b i h s f rest r = absurd b
 action_ends p m at (Prints e) c d b i h s f rest r =
-    let j = print_is p c d at e h in
-    given_ends (today_value e s.env) (knows p c s.env f e b j.1) at s (λ v. Went (today_printed v s)) rest
+    let j = print_is p c d at e h in given_ends
+    (today_value e s.env) (knows p c s.env f e b j.1) at s (λ v. Went (today_printed v s)) rest
     (λ v. r (today_printed v s) (subst (λ (k : Context). Fits k s.env) (sym j.0) f))
 action_ends p m at (Stores path e) c d b i h s f rest r = absurd b
 action_ends p m at (StoresAt path z e) c d b i h s f rest r = absurd b
@@ -231,8 +231,9 @@ pub lines_end : (p : Code) (m : Definition) (b : Lines) (c : Context) → AreJud
     → Fits c s.env → HasEnding (today_many b s)
 lines_end p m End c j s f = refl
 lines_end p m (Next at a rest) c j s f =
-    let first : IsJudged p m (record { at = at; action = a; context = c }) = first_judged p m at a rest c j in
-    action_ends p m at a c first.later first.built first.integers first.holds s f (today_many rest)
+    let first : IsJudged p m (record { at = at; action = a; context = c }) =
+    first_judged p m at a rest c j in action_ends
+    p m at a c first.later first.built first.integers first.holds s f (today_many rest)
     (λ t g. lines_end p m rest first.later (rest_judged p m at a rest c first.later j first.holds) t g)
 
 -- ---- programs

@@ -1,4 +1,4 @@
--- What the judgement says of the statements of the forms that run.
+-- What the judgement says of the judged_statements of the forms that run.
 use Rattle.std.proofs.Common.{◌≡◌, ℕ, Bool, true, false, not, if◌then◌else◌, nat_eq, List, [], Option, None}
 use Rattle.std.proofs.Common.{Some, refl, ap, sym, ◌∙◌, subst}
 use Rattle.std.specs.Prelude.{option_map, slice_get}
@@ -22,7 +22,7 @@ use Rattle.ae_rules.specs.Expressions.{expression_spot, judge_value, is_value, h
 use Rattle.ae_rules.specs.Into.{into}
 use Rattle.ae_rules.specs.Statements.{judge_right, judge_let, judge_assign, prints, judge_statement, judge_lines}
 use Rattle.ae_rules.specs.Judges.{me_local, param_local, param_called, start, Accepts}
-use Rattle.ae_meaning.specs.Judged.{statements, Integers, IsJudged, AreAllJudged, AreJudged}
+use Rattle.ae_meaning.specs.Judged.{judged_statements, Integers, IsJudged, AreAllJudged, AreJudged}
 use Rattle.ae_meaning.proofs.from_rules.PathLemmas.{first_holds, method_judged}
 use Rattle.ae_meaning.proofs.from_rules.SeenLemmas.{found_is}
 
@@ -48,7 +48,7 @@ held_choice false h o l f e = f l e
 pub integers-held : (c : Context) (x : ℕ) (h : Held) → Integers c → Integers (with_held x h c)
 integers-held c x h i = λ y l e. held_choice (nat_eq x y) h (c.local y) l (i y) e
 
--- ---- single statements
+-- ---- single judged_statements
 
 -- an expression that is judged has a form
 abbrev pub HasForm : Code → Context → Expression → Type 0
@@ -151,7 +151,7 @@ integers_later p m at (PrintsText text) c d b i h = absurd b
 integers_later p m at (Asserts e) c d b i h = absurd b
 integers_later p m at (Returns e) c d b i h = absurd b
 
--- ---- statements in order
+-- ---- judged_statements in order
 
 -- The first of judged lines is judged.
 pub first_judged : (p : Code) (m : Definition) (at : Spot) (a : Action) (rest : Lines) (c : Context)
@@ -172,14 +172,14 @@ rest_judged p m at a rest c d j e = record {
 
 -- Each statement of judged lines is judged.
 pub all_judged : (p : Code) (m : Definition) (b : Lines) (c : Context) → AreJudged p m b c
-    → AreAllJudged p m (statements p m b c)
+    → AreAllJudged p m (judged_statements p m b c)
 all_judged p m End c j = tt
 all_judged p m (Next at a rest) c j =
     let first : IsJudged p m (record { at = at; action = a; context = c }) = first_judged p m at a rest c j in
-    let others : AreAllJudged p m (statements p m rest first.later) = all_judged p m rest first.later
+    let others : AreAllJudged p m (judged_statements p m rest first.later) = all_judged p m rest first.later
     (rest_judged p m at a rest c first.later j first.holds) in (
       first,
-      subst (λ (v : Verdict Context). AreAllJudged p m (judged v [] (statements p m rest))) (sym first.holds)
+      subst (λ (v : Verdict Context). AreAllJudged p m (judged v [] (judged_statements p m rest))) (sym first.holds)
           others,
     )
 

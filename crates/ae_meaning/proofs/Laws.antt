@@ -11,7 +11,7 @@ use Rattle.ae_tree.specs.Names.{io}
 use Rattle.ae_rules.specs.Edges.{Uses}
 use Rattle.ae_meaning.specs.Values.{Env, today_with}
 use Rattle.ae_meaning.specs.Meaning.{TodayState, Run, Went, Ends, Stops, bound}
-use Rattle.ae_meaning.specs.Judged.{Statement, uses_of, IsJudged}
+use Rattle.ae_meaning.specs.Judged.{Statement, uses_at, IsJudged}
 use Rattle.ae_meaning.specs.declared.report.Ending.TheVariants.{Trap}
 use Rattle.ae_meaning.specs.Frame.{today_does, View, Agree, AgreeAfter, DependsOnReads, ReadsItsUses, KeepsUnwritten}
 use Rattle.ae_meaning.specs.Frame.{ChangesItsWrites, behind_bytes, AddsToTheLog, Apart, Commute, ApartCommute}
@@ -59,7 +59,7 @@ perform_keeps at u Halts w s = refl
 pub changes_its_writes : ChangesItsWrites
 changes_its_writes p m x j s =
     rw (performs x.at x.action s)
-    (perform_keeps x.at (uses_of p m x) (effect x.action s.env) (allowed p m x j s.env) s)
+    (perform_keeps x.at (uses_at p m x) (effect x.action s.env) (allowed p m x j s.env) s)
 
 -- an effect does the same whatever was printed before
 perform_adds : (at : Spot) (k : Effect) (env : Env) (log : List ℕ) → perform at k (record { env = env; log = log })
@@ -77,13 +77,13 @@ adds_to_the_log at a env log =
 
 -- a statement that went through leaves the other's effect as it was
 after_other : (p : Code) (m : Definition) (x y : Statement) → IsJudged p m x → IsJudged p m y
-    → Apart (uses_of p m x) (uses_of p m y) → (s t : TodayState) → today_does x s ≡ Went t
+    → Apart (uses_at p m x) (uses_at p m y) → (s t : TodayState) → today_does x s ≡ Went t
     → today_does y t ≡ perform y.at (effect y.action s.env) t
 after_other p m x y j k q s t e =
-    let kept : KeepsUnwritten (uses_of p m x) s (Went t) =
-    subst (λ (r : Run). KeepsUnwritten (uses_of p m x) s r) e (changes_its_writes p m x j s) in
+    let kept : KeepsUnwritten (uses_at p m x) s (Went t) =
+    subst (λ (r : Run). KeepsUnwritten (uses_at p m x) s r) e (changes_its_writes p m x j s) in
     performs y.at y.action t ∙ ap (λ k. perform y.at k t)
-    (effect_same p m y k t.env s.env (λ z r. kept.0 z (unwritten (uses_of p m x) (uses_of p m y) q z r)))
+    (effect_same p m y k t.env s.env (λ z r. kept.0 z (unwritten (uses_at p m x) (uses_at p m y) q z r)))
 
 with_swaps : (x y : ℕ) (v w : ℤ) (e : Env) → nat_eq x y ≡ false → (z : ℕ) → today_with x v (today_with y w e) z
     ≡ today_with y w (today_with x v e) z
@@ -124,7 +124,7 @@ apart_commute p m x y j k q s =
     let e : today_does x s ≡ perform x.at (effect x.action s.env) s = performs x.at x.action s in
     let f : today_does y s ≡ perform y.at (effect y.action s.env) s = performs y.at y.action s in
     rw (e, f)
-    (effects_commute x.at y.at (uses_of p m x) (uses_of p m y) q (effect x.action s.env) (effect y.action s.env)
+    (effects_commute x.at y.at (uses_at p m x) (uses_at p m y) q (effect x.action s.env) (effect y.action s.env)
     (allowed p m x j s.env) (allowed p m y k s.env) s (today_does x) (today_does y)
     (λ t h. after_other p m x y j k q s t (e ∙ h))
-    (λ t h. after_other p m y x k j (apart-turned (uses_of p m x) (uses_of p m y) q) s t (f ∙ h)))
+    (λ t h. after_other p m y x k j (apart-turned (uses_at p m x) (uses_at p m y) q) s t (f ∙ h)))

@@ -1,4 +1,4 @@
--- The laws on other orders, from those on two statements.
+-- The laws on other orders, from those on two judged_statements.
 use Rattle.std.proofs.Common.{◌≡◌, inl, inr, List, [], ◌∷◌, Option, refl, ap, sym, ◌∙◌, subst}
 use Rattle.ae_tree.specs.Plain.{Lines, End, Next, Definition, Code}
 use Rattle.ae_rules.specs.Verdict.{Verdict, judged}
@@ -6,7 +6,7 @@ use Rattle.ae_rules.specs.Context.{Context}
 use Rattle.ae_meaning.specs.declared.report.Ending.{Ending}
 use Rattle.ae_meaning.specs.Meaning.{TodayState, Run, Went, Ends, Stops, today_and_then, today_one, today_many}
 use Rattle.ae_meaning.specs.Meaning.{meaning_of_run}
-use Rattle.ae_meaning.specs.Judged.{Statement, statements, IsJudged, AreAllJudged, AreJudged}
+use Rattle.ae_meaning.specs.Judged.{Statement, judged_statements, IsJudged, AreAllJudged, AreJudged}
 use Rattle.ae_meaning.specs.Frame.{today_does, Commute}
 use Rattle.ae_meaning.specs.Order.{today_all, Takes, Reorders, OrderIsFree, TakingKeepsEnding}
 use Rattle.ae_meaning.proofs.Judged.{first_judged, rest_judged, all_judged}
@@ -32,15 +32,15 @@ commute_went f g (Went s) (Stops log) u v c h k =
 commute_went f g (Ends e log) q u v c h k = absurd (cc)
 commute_went f g (Stops log) q u v c h k = absurd (cc)
 
--- Judged lines are their statements in order.
+-- Judged lines are their judged_statements in order.
 all_are_lines : (p : Code) (m : Definition) (b : Lines) (c : Context) → AreJudged p m b c → (s : TodayState)
-    → today_all (statements p m b c) s ≡ today_many b s
+    → today_all (judged_statements p m b c) s ≡ today_many b s
 all_are_lines p m End c j s = refl
 all_are_lines p m (Next at a rest) c j s =
     let first : IsJudged p m (record { at = at; action = a; context = c }) = first_judged p m at a rest c j in
     ap (λ (v : Verdict Context). today_and_then (today_one at a s)
-    (today_all (judged v [] (statements p m rest)))) first.holds
-    ∙ next_alike (today_one at a s) (today_all (statements p m rest first.later)) (today_many rest)
+    (today_all (judged v [] (judged_statements p m rest)))) first.holds
+    ∙ next_alike (today_one at a s) (today_all (judged_statements p m rest first.later)) (today_many rest)
     (λ t. all_are_lines p m rest first.later (rest_judged p m at a rest c first.later j first.holds) t)
   where
     next_alike : (r : Run) (f g : TodayState → Run) → ((t : TodayState) → f t ≡ g t)
@@ -74,7 +74,7 @@ take_goes p m (first ∷ more) x rest (inr q) j s t h =
     (apart_commute p m first x j.0 k q.2 s) a.1 b.1 in
     rw (q.1, z.1, z.2) b.2
 
--- statements in another order lead to the same state
+-- judged_statements in another order lead to the same state
 others_go : (p : Code) (m : Definition) (xs ys : List Statement) → Reorders p m xs ys → AreAllJudged p m xs
     → (s t : TodayState) → today_all xs s ≡ Went t → today_all ys s ≡ Went t
 others_go p m xs [] q j s t h = subst (λ (l : List Statement). today_all l s ≡ Went t) q h
@@ -84,7 +84,7 @@ others_go p m xs (y ∷ ys) q j s t h =
     rw a.1 (others_go p m q.0 ys q.2 k.1 a.0 t a.2)
 
 pub order_is_free : OrderIsFree
-order_is_free p m b c j ys q s t h = others_go p m (statements p m b c) ys q (all_judged p m b c j) s t
+order_is_free p m b c j ys q s t h = others_go p m (judged_statements p m b c) ys q (all_judged p m b c j) s t
     (all_are_lines p m b c j s ∙ h)
 
 abbrev ending_of : Run → Option Ending
@@ -125,5 +125,5 @@ ending_stays p m (first ∷ more) x rest (inr q) j s t h =
 
 pub taking_keeps_ending : TakingKeepsEnding
 taking_keeps_ending p m b c j x rest q s t h =
-    ending_stays p m (statements p m b c) x rest q (all_judged p m b c j) s t h ∙ ap ending_of (all_are_lines p m b
+    ending_stays p m (judged_statements p m b c) x rest q (all_judged p m b c j) s t h ∙ ap ending_of (all_are_lines p m b
     c j s)

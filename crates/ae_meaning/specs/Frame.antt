@@ -12,7 +12,7 @@ use Rattle.ae_rules.specs.Context.{Local, Context}
 use Rattle.ae_rules.specs.Uses.{nothing, of_found, value_uses, right_uses}
 use Rattle.ae_meaning.specs.Values.{Env, today_value}
 use Rattle.ae_meaning.specs.Meaning.{TodayState, Run, Went, Ends, Stops, today_one}
-use Rattle.ae_meaning.specs.Judged.{Statement, uses_of, IsJudged}
+use Rattle.ae_meaning.specs.Judged.{Statement, uses_at, IsJudged}
 
 -- an expression's value is told by the locals that it uses
 abbrev pub ValueIsRead : Type 0
@@ -67,7 +67,7 @@ DependsOnReads = (p : Code) (m : Definition) (x : Statement) → IsJudged p m x
 -- its runs agree there
 abbrev pub ReadsItsUses : Type 0
 ReadsItsUses = (p : Code) (m : Definition) (x : Statement) → IsJudged p m x
-    → (v : View) → ((y : ℕ) → IsSome (uses_of p m x (resource.Local y)) → v.local y ≡ true)
+    → (v : View) → ((y : ℕ) → IsSome (uses_at p m x (resource.Local y)) → v.local y ≡ true)
     → (s t : TodayState) → Agree v s t → AgreeAfter v (today_does x s) (today_does x t)
 
 -- after a run, all that is not used by Write or GroupWhole is as before; the log is that of `io`
@@ -80,7 +80,7 @@ KeepsUnwritten u s (Stops log) = log ≡ s.log
 -- a judged statement changes only what it uses by Write or GroupWhole, and one that ends the run printed nothing
 abbrev pub ChangesItsWrites : Type 0
 ChangesItsWrites = (p : Code) (m : Definition) (x : Statement) → IsJudged p m x → (s : TodayState)
-    → KeepsUnwritten (uses_of p m x) s (today_does x s)
+    → KeepsUnwritten (uses_at p m x) s (today_does x s)
 
 -- a run that begins behind these bytes
 abbrev pub behind_bytes : List ℕ → Run → Run
@@ -110,5 +110,5 @@ Commute f g _ _ = Unit {0}
 -- judged statements that do not conflict commute
 abbrev pub ApartCommute : Type 0
 ApartCommute = (p : Code) (m : Definition) (x y : Statement) → IsJudged p m x → IsJudged p m y
-    → Apart (uses_of p m x) (uses_of p m y)
+    → Apart (uses_at p m x) (uses_at p m y)
     → (s : TodayState) → Commute (today_does x) (today_does y) (today_does x s) (today_does y s)

@@ -1,4 +1,4 @@
--- The statements of a method with the contexts in which they are judged.
+-- The judged_statements of a method with the contexts in which they are judged.
 use Rattle.std.specs.Prelude.{◌≡◌, ℕ, List, [], ◌∷◌, Some}
 use Rattle.ae_text.specs.declared.refusal.Spot.{Spot}
 use Rattle.ae_tree.specs.declared.form.Form.TheVariants as form_of
@@ -16,15 +16,15 @@ pub record Statement : Type 0 where
   pub action : Action
   pub context : Context
 
--- the statements of a block that begins in this context, as far as they are judged
-abbrev pub statements : Code → Definition → Lines → Context → List Statement
-statements p m End c = []
-statements p m (Next at a rest) c = record { at = at; action = a; context = c }
-    ∷ judged (judge_statement p m at a c) [] (statements p m rest)
+-- the judged_statements of a block that begins in this context, as far as they are judged
+abbrev pub judged_statements : Code → Definition → Lines → Context → List Statement
+judged_statements p m End c = []
+judged_statements p m (Next at a rest) c = record { at = at; action = a; context = c }
+    ∷ judged (judge_statement p m at a c) [] (judged_statements p m rest)
 
 -- what a statement of a method uses
-abbrev pub uses_of : Code → Definition → Statement → Uses
-uses_of p m x = statement_uses p m x.action x.context
+abbrev pub uses_at : Code → Definition → Statement → Uses
+uses_at p m x = statement_uses p m x.action x.context
 
 -- each visible local is an integer
 abbrev pub Integers : Context → Type 0
@@ -37,7 +37,7 @@ pub record IsJudged (p : Code) (m : Definition) (x : Statement) : Type 0 where
   pub later : Context
   pub holds : judge_statement p m x.at x.action x.context ≡ Holds later
 
--- each of these statements is judged
+-- each of these judged_statements is judged
 abbrev pub AreAllJudged : Code → Definition → List Statement → Type 0
 AreAllJudged p m [] = Unit {0}
 AreAllJudged p m (x ∷ xs) = IsJudged p m x × AreAllJudged p m xs

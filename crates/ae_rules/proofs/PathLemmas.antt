@@ -32,7 +32,7 @@ use Rattle.ae_rules.specs.Statements.{while_split, while_locked, end_block, bran
 use Rattle.ae_rules.specs.Statements.{judge_statement, judge_lines}
 use Rattle.ae_rules.specs.Judges.{start, judge_method, Accepts}
 use Rattle.ae_rules.specs.Uses.{statement_at, nothing, write_use, together, ◌∪◌, of_judged, of_found, outside, all_but}
-use Rattle.ae_rules.specs.Uses.{value_uses}
+use Rattle.ae_rules.specs.Uses.{value_uses, block_uses}
 use Rattle.ae_rules.specs.Uses.{call_uses, right_uses, callee_uses, statement_uses, lines_use, contexts, context_at}
 use Rattle.ae_rules.specs.Blocks.{Scene, body_scene, scene_uses}
 use Rattle.ae_rules.specs.Instances.{Point, InBlock, AtChoice, AtLoop, Nowhere, in_statement, inside, first_point}
@@ -121,6 +121,13 @@ method_judged p m a n =
     let h = each_holds (judge_method p) p.methods tt n.0 m t.2 n.1 in
     let r = first_holds (judge_lines p m m.body (start p m)) _ h.0 h.1 in
     (r.0, r.1)
+
+-- what a statement behind a judged one uses is what it uses in the rest
+pub used_behind_first : (p : Code) (m : Definition) (at : Spot) (a : Action) (rest : Lines) (c d : Context) (j : ℕ)
+    → judge_statement p m at a c ≡ Holds d
+    → block_uses p m (Next at a rest) c (suc j) ≡ block_uses p m rest d j
+used_behind_first p m at a rest c d j e = ap (λ (v : Verdict Context). of_found (statement_at rest j)
+    (λ x. of_found (slice_get (judged v [] (contexts p m rest)) j) (statement_uses p m x))) e
 
 -- ---- points
 

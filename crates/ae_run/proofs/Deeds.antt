@@ -1,22 +1,18 @@
 -- What the statements of a block do, by their numbers, from the laws of the meaning.
 use Rattle.std.proofs.Common.{◌≡◌, ◌<◌, ◌≤◌, ◌+◌, ℕ, zero, suc, Bool, true, false, [], IsSome, is_some, refl, ap}
 use Rattle.std.proofs.Common.{sym, subst, ◌∙◌, arith}
-use Rattle.std.specs.Prelude.{slice_get}
-use Rattle.ae_text.specs.declared.refusal.Spot.{Spot}
 use Rattle.ae_rules.specs.declared.uses.Resource.TheVariants.{Local}
-use Rattle.ae_tree.specs.Plain.{Action, Lines, End, Next, Definition, Code}
-use Rattle.ae_rules.specs.Verdict.{Verdict, Holds, judged}
+use Rattle.ae_tree.specs.Plain.{Lines, End, Next, Definition, Code}
 use Rattle.ae_rules.specs.Context.{Context}
-use Rattle.ae_rules.specs.Statements.{judge_statement}
 use Rattle.ae_rules.specs.Edges.{Uses, BlockUses}
-use Rattle.ae_rules.specs.Uses.{statement_at, of_found, statement_uses, contexts, block_uses}
+use Rattle.ae_rules.specs.Uses.{statement_uses, block_uses}
 use Rattle.ae_meaning.specs.Values.{Env, empty}
 use Rattle.ae_meaning.specs.Meaning.{TodayState, Run, Went, Ends, Stops, today_one}
 use Rattle.ae_meaning.specs.Frame.{View, AgreeAfter, ReadsItsUses, KeepsUnwritten, ChangesItsWrites}
 use Rattle.ae_run.specs.Flow.{alone, locals_after, found_from, found_by, is_strong_use, writes_local}
 use Rattle.ae_meaning.specs.Judged.{IsJudged, AreJudged}
 use Rattle.ae_run.proofs.Closed.{weak_from}
-use Rattle.ae_run.proofs.from_bodies.BodyLemmas.{behind}
+use Rattle.ae_run.proofs.from_rules.PathLemmas.{used_behind_first}
 use Rattle.ae_run.proofs.from_meaning.Judged.{first_judged, rest_judged}
 
 abbrev pub unprinted : Env → TodayState
@@ -50,7 +46,7 @@ alone-agrees reads p m (Next at a rest) c k (suc j) e f h =
     let first : IsJudged p m (record { at = at; action = a; context = c }) = first_judged p m at a rest c k in
     subst (λ (u : Uses). ((y : ℕ) → IsSome (u (Local y)) → e y ≡ f y)
     → AgreeAfter (seen u) (alone rest j e) (alone rest j f))
-    (sym (behind p m at a rest c first.later j first.holds))
+    (sym (used_behind_first p m at a rest c first.later j first.holds))
     (alone-agrees reads p m rest first.later (rest_judged p m at a rest c first.later k first.holds) j e f) h
 
 kept_by : (u : Uses) (env : Env) (r : Run) → KeepsUnwritten u (unprinted env) r
@@ -63,13 +59,13 @@ kept_by u env (Stops log) h = h
 alone-kept : ChangesItsWrites → (p : Code) (m : Definition) (b : Lines) (c : Context) → AreJudged p m b c
     → (j : ℕ) (env : Env) → Kept (λ y. is_strong_use (block_uses p m b c j (Local y))) env (alone b j env)
 alone-kept changes p m End c k j env = refl
-alone-kept changes p m (Next at a rest) c k zero env =
-    kept_by (statement_uses p m a c) env (today_one at a (unprinted env))
+alone-kept changes p m (Next at a rest) c k zero env = kept_by (statement_uses p m a c) env
+    (today_one at a (unprinted env))
     (changes p m (record { at = at; action = a; context = c }) (first_judged p m at a rest c k) (unprinted env))
 alone-kept changes p m (Next at a rest) c k (suc j) env =
     let first : IsJudged p m (record { at = at; action = a; context = c }) = first_judged p m at a rest c k in
     subst (λ (u : Uses). Kept (λ y. is_strong_use (u (Local y))) env (alone rest j env))
-    (sym (behind p m at a rest c first.later j first.holds))
+    (sym (used_behind_first p m at a rest c first.later j first.holds))
     (alone-kept changes p m rest first.later (rest_judged p m at a rest c first.later k first.holds) j env)
 
 -- The laws of the meaning tell of judged lines what these do with what they use.

@@ -171,12 +171,9 @@ pub ended_turn : (b : Lines) (uses : BlockUses) → Tells b uses → (went : ℕ
     → (ending : Ending) (log : List ℕ) → alone b j env ≡ Ends ending log
     → (turn b j ≡ Ends ending []) × (log ≡ [])
 ended_turn b uses tells went j env h ending log e =
-    let n : log ≡ [] = subst (λ (r : Run). Kept (writes_local uses j) env r) e (tells.kept j env) in (
-      ends_alike
-          (seen (uses j)) ending log (turn b j) refl (subst (λ (r : Run). AgreeAfter (seen (uses j)) r (turn b j)) e
-          (turn-agrees b uses tells went j env h)) n,
-      n,
-    )
+    let n : log ≡ [] = subst (λ (r : Run). Kept (writes_local uses j) env r) e (tells.kept j env) in
+    let a = subst (λ (r : Run). AgreeAfter (seen (uses j)) r (turn b j)) e (turn-agrees b uses tells went j env h) in
+    (ends_alike (seen (uses j)) ending log (turn b j) refl a n, n)
 
 stops_alike : (v : View) (log : List ℕ) (r : Run) → v.log ≡ true → AgreeAfter v (Stops log) r → log ≡ [] → r ≡ Stops []
 stops_alike v log (Went t) l h n = absurd h
@@ -188,12 +185,9 @@ pub stopped_turn : (b : Lines) (uses : BlockUses) → Tells b uses → (went : �
     → alone b j env ≡ Stops log
     → (turn b j ≡ Stops []) × (log ≡ [])
 stopped_turn b uses tells went j env h log e =
-    let n : log ≡ [] = subst (λ (r : Run). Kept (writes_local uses j) env r) e (tells.kept j env) in (
-      stops_alike
-          (seen (uses j)) log (turn b j) refl (subst (λ (r : Run). AgreeAfter (seen (uses j)) r (turn b j)) e
-          (turn-agrees b uses tells went j env h)) n,
-      n,
-    )
+    let n : log ≡ [] = subst (λ (r : Run). Kept (writes_local uses j) env r) e (tells.kept j env) in
+    let a = subst (λ (r : Run). AgreeAfter (seen (uses j)) r (turn b j)) e (turn-agrees b uses tells went j env h) in
+    (stops_alike (seen (uses j)) log (turn b j) refl a n, n)
 
 -- before anything went through
 pub values_begin : (b : Lines) (uses : BlockUses) → Tells b uses → (went : ℕ → Bool) → ((k : ℕ) → went k ≡ false)

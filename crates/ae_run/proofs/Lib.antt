@@ -1,5 +1,4 @@
 -- The lemmas of the crates below that this one goes by, and its own.
-pub use Rattle.ae_bodies.proofs as from_bodies
 pub use Rattle.ae_graph.proofs as from_graph
 pub use Rattle.ae_meaning.proofs as from_meaning
 pub use Rattle.ae_rules.proofs as from_rules

@@ -1,9 +1,9 @@
 -- The one method of an accepted program of the forms that run: its statements, its uses and its graph.
-use Rattle.std.proofs.Common.{◌≡◌, ◌<◌, inl, inr, ℕ, zero, suc, ℤ, nat_eq, if◌then◌else◌, List, [], ◌∷◌, map}
-use Rattle.std.proofs.Common.{length, get_or, slice_index_or, Option, Some, IsSome, refl, ap, sym, ◌∙◌, arith, subst}
-use Rattle.std.proofs.Common.{add-one, true, false, None}
+use Rattle.std.proofs.Common.{◌≡◌, ℕ, suc, ℤ, nat_eq, if◌then◌else◌, List, [], ◌∷◌, map}
+use Rattle.std.proofs.Common.{length, get_or, Option, Some, IsSome, refl, ap, sym, ◌∙◌, arith, subst}
+use Rattle.std.proofs.Common.{add-one, false}
 use Rattle.std.specs.Prelude.{slice_get, is_some, option_map}
-use Rattle.std.proofs.lemmas.List.{get_or_append_left, get_or_push, length-append, length-map, get_or-map}
+use Rattle.std.proofs.lemmas.List.{length-map, get_or-map}
 use Rattle.std.proofs.lemmas.List.Elements.{All-head}
 use Rattle.ae_tree.specs.declared.tree.Block.{out-Block}
 use Rattle.ae_tree.specs.declared.tree.Stmt.{Stmt}
@@ -17,7 +17,7 @@ use Rattle.ae_tree.specs.Built.{Built}
 use Rattle.ae_rules.specs.Verdict.{given}
 use Rattle.ae_rules.specs.Lookups.{method_at}
 use Rattle.ae_rules.specs.Edges.{BlockUses, Preds}
-use Rattle.ae_rules.specs.EdgeLists.{preds, graph, those_below}
+use Rattle.ae_rules.specs.EdgeLists.{preds, graph}
 use Rattle.ae_rules.specs.Uses.{nothing}
 use Rattle.ae_rules.specs.Judges.{start, Accepts}
 use Rattle.ae_rules.specs.Blocks.{body_scene, scenes, scenes_among, scene_numbered, scene_uses}
@@ -27,8 +27,9 @@ use Rattle.ae_graph.specs.Graph.{Graph, IsGraphOf}
 use Rattle.ae_meaning.specs.Meaning.{today_many, begin, meaning_of_run, main_body, today_seq}
 use Rattle.ae_meaning.specs.Frame.{ReadsItsUses, ChangesItsWrites}
 use Rattle.ae_run.specs.Main.{main_lines, main_uses, IsMainGraph, main_run}
-use Rattle.ae_run.proofs.from_text.Basics.{below_or_last, option_holds_one}
+use Rattle.ae_run.proofs.from_text.Basics.{option_holds_one}
 use Rattle.ae_run.proofs.Deeds.{Tells, lines_tell}
+use Rattle.ae_run.proofs.from_graph.Drawing.{graph_in_method}
 use Rattle.ae_run.proofs.from_graph.Exact.{all_below, length_below, number_below}
 use Rattle.ae_run.proofs.from_meaning.Judged.{body_judged}
 use Rattle.ae_run.proofs.from_meaning.Fits.{main_is}
@@ -85,8 +86,7 @@ scene_is p m e = ap (λ n. if nat_eq n 0 then Some (body_scene p m) else
 
 graph_is : (p : Code) (b : Built p) → graph_of p 0 0 ≡ Some (scene_graph p (body_scene p b.method))
 graph_is p b =
-    ap (λ (o : Option Definition). given o None
-    (λ (m : Definition). option_map (scene_graph p) (scene_numbered 0 (scenes p m)))) (method_is p b)
+    graph_in_method p 0 0 b.method (method_is p b)
     ∙ ap (option_map (scene_graph p)) (scene_is p b.method b.is_main.no)
 
 -- The body of the one method has a graph.
@@ -111,8 +111,9 @@ graph_right below p w a b g e =
     let m : Definition = b.method in
     let body : IsBelow p (m.no, body_scene p m) = All-head (IsBelow p) (m.no, body_scene p m)
     (scenes_among p m false m.body (start p m)) (below p w a 0 m (method_is p b)).1 in
-    let rows : IsGraphOf (scene_uses p (body_scene p m)) (statement_count m.body) (scene_graph p (body_scene p m)) =
-    rows_are (length p.names) (scene_uses p (body_scene p m)) (statement_count m.body) body.graph in
+    let uses : BlockUses = scene_uses p (body_scene p m) in
+    let rows : IsGraphOf uses (statement_count m.body) (scene_graph p (body_scene p m)) = rows_are (length p.names) uses
+    (statement_count m.body) body.graph in
     let same : scene_graph p (body_scene p m) ≡ g = option_holds_one (graph_of p 0 0) _ g (graph_is p b) e in
     subst (IsMainGraph p) same
     (subst

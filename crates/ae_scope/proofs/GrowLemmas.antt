@@ -10,7 +10,7 @@ use Rattle.ae_scope.specs.declared.slot.Change.{Change}
 use Rattle.ae_scope.specs.declared.slot.GroupChange.{GroupChange}
 use Rattle.ae_scope.specs.declared.scope.Scope.{Scope}
 use Rattle.ae_scope.specs.Slots.{hold_at, rewound}
-use Rattle.ae_scope.specs.Trail.{groups_back}
+use Rattle.ae_scope.specs.Trail.{groups_before}
 use Rattle.ae_scope.specs.Grows.{Grows}
 use Rattle.ae_scope.proofs.ChangeLemmas.{take_rewound, rewound_append}
 use Rattle.ae_scope.proofs.TrailLemmas.{groups_back_append, back_from_noted}
@@ -18,10 +18,10 @@ use Rattle.ae_scope.proofs.TrailLemmas.{groups_back_append, back_from_noted}
 -- the changes of groups and the groups are the same
 pub groups_stayed : (s t : Scope) → t.groups.perms.items ≡ s.groups.perms.items
     → t.group_trail.items ≡ s.group_trail.items
-    → groups_back (drop (length s.group_trail.items) t.group_trail.items) t.groups.perms.items ≡ s.groups.perms.items
+    → groups_before (drop (length s.group_trail.items) t.group_trail.items) t.groups.perms.items ≡ s.groups.perms.items
 groups_stayed s t g k =
-    ap (λ (cs : List GroupChange). groups_back (drop (length s.group_trail.items) cs) t.groups.perms.items) k
-    ∙ ap (λ (cs : List GroupChange). groups_back cs t.groups.perms.items) (drop-length s.group_trail.items) ∙ g
+    ap (λ (cs : List GroupChange). groups_before (drop (length s.group_trail.items) cs) t.groups.perms.items) k
+    ∙ ap (λ (cs : List GroupChange). groups_before cs t.groups.perms.items) (drop-length s.group_trail.items) ∙ g
 
 -- and so is the trail
 trail_stayed : (s t : Scope) → t.group_trail.items ≡ s.group_trail.items
@@ -113,7 +113,7 @@ grows_regrouped s t x q l f k g a = record {
       ∙ take-length s.group_trail.items;
   groups = back_from_noted s.group_trail.items t.group_trail.items s.groups.perms.items t.groups.perms.items x q k g
       (length s.group_trail.items) (omega arith)
-      ∙ ap (λ (cs : List GroupChange). groups_back cs s.groups.perms.items) (drop-length s.group_trail.items);
+      ∙ ap (λ (cs : List GroupChange). groups_before cs s.groups.perms.items) (drop-length s.group_trail.items);
   table = a;
 }
 
@@ -146,10 +146,10 @@ grows_on s t u g h w =
           ∙ sym (take_rewound n cs t.locals.items) ∙ g.back;
       group_trail = take_both (length s.group_trail.items) t.group_trail.items u.group_trail.items h.group_trail k
           ∙ g.group_trail;
-      groups = ap (λ (v : List GroupChange). groups_back v u.groups.perms.items)
+      groups = ap (λ (v : List GroupChange). groups_before v u.groups.perms.items)
           (drop_both (length s.group_trail.items) t.group_trail.items u.group_trail.items h.group_trail k)
           ∙ groups_back_append (drop (length s.group_trail.items) t.group_trail.items)
           (drop (length t.group_trail.items) u.group_trail.items) u.groups.perms.items
-          ∙ ap (groups_back (drop (length s.group_trail.items) t.group_trail.items)) h.groups ∙ g.groups;
+          ∙ ap (groups_before (drop (length s.group_trail.items) t.group_trail.items)) h.groups ∙ g.groups;
       table = h.table ∙ g.table;
     }

@@ -19,7 +19,7 @@ use Rattle.ae_rules.specs.Context.{Context}
 use Rattle.ae_rules.specs.Statements.{judge_group, while_split, while_locked}
 use Rattle.ae_scope.proofs.from_groups.PermLemmas.{first_is_set}
 use Rattle.ae_scope.proofs.from_groups.TurnLemmas.{first_premise_held}
-use Rattle.ae_groups.specs.Contexts.{groups_of, with_permission}
+use Rattle.ae_groups.specs.Contexts.{known_groups, with_permission}
 use Rattle.ae_scope.specs.declared.scope.Scope.{Scope}
 use Rattle.ae_scope.specs.Slots.{local_in}
 use Rattle.ae_scope.specs.Scope.{context_of, with_known, with_held_back, all_held_back}
@@ -27,7 +27,7 @@ use Rattle.ae_scope.proofs.ContextLemmas.{same_context}
 
 -- one group has another permission
 pub regrouped_as_set : (s : Scope) (gs : Groups) (x : ℕ) (q : GroupPerm)
-    → gs ≡ with_permission x (Some q) (groups_of s.groups)
+    → gs ≡ with_permission x (Some q) (known_groups s.groups)
     → record { local = local_in s.locals.items; group = gs } ≡ with_known x q (context_of s)
 regrouped_as_set s gs x q e = same_context (record { local = local_in s.locals.items; group = gs })
     (with_known x q (context_of s)) refl e

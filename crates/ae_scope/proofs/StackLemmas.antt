@@ -26,7 +26,7 @@ use Rattle.ae_scope.specs.declared.scope.Scope.{Scope}
 use Rattle.ae_scope.specs.Slots.{names, place_in, Tied, local_of, local_in, hold_at, held_at, rewound, now_held}
 use Rattle.ae_scope.specs.Slots.{all_same}
 use Rattle.ae_scope.specs.Scope.{context_of}
-use Rattle.ae_scope.specs.Trail.{groups_back}
+use Rattle.ae_scope.specs.Trail.{groups_before}
 use Rattle.ae_scope.specs.Grows.{Grows, Ends, Marks, before}
 use Rattle.ae_scope.proofs.SlotLemmas.{met, held_past}
 use Rattle.ae_scope.proofs.ChangeLemmas.{names_rewound, take_rewound}
@@ -36,7 +36,7 @@ use Rattle.ae_scope.proofs.GrowLemmas.{groups_stayed}
 -- ---- the stack cut
 
 -- where the names are alike, the same names are there
-there : (xs ys : List Slot) (x : ℕ) → names xs ≡ names ys → is_some (local_in xs x) ≡ is_some (local_in ys x)
+pub there : (xs ys : List Slot) (x : ℕ) → names xs ≡ names ys → is_some (local_in xs x) ≡ is_some (local_in ys x)
 there [] [] x e = refl
 there [] (r ∷ ys) x e = absurd (cc)
 there (s ∷ xs) [] x e = absurd (cc)
@@ -81,7 +81,7 @@ locals_ended s t u mark m e = e.locals ∙ ap (λ (n : ℕ). take n t.locals.ite
 pub groups_ended : (s t u : Scope) (mark : Mark) → Marks s mark → Grows s t → Ends mark t u
     → u.groups.perms.items ≡ s.groups.perms.items
 groups_ended s t u mark m g e =
-    e.groups ∙ ap (λ (n : ℕ). groups_back (drop n t.group_trail.items) t.groups.perms.items) m.groups ∙ g.groups
+    e.groups ∙ ap (λ (n : ℕ). groups_before (drop n t.group_trail.items) t.groups.perms.items) m.groups ∙ g.groups
 
 -- at a block's end the changes of groups are as they were
 pub group_trail_ended : (s t u : Scope) (mark : Mark) → Marks s mark → Grows s t → Ends mark t u
@@ -309,7 +309,7 @@ stack_is s u g e =
 pub groups_are : (s u : Scope) → Grows s u → u.group_trail.items ≡ s.group_trail.items
     → u.groups.perms.items ≡ s.groups.perms.items
 groups_are s u g k = sym (groups_stayed u u refl refl)
-    ∙ ap (λ (cs : List GroupChange). groups_back (drop (length cs) u.group_trail.items) u.groups.perms.items) k
+    ∙ ap (λ (cs : List GroupChange). groups_before (drop (length cs) u.group_trail.items) u.groups.perms.items) k
     ∙ g.groups
 
 -- the context before a block is the one that its changes lead back to

@@ -7,18 +7,18 @@ use Rattle.std.proofs.Math.Seq.{drop-length, drop-nil}
 use Rattle.std.proofs.lemmas.List.{drop-append-le, drop_all, length-append, get_or-set_same, get_or-set_other}
 use Rattle.std.proofs.lemmas.List.Folds.{list_any-append}
 use Rattle.ae_groups.specs.declared.context.GroupContext.{GroupContext}
-use Rattle.ae_groups.specs.Contexts.{groups_of, no_groups}
+use Rattle.ae_groups.specs.Contexts.{known_groups, no_groups}
 use Rattle.ae_rules.specs.Groups.{Groups}
 use Rattle.std.proofs.lemmas.Bool.{cases_eq, cases_lt}
 use Rattle.std.proofs.lemmas.Bool.Decides.{nat_tests}
 use Rattle.ae_rules.specs.declared.held.GroupPerm.{GroupPerm}
 use Rattle.ae_rules.specs.Lookups.{has_name}
 use Rattle.ae_scope.specs.declared.slot.GroupChange.{GroupChange}
-use Rattle.ae_scope.specs.Trail.{Listed, Rising, groups_back}
+use Rattle.ae_scope.specs.Trail.{Listed, Rising, groups_before}
 
 -- two parts of a trail are undone one after the other
 pub groups_back_append : (cs ds : List GroupChange) (gs : List (Option GroupPerm))
-    → groups_back (cs ++ ds) gs ≡ groups_back cs (groups_back ds gs)
+    → groups_before (cs ++ ds) gs ≡ groups_before cs (groups_before ds gs)
 groups_back_append [] ds gs = refl
 groups_back_append (c ∷ cs) ds gs =
     ap (λ (hs : List (Option GroupPerm)). set hs c.name c.before) (groups_back_append cs ds gs)
@@ -32,18 +32,18 @@ set_back (g ∷ gs) (suc x) q = ap (λ (hs : List (Option GroupPerm)). g ∷ hs)
 -- where a change is noted, undoing leads to what was there before it
 pub back_from_noted : (ts us : List GroupChange) (gs hs : List (Option GroupPerm)) (x : ℕ) (q : Option GroupPerm)
     → us ≡ ts ++ record { name = x; before = get_or gs x None } ∷ [] → hs ≡ set gs x q
-    → (n : ℕ) → n ≤ length ts → groups_back (drop n us) hs ≡ groups_back (drop n ts) gs
+    → (n : ℕ) → n ≤ length ts → groups_before (drop n us) hs ≡ groups_before (drop n ts) gs
 back_from_noted ts us gs hs x q e f n l =
-    ap (λ (v : List GroupChange). groups_back (drop n v) hs) e
-    ∙ ap (λ (v : List GroupChange). groups_back v hs) (drop-append-le n ts _ l)
+    ap (λ (v : List GroupChange). groups_before (drop n v) hs) e
+    ∙ ap (λ (v : List GroupChange). groups_before v hs) (drop-append-le n ts _ l)
     ∙ groups_back_append (drop n ts) _ hs
-    ∙ ap (groups_back (drop n ts)) (ap (λ (v : List (Option GroupPerm)). set v x (get_or gs x None)) f
+    ∙ ap (groups_before (drop n ts)) (ap (λ (v : List (Option GroupPerm)). set v x (get_or gs x None)) f
     ∙ set_back gs x q)
 
 -- ---- the list of the known groups
 
 -- where no group is known, any list has all that are
-pub none_are_listed : (c : GroupContext) (xs : List ℕ) → groups_of c ≡ no_groups → Listed c.perms.items xs
+pub none_are_listed : (c : GroupContext) (xs : List ℕ) → known_groups c ≡ no_groups → Listed c.perms.items xs
 none_are_listed c xs e g h = absurd (let f : false ≡ true = sym (ap (λ (gs : Groups). is_some (gs g)) e) ∙ h in cc)
 
 other_name : (x g : ℕ) → (g ≡ x → ⊥) → nat_eq x g ≡ false
@@ -76,8 +76,8 @@ listed_without_last gs hs xs ys x l e w h g i = elim (cases_eq g x) [
   | inl s ↦ absurd (let f : false ≡ true = sym (ap is_some (ap (λ (ps : List (Option GroupPerm)). get_or ps g None) e
       ∙ ap (λ (y : ℕ). get_or (set gs x None) y None) s ∙ get_or-set_same gs x None None w)) ∙ i in cc)
   | inr n ↦ (let k : has_name ys g ≡ true = h g (sym (ap is_some
-      (ap (λ (ps : List (Option GroupPerm)). get_or ps g None) e ∙ get_or-set_other gs x g None None n)) ∙ i) in
-      without_other xs ys x g l n k)
+      (ap (λ (ps : List (Option GroupPerm)). get_or ps g None) e ∙ get_or-set_other gs x g None None n))
+      ∙ i) in without_other xs ys x g l n k)
 ]
 
 -- ---- groups become known and never unknown
@@ -85,8 +85,8 @@ listed_without_last gs hs xs ys x l e w h g i = elim (cases_eq g x) [
 -- without changes
 pub nothing_has_risen : (ts : List GroupChange) (gs : List (Option GroupPerm)) → ts ≡ [] → Rising ts gs
 nothing_has_risen ts gs e m n g l h =
-    ap (λ (v : List GroupChange). is_some (get_or (groups_back v gs) g None)) (at_none n) ∙ sym
-    (ap (λ (v : List GroupChange). is_some (get_or (groups_back v gs) g None)) (at_none m)) ∙ h
+    ap (λ (v : List GroupChange). is_some (get_or (groups_before v gs) g None)) (at_none n) ∙ sym
+    (ap (λ (v : List GroupChange). is_some (get_or (groups_before v gs) g None)) (at_none m)) ∙ h
   where
     at_none : (k : ℕ) → drop k ts ≡ []
     at_none k = ap (drop k) e ∙ drop-nil k
@@ -113,37 +113,37 @@ rising_after_noted ts us gs hs x q e f w r m n g l h = elim (cases_lt (length ts
   | inl a ↦ elim (cases_lt (length ts) m) [
     | inl b ↦ at_end n g a ∙ sym (at_end m g b) ∙ h
     | inr b ↦ at_end n g a ∙ ap (λ (ps : List (Option GroupPerm)). is_some (get_or ps g None)) f
-        ∙ still_known gs x q g w (sym (ap (λ (v : List GroupChange). is_some (get_or (groups_back v gs) g None))
+        ∙ still_known gs x q g w (sym (ap (λ (v : List GroupChange). is_some (get_or (groups_before v gs) g None))
         (drop-length ts)) ∙ r m (length ts) g b (sym (same_now m g b) ∙ h))
   ]
 ]
   where
-    same_now : (n g : ℕ) → n ≤ length ts → is_some (get_or (groups_back (drop n us) hs) g None)
-        ≡ is_some (get_or (groups_back (drop n ts) gs) g None)
+    same_now : (n g : ℕ) → n ≤ length ts → is_some (get_or (groups_before (drop n us) hs) g None)
+        ≡ is_some (get_or (groups_before (drop n ts) gs) g None)
     same_now n g a = ap (λ (ps : List (Option GroupPerm)). is_some (get_or ps g None))
         (back_from_noted ts us gs hs x (Some q) e f n a)
 
-    same : (n g : ℕ) → n ≤ length ts → is_some (get_or (groups_back (drop n ts) gs) g None) ≡ true
-        → is_some (get_or (groups_back (drop n us) hs) g None) ≡ true
+    same : (n g : ℕ) → n ≤ length ts → is_some (get_or (groups_before (drop n ts) gs) g None) ≡ true
+        → is_some (get_or (groups_before (drop n us) hs) g None) ≡ true
     same n g a h = same_now n g a ∙ h
 
     longer : length us ≡ length ts + 1
     longer = ap length e ∙ length-append ts _
 
-    at_end : (n g : ℕ) → length ts < n → is_some (get_or (groups_back (drop n us) hs) g None)
+    at_end : (n g : ℕ) → length ts < n → is_some (get_or (groups_before (drop n us) hs) g None)
         ≡ is_some (get_or hs g None)
-    at_end n g a = ap (λ (v : List GroupChange). is_some (get_or (groups_back v hs) g None))
+    at_end n g a = ap (λ (v : List GroupChange). is_some (get_or (groups_before v hs) g None))
         (drop_all n us (omega (arith, longer)))
 
 -- the last change undone
 pub groups_undone : (ts us vs : List GroupChange) (c : GroupChange) (gs hs : List (Option GroupPerm))
     → ts ≡ us ++ c ∷ [] → vs ≡ us → hs ≡ set gs c.name c.before → (n : ℕ) → n < length ts
-    → groups_back (drop n vs) hs ≡ groups_back (drop n ts) gs
+    → groups_before (drop n vs) hs ≡ groups_before (drop n ts) gs
 groups_undone ts us vs c gs hs e k f n l =
     let m : n ≤ length us = omega (arith, ap length e, length-append us (c ∷ [])) in
-    ap (λ (v : List GroupChange). groups_back (drop n v) hs) k ∙ ap (groups_back (drop n us)) f
-    ∙ sym (ap (λ (v : List GroupChange). groups_back (drop n v) gs) e
-    ∙ ap (λ (v : List GroupChange). groups_back v gs) (drop-append-le n us (c ∷ []) m)
+    ap (λ (v : List GroupChange). groups_before (drop n v) hs) k ∙ ap (groups_before (drop n us)) f
+    ∙ sym (ap (λ (v : List GroupChange). groups_before (drop n v) gs) e
+    ∙ ap (λ (v : List GroupChange). groups_before v gs) (drop-append-le n us (c ∷ []) m)
     ∙ groups_back_append (drop n us) (c ∷ []) gs)
 
 -- with one change less
@@ -157,14 +157,14 @@ rising_after_undone ts us c gs hs e f r m n g l h = elim (cases_lt (length us) n
   ])
 ]
   where
-    state : (n g : ℕ) → n ≤ length us → is_some (get_or (groups_back (drop n us) hs) g None)
-        ≡ is_some (get_or (groups_back (drop n ts) gs) g None)
+    state : (n g : ℕ) → n ≤ length us → is_some (get_or (groups_before (drop n us) hs) g None)
+        ≡ is_some (get_or (groups_before (drop n ts) gs) g None)
     state n g a = ap (λ (ps : List (Option GroupPerm)). is_some (get_or ps g None))
         (groups_undone ts us us c gs hs e refl f n (omega (arith, a, ap length e, length-append us (c ∷ []))))
 
-    at_end : (n g : ℕ) → length us < n → is_some (get_or (groups_back (drop n us) hs) g None)
-        ≡ is_some (get_or (groups_back (drop (length us) us) hs) g None)
-    at_end n g a = ap (λ (v : List GroupChange). is_some (get_or (groups_back v hs) g None))
+    at_end : (n g : ℕ) → length us < n → is_some (get_or (groups_before (drop n us) hs) g None)
+        ≡ is_some (get_or (groups_before (drop (length us) us) hs) g None)
+    at_end n g a = ap (λ (v : List GroupChange). is_some (get_or (groups_before v hs) g None))
         (drop_all n us (omega (arith, a)) ∙ sym (drop-length us))
 
 -- each group that is known after a change is undone is in the list
@@ -186,9 +186,9 @@ listed_undone ts us c gs hs xs ys e f w r others same h g i = elim (cases_eq g c
 
     known_before : (g : ℕ) → is_some (get_or hs g None) ≡ true → is_some (get_or gs g None) ≡ true
     known_before g i =
-        sym (ap (λ (v : List GroupChange). is_some (get_or (groups_back v gs) g None)) (drop-length ts))
+        sym (ap (λ (v : List GroupChange). is_some (get_or (groups_before v gs) g None)) (drop-length ts))
         ∙ r (length us) (length ts) g (omega (arith, ap length e, length-append us (c ∷ [])))
         (sym (ap (λ (ps : List (Option GroupPerm)). is_some (get_or ps g None))
-        (sym (ap (λ (v : List GroupChange). groups_back v hs) (drop-length us))
+        (sym (ap (λ (v : List GroupChange). groups_before v hs) (drop-length us))
         ∙ groups_undone ts us us c gs hs e refl f (length us)
         (omega (arith, ap length e, length-append us (c ∷ []))))) ∙ i)

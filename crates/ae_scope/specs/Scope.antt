@@ -7,12 +7,12 @@ use Rattle.ae_rules.specs.Verdict.{Verdict, Holds, ◌>>◌}
 use Rattle.ae_rules.specs.Groups.{with_group, held_back, may_lock, may_split_all}
 use Rattle.ae_rules.specs.Context.{Context, held_of}
 use Rattle.ae_rules.specs.Statements.{while_locked, while_split}
-use Rattle.ae_groups.specs.Contexts.{groups_of, every_held_back}
+use Rattle.ae_groups.specs.Contexts.{known_groups, every_held_back}
 use Rattle.ae_scope.specs.declared.scope.Scope.{Scope}
 use Rattle.ae_scope.specs.Slots.{local_in}
 
 abbrev pub context_of : Scope → Context
-context_of s = record { local = local_in s.locals.items; group = groups_of s.groups }
+context_of s = record { local = local_in s.locals.items; group = known_groups s.groups }
 
 -- nothing is known
 abbrev pub nothing_known : Context
@@ -38,12 +38,12 @@ abbrev pub all_held_back : Context → Context
 all_held_back c = record c { group = every_held_back c.group }
 
 -- the groups of a list may be split, and then they are shared
-abbrev pub splits : List NameAt → Context → Verdict Context
-splits gs c = may_split_all c.group gs >> Holds (while_split gs c)
+abbrev pub enters_split : List NameAt → Context → Verdict Context
+enters_split gs c = may_split_all c.group gs >> Holds (while_split gs c)
 
 -- a group may be locked, and then it is protected, and every other shared group is held back
-abbrev pub locks : NameAt → Context → Verdict Context
-locks g c = may_lock c.group g >> Holds (while_locked g.name c)
+abbrev pub enters_atomic : NameAt → Context → Verdict Context
+enters_atomic g c = may_lock c.group g >> Holds (while_locked g.name c)
 
 -- nothing is known, was added or was changed, of a program with this many names
 pub record Empty (names : ℕ) (s : Scope) : Type 0 where

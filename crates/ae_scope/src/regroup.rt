@@ -29,8 +29,8 @@ impl Scope {
     ghost use Rattle.ae_rules.specs.Groups as spec;
     ghost use Rattle.ae_rules.specs.Lookups.{has_name};
     ghost use Rattle.ae_rules.specs.Statements.{judge_group, while_locked, while_split};
-    ghost use Rattle.ae_scope.specs.Trail.{groups_back};
-    ghost use Rattle.ae_scope.specs.Scope.{context_of, with_known, with_held_back, all_held_back, locks, splits};
+    ghost use Rattle.ae_scope.specs.Trail.{groups_before};
+    ghost use Rattle.ae_scope.specs.Scope.{context_of, with_known, with_held_back, all_held_back, enters_atomic, enters_split};
     ghost use Rattle.ae_scope.specs.Grows.{Ends, Grows};
 
     // A group has a permission. Which one it had before is kept.
@@ -91,7 +91,7 @@ impl Scope {
     /// A split block begins: its groups are shared. Refused (G1, G6, G4) at the first group of the list that may not be
     /// split.
     pub fn enter_split(&mut self, groups: &[NameAt]) -> Result<(), Deny>
-        ensures answer { Leaves (splits groups.now (context_of self.old)) (context_of self.new) result }
+        ensures answer { Leaves (enters_split groups.now (context_of self.old)) (context_of self.new) result }
         ensures grows { OnOk result (Grows self.old self.new) }
     {
         self.groups.may_split(*self.known.allocator(), groups)?;
@@ -136,7 +136,7 @@ impl Scope {
     /// An atomic block begins: its group is protected, and every other shared group is held back. Refused where the
     /// group is not known (G1), held back (G8), or not shared (G5).
     pub fn enter_atomic(&mut self, group: NameAt) -> Result<(), Deny>
-        ensures answer { Leaves (locks group (context_of self.old)) (context_of self.new) result }
+        ensures answer { Leaves (enters_atomic group (context_of self.old)) (context_of self.new) result }
         ensures grows { OnOk result (Grows self.old self.new) }
     {
         self.groups.may_lock(group)?;
@@ -148,8 +148,8 @@ impl Scope {
     fn undo_group(&mut self)
         requires { 0 < length self.old.group_trail.items }
         ensures groups { (n : ℕ) → n < length self.old.group_trail.items
-            → groups_back (drop n self.new.group_trail.items) self.new.groups.perms.items
-            ≡ groups_back (drop n self.old.group_trail.items) self.old.groups.perms.items }
+            → groups_before (drop n self.new.group_trail.items) self.new.groups.perms.items
+            ≡ groups_before (drop n self.old.group_trail.items) self.old.groups.perms.items }
         ensures locals { self.new.locals.items ≡ self.old.locals.items }
         ensures table { length self.new.at.items ≡ length self.old.at.items }
         ensures trail { self.new.trail.items ≡ self.old.trail.items }
@@ -171,7 +171,7 @@ impl Scope {
     fn rewind_groups(&mut self, changes: usize)
         requires { changes ≤ length self.old.group_trail.items }
         ensures groups { self.new.groups.perms.items
-            ≡ groups_back (drop changes self.old.group_trail.items) self.old.groups.perms.items }
+            ≡ groups_before (drop changes self.old.group_trail.items) self.old.groups.perms.items }
         ensures locals { self.new.locals.items ≡ self.old.locals.items }
         ensures table { length self.new.at.items ≡ length self.old.at.items }
         ensures trail { self.new.trail.items ≡ self.old.trail.items }

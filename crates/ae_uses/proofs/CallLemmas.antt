@@ -9,13 +9,13 @@ use Rattle.ae_rules.specs.Groups.{wanted_need}
 use Rattle.ae_rules.specs.Calls.{Callee, ParamSlot, if_some, me_slot, param_slot, slots, givens, group_in}
 use Rattle.ae_rules.specs.Uses.{stronger, nothing, ◌∪◌, of_each, need_uses, callee_uses}
 use Rattle.ae_uses.specs.declared.used.Used.{Used}
-use Rattle.ae_uses.specs.Used.{Adds, uses_of}
+use Rattle.ae_uses.specs.Used.{Adds, used_as}
 use Rattle.ae_uses.specs.Calls.{slot_uses, receiver_uses}
 use Rattle.ae_uses.proofs.UsedLemmas.{none_is_no_stronger, adds_one_then_other}
 
 nothing_beside : (u v : Used) (a : Uses) → Adds u (a ∪ nothing) v → Adds u a v
 nothing_beside u v a h = record {
-  at = λ r. h.at r ∙ ap (λ (o : Option Mode). stronger (uses_of u r) o) (none_is_no_stronger (a r));
+  at = λ r. h.at r ∙ ap (λ (o : Option Mode). stronger (used_as u r) o) (none_is_no_stronger (a r));
 }
 
 -- the receiver and then the arguments

@@ -1,10 +1,11 @@
 -- Elements of lists.
-use Rattle.std.proofs.Common.{◌≡◌, ℕ, zero, suc, ◌+◌, ◌<◌, ◌⊎◌, inl, inr, Bool, true, nat_eq, List, []}
+use Rattle.std.proofs.Common.{◌≡◌, ◌↔◌, ℕ, zero, suc, ◌+◌, ◌<◌, ◌⊎◌, inl, inr, Bool, true, nat_eq, List, []}
 use Rattle.std.proofs.Common.{◌∷◌, length, get_or, map, refl, subst, arith}
 use Rattle.std.specs.List.{Contains, list_any}
 use Rattle.std.specs.List.Sorted.{IsStrictlyIncreasing}
 use Rattle.ae_rules.specs.Edges.{IsRising}
 use Rattle.std.proofs.lemmas.Bool.{eqb-true, or_right, or_cases, or_left, eq-eqb}
+use Rattle.std.proofs.lemmas.Bool.Decides.{same_from_decides}
 use Rattle.ae_uses.proofs.from_text.Basics.{empty_has_nothing}
 
 pub here : {X : Type 0} (x : X) (xs : List X) → Contains (x ∷ xs) x
@@ -58,6 +59,12 @@ from_has (x ∷ xs) y h =
       | inl e ↦ let q : x ≡ y = eqb-true x y e in subst (λ (w : ℕ). Contains (x ∷ xs) w) q (here x xs)
       | inr k ↦ there x xs y (from_has xs y k)
     ]
+
+-- what contains the same numbers answers alike whether a number is among them
+pub has_the_same : (xs ys : List ℕ) → ((y : ℕ) → Contains xs y ↔ Contains ys y) → (y : ℕ) → has xs y ≡ has ys y
+has_the_same xs ys h y =
+    same_from_decides {P = Contains ys y} (has xs y) (has ys y)
+    (λ e. (h y).0 (from_has xs y e), λ k. has_from xs y ((h y).1 k)) (from_has ys y, has_from ys y)
 
 -- each number is below the next
 pub rising_from : (xs : List ℕ) → IsStrictlyIncreasing xs → IsRising xs

@@ -1,5 +1,5 @@
 -- What was used, as a footprint.
-use Rattle.std.proofs.Common.{◌≡◌, ℕ, inl, inr, Bool, true, false, ◌||◌, if◌then◌else◌, List, [], ◌∷◌, ◌++◌}
+use Rattle.std.proofs.Common.{◌≡◌, ◌↔◌, ℕ, inl, inr, Bool, true, false, ◌||◌, if◌then◌else◌, List, [], ◌∷◌, ◌++◌}
 use Rattle.std.proofs.Common.{map, None, Some, refl, sym, ap, ◌∙◌, subst}
 use Rattle.std.specs.List.{Contains}
 use Rattle.std.proofs.lemmas.Bool.{or_left, or_right, or_cases}
@@ -12,11 +12,12 @@ use Rattle.ae_rules.specs.declared.uses.Use.{Use}
 use Rattle.ae_rules.specs.Edges.{IsRising}
 use Rattle.ae_rules.specs.Lookups.{Names, has_name}
 use Rattle.ae_uses.specs.declared.used.Used.{Used}
-use Rattle.ae_uses.specs.Used.{uses_of, mode_of}
+use Rattle.ae_uses.specs.Used.{used_as, mode_of}
 use Rattle.ae_uses.specs.Footprint.{IsFootprintOf, AreInOrder}
 use Rattle.ae_uses.specs.Joined.{AreJoined, local_as, group_as}
 use Rattle.ae_uses.proofs.from_text.Basics.{option_holds_one}
-use Rattle.ae_uses.proofs.Elements.{in_map, from_map, has_from, from_has}
+use Rattle.ae_uses.proofs.UsedLemmas.{same_tests_choose_alike}
+use Rattle.ae_uses.proofs.Elements.{in_map, from_map, has_from, from_has, has_the_same}
 
 -- ---- order
 
@@ -90,18 +91,18 @@ record Parts (u : Used) (w s : Names) (xs gs : List ℕ) : Type 0 where
   whole : (x : ℕ) → s x ≡ has_name u.whole.items x
 
 is_used : (u : Used) (w s : Names) (xs gs : List ℕ) → Parts u w s xs gs → (y : Use)
-    → Contains (map (local_as w) xs ++ map (group_as s) gs) y → uses_of u y.what ≡ Some y.mode
+    → Contains (map (local_as w) xs ++ map (group_as s) gs) y → used_as u y.what ≡ Some y.mode
 is_used u w s xs gs p y h = elim (Contains-append_cases (map (local_as w) xs) (map (group_as s) gs) y h) [
   | inl k ↦ let r = from_map (local_as w) xs y k in
-      subst (λ (z : Use). uses_of u z.what ≡ Some z.mode) r.2
+      subst (λ (z : Use). used_as u z.what ≡ Some z.mode) r.2
       (joined_has_mode mode.Read mode.Write u.read.items u.written.items xs w p.locals p.written r.0 r.1)
   | inr k ↦ let r = from_map (group_as s) gs y k in
-      subst (λ (z : Use). uses_of u z.what ≡ Some z.mode) r.2
+      subst (λ (z : Use). used_as u z.what ≡ Some z.mode) r.2
       (joined_has_mode mode.GroupShared mode.GroupWhole u.together.items u.whole.items gs s p.groups p.whole r.0 r.1)
 ]
 
 is_listed : (u : Used) (w s : Names) (xs gs : List ℕ) → Parts u w s xs gs → (r : Resource) (m : Mode)
-    → uses_of u r ≡ Some m → Contains (map (local_as w) xs ++ map (group_as s) gs) (record { what = r; mode = m })
+    → used_as u r ≡ Some m → Contains (map (local_as w) xs ++ map (group_as s) gs) (record { what = r; mode = m })
 is_listed u w s xs gs p (resource.Local x) m h =
     let r = joined_from_mode mode.Read mode.Write u.read.items u.written.items xs w p.locals p.written x m h in
     Contains-append_left (map (local_as w) xs) (map (group_as s) gs) _
@@ -118,10 +119,25 @@ is_listed u w s xs gs p (resource.Group g) m h =
 pub joined_names_are_a_footprint : (u : Used) (w s : Names) (xs gs : List ℕ) (us : List Use)
     → us ≡ map (local_as w) xs ++ map (group_as s) gs → AreJoined u.read.items u.written.items xs
     → AreJoined u.together.items u.whole.items gs → ((x : ℕ) → w x ≡ has_name u.written.items x)
-    → ((x : ℕ) → s x ≡ has_name u.whole.items x) → IsFootprintOf (uses_of u) us
+    → ((x : ℕ) → s x ≡ has_name u.whole.items x) → IsFootprintOf (used_as u) us
 joined_names_are_a_footprint u w s xs gs us e q r f g =
     let p : Parts u w s xs gs = record { locals = q; groups = r; written = f; whole = g } in
-    subst (λ (vs : List Use). IsFootprintOf (uses_of u) vs) (sym e) (record {
+    subst (λ (vs : List Use). IsFootprintOf (used_as u) vs) (sym e) (record {
       in_order = all_in_order w s xs gs q.in_order r.in_order;
       exact = λ y. (is_used u w s xs gs p y, is_listed u w s xs gs p y.what y.mode);
     })
+
+-- ---- names once
+
+once_has_mode : (weak strong : Mode) (xs ys zs ws : List ℕ) → ((x : ℕ) → Contains xs x ↔ Contains ys x)
+    → ((x : ℕ) → Contains zs x ↔ Contains ws x) → (x : ℕ) → mode_of weak strong xs zs x ≡ mode_of weak strong ys ws x
+once_has_mode weak strong xs ys zs ws e f x =
+    same_tests_choose_alike weak strong _ _ _ _ (has_the_same zs ws f x) (has_the_same xs ys e x)
+
+-- lists of the same names are the same uses
+pub same_names_same_uses : (u v : Used) → ((x : ℕ) → Contains v.read.items x ↔ Contains u.read.items x)
+    → ((x : ℕ) → Contains v.written.items x ↔ Contains u.written.items x)
+    → ((x : ℕ) → Contains v.together.items x ↔ Contains u.together.items x)
+    → ((x : ℕ) → Contains v.whole.items x ↔ Contains u.whole.items x) → (r : Resource) → used_as v r ≡ used_as u r
+same_names_same_uses u v e f g h (resource.Local x) = once_has_mode mode.Read mode.Write _ _ _ _ e f x
+same_names_same_uses u v e f g h (resource.Group x) = once_has_mode mode.GroupShared mode.GroupWhole _ _ _ _ g h x

@@ -8,8 +8,8 @@ use Rattle.ae_rules.specs.Edges.{Uses}
 use Rattle.ae_rules.specs.Uses.{all_but}
 
 -- the group is the one that is left out
-abbrev pub is_left_out : Option ℕ → ℕ → Bool
-is_left_out but g = given but false (λ h. nat_eq h g)
+abbrev pub is_that_group : Option ℕ → ℕ → Bool
+is_that_group but g = given but false (λ h. nat_eq h g)
 
 -- a local that is visible outside
 abbrev pub is_local_outside : Context → ℕ → Bool
@@ -17,9 +17,9 @@ is_local_outside c x = is_some (c.local x)
 
 -- a group that is known outside, and not left out
 abbrev pub is_group_outside : Context → Option ℕ → ℕ → Bool
-is_group_outside c but g = known c.group g && not (is_left_out but g)
+is_group_outside c but g = known c.group g && not (is_that_group but g)
 
 -- uses without one group that may be left out
-abbrev pub left_out : Option ℕ → Uses → Uses
-left_out None u = u
-left_out (Some g) u = all_but (resource.Group g) u
+abbrev pub without_group : Option ℕ → Uses → Uses
+without_group None u = u
+without_group (Some g) u = all_but (resource.Group g) u

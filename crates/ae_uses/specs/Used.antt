@@ -1,12 +1,10 @@
 -- What was used so far, as a function from resources.
-use Rattle.std.specs.Prelude.{◌≡◌, ℕ, if◌then◌else◌, List, Option, None, Some, option_map}
+use Rattle.std.specs.Prelude.{◌≡◌, ℕ, if◌then◌else◌, List, Option, None, Some}
 use Rattle.ae_rules.specs.declared.uses.Resource.{Resource}
 use Rattle.ae_rules.specs.declared.uses.Resource.TheVariants as resource
 use Rattle.ae_rules.specs.declared.uses.Mode.{Mode}
 use Rattle.ae_rules.specs.declared.uses.Mode.TheVariants as mode
 use Rattle.ae_rules.specs.Verdict.{Verdict, judged}
-use Rattle.ae_rules.specs.Context.{Local, Context}
-use Rattle.ae_rules.specs.Walks.{Place}
 use Rattle.ae_rules.specs.Lookups.{has_name}
 use Rattle.ae_rules.specs.Edges.{Uses}
 use Rattle.ae_rules.specs.Uses.{stronger}
@@ -16,22 +14,18 @@ use Rattle.ae_uses.specs.declared.used.Used.{Used}
 abbrev pub mode_of : Mode → Mode → List ℕ → List ℕ → ℕ → Option Mode
 mode_of weak strong xs ys x = if has_name ys x then Some strong else (if has_name xs x then Some weak else None)
 
-abbrev pub uses_of : Used → Uses
-uses_of u (resource.Local x) = mode_of mode.Read mode.Write u.read.items u.written.items x
-uses_of u (resource.Group g) = mode_of mode.GroupShared mode.GroupWhole u.together.items u.whole.items g
+abbrev pub used_as : Used → Uses
+used_as u (resource.Local x) = mode_of mode.Read mode.Write u.read.items u.written.items x
+used_as u (resource.Group g) = mode_of mode.GroupShared mode.GroupWhole u.together.items u.whole.items g
 
 -- what a verdict gives, where it holds
 abbrev pub given_by : {A : Type 0} → Verdict A → Option A
 given_by v = judged v None Some
 
--- the place that a local stands for
-abbrev pub root_place : Context → ℕ → Option Place
-root_place c x = option_map (λ (l : Local). record { form = l.form; held = l.held }) (c.local x)
-
 -- these are used too
 pub record Adds (u : Used) (v : Uses) (w : Used) : Type 0 where
-  pub at : (r : Resource) → uses_of w r ≡ stronger (uses_of u r) (v r)
+  pub at : (r : Resource) → used_as w r ≡ stronger (used_as u r) (v r)
 
 -- with what is used already, what is still to be used comes to the whole
 pub record Owes (u : Used) (whole : Uses) (w : Used) (rest : Uses) : Type 0 where
-  pub at : (r : Resource) → stronger (uses_of u r) (whole r) ≡ stronger (uses_of w r) (rest r)
+  pub at : (r : Resource) → stronger (used_as u r) (whole r) ≡ stronger (used_as w r) (rest r)

@@ -12,13 +12,13 @@ ghost use Rattle.ae_calls.specs.Param.{new_in};
 ghost use Rattle.ae_uses.specs.Used.{Adds};
 ghost use Rattle.ae_uses.specs.Calls.{slot_uses, field_uses, receiver_uses};
 
+use crate::judged::where_held;
 use crate::paths::owner_written;
 use crate::used::Used;
 use crate::values::{argument_used, into_used, path_given, value_used};
 use ae_calls::{Callee, GroupsIn, groups_in, judge_callee, me_slot, param_slot};
 use ae_judge::{Tabled, bare_names, class_called, field_form, in_place};
 use ae_scope::Scope;
-use ae_text::Deny;
 use ae_tree::{Call, Class, Expr, Form, GroupNeed, Name, NameAt, Need, Param, Rhs};
 use std::alloc::AllocError;
 
@@ -122,13 +122,12 @@ pub fn call_used(
     ensures { OnOk result (Adds used.old (spec.call_uses (code_of tabled.now) (context_of scope.now)
         (invocation call.now)) used.new) }
 {
-    match judge_callee(tabled, scope, &call.on, call.method) {
-        Ok(callee) => {
+    match where_held(judge_callee(tabled, scope, &call.on, call.method))? {
+        Some(callee) => {
             callee_used(tabled, scope, &callee, call, used)?;
             Ok(())
         }
-        Err(Deny::Refused(_)) => Ok(()),
-        Err(Deny::Memory) => Err(AllocError),
+        None => Ok(()),
     }
 }
 

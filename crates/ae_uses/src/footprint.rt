@@ -1,6 +1,7 @@
 // What was used, each resource once and in order.
-ghost use Rattle.std.specs.Prelude.{◌≡◌, ◌++◌, ℕ, map, nat_eq, IfOk, OnOk};
+ghost use Rattle.std.specs.Prelude.{◌≡◌, ◌++◌, ◌↔◌, ℕ, Contains, map, nat_eq, IfOk, OnOk};
 ghost use Rattle.std.specs.HashSet.{contains};
+ghost use Rattle.ae_rules.specs.Edges.{IsRising};
 ghost use Rattle.ae_rules.specs.Lookups.{has_name};
 ghost use Rattle.ae_uses.specs.Joined.{AreJoined, local_as, group_as};
 
@@ -11,6 +12,15 @@ use ae_tree::Name;
 use std::alloc::{AllocError, Global};
 use std::collections::HashSet;
 
+// Each name once and in rising order.
+fn each_once(names: &mut Vec<Name>)
+    ensures in_order { IsRising names.new.items }
+    ensures same { (x : ℕ) → Contains names.new.items x ↔ Contains names.old.items x }
+{
+    names.sort_unstable();
+    names.dedup();
+}
+
 // The names of both lists, each once and in rising order.
 fn joined(alloc: Global, first: &[Name], second: &[Name]) -> Result<Vec<Name>, AllocError>
     ensures { IfOk result (λ v. AreJoined first.now second.now v.items) }
@@ -18,8 +28,7 @@ fn joined(alloc: Global, first: &[Name], second: &[Name]) -> Result<Vec<Name>, A
     let mut names = Vec::new(alloc);
     names.extend_from_slice(first)?;
     names.extend_from_slice(second)?;
-    names.sort_unstable();
-    names.dedup();
+    each_once(&mut names);
     Ok(names)
 }
 
@@ -79,13 +88,25 @@ fn put_groups(
 }
 
 impl Used {
-    ghost use Rattle.std.specs.Prelude.{IfOk};
+    ghost use Rattle.std.specs.Prelude.{◌≡◌, IfOk};
+    ghost use Rattle.ae_rules.specs.declared.uses.Resource.{Resource};
     ghost use Rattle.ae_uses.specs.Footprint.{IsFootprintOf};
-    ghost use Rattle.ae_uses.specs.Used.{uses_of};
+    ghost use Rattle.ae_uses.specs.Used.{used_as};
+
+    /// Each name once in its list; what was used stays the same. So what is handed on to the blocks around a statement
+    /// costs what the statement uses, and not how often. Takes no memory, and costs n log n.
+    pub fn compact(&mut self)
+        ensures { (r : Resource) → used_as self.new r ≡ used_as self.old r }
+    {
+        each_once(&mut self.read);
+        each_once(&mut self.written);
+        each_once(&mut self.together);
+        each_once(&mut self.whole);
+    }
 
     /// What was used, each resource once: locals first and then groups, each by number. Costs n log n.
     pub fn footprint(&self, alloc: Global) -> Result<Footprint, AllocError>
-        ensures { IfOk result (λ f. IsFootprintOf (uses_of self.now) f.uses) }
+        ensures { IfOk result (λ f. IsFootprintOf (used_as self.now) f.uses) }
     {
         let written = set_of(alloc, &self.written)?;
         let whole = set_of(alloc, &self.whole)?;

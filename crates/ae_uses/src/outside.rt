@@ -2,7 +2,7 @@
 ghost use Rattle.std.specs.Prelude.{◌≡◌, ◌++◌, OnOk};
 ghost use Rattle.std.specs.List.{filter};
 ghost use Rattle.ae_scope.specs.Scope.{context_of};
-ghost use Rattle.ae_uses.specs.Outside.{is_left_out, is_local_outside, is_group_outside};
+ghost use Rattle.ae_uses.specs.Outside.{is_that_group, is_local_outside, is_group_outside};
 
 use crate::used::Used;
 use ae_scope::Scope;
@@ -11,7 +11,7 @@ use std::alloc::AllocError;
 
 // The group is the one that is left out.
 fn is_left_out(but: Option<Name>, name: Name) -> bool
-    ensures { result ≡ is_left_out but name }
+    ensures { result ≡ is_that_group but name }
 {
     match but {
         Some(group) => group == name,
@@ -53,13 +53,13 @@ impl Used {
     ghost use Rattle.std.specs.Prelude.{OnOk};
     ghost use Rattle.ae_rules.specs.Uses.{outside};
     ghost use Rattle.ae_scope.specs.Scope.{context_of};
-    ghost use Rattle.ae_uses.specs.Used.{Adds, uses_of};
-    ghost use Rattle.ae_uses.specs.Outside.{left_out};
+    ghost use Rattle.ae_uses.specs.Used.{Adds, used_as};
+    ghost use Rattle.ae_uses.specs.Outside.{without_group};
 
     /// All that was used there is used here too.
     #[tactic(auto, using(crate::proofs::OutsideLemmas::all_of_it_more))]
     pub fn adds_all(&mut self, other: &Used) -> Result<(), AllocError>
-        ensures { OnOk result (Adds self.old (uses_of other.now) self.new) }
+        ensures { OnOk result (Adds self.old (used_as other.now) self.new) }
     {
         self.read.extend_from_slice(&other.read)?;
         self.written.extend_from_slice(&other.written)?;
@@ -77,7 +77,7 @@ impl Used {
         but: Option<Name>,
         inside: &Used,
     ) -> Result<(), AllocError>
-        ensures { OnOk result (Adds self.old (left_out but (outside (context_of scope.now) (uses_of inside.now)))
+        ensures { OnOk result (Adds self.old (without_group but (outside (context_of scope.now) (used_as inside.now)))
             self.new) }
     {
         put_locals(&mut self.read, scope, &inside.read)?;

@@ -9,12 +9,12 @@ ghost use Rattle.ae_uses.specs.Used.{Adds};
 ghost use Rattle.ae_uses.specs.Simple.{let_uses, store_at_uses, share_uses, print_uses};
 
 use crate::calls::right_used;
+use crate::judged::where_held;
 use crate::paths::{owner_written, write_used};
 use crate::used::Used;
 use crate::values::{into_used, value_used};
 use ae_judge::{Tabled, walk};
 use ae_scope::Scope;
-use ae_text::Deny;
 use ae_tree::{Expr, Form, IO, Method, NameAt, Path, Rhs, Ty, form_of};
 use std::alloc::{AllocError, Global};
 
@@ -82,13 +82,12 @@ pub fn store_used(
         (expression expr.now)) used.new) }
 {
     owner_written(tabled, scope, path, used)?;
-    match walk(tabled, scope, path) {
-        Ok(place) => {
+    match where_held(walk(tabled, scope, path))? {
+        Some(place) => {
             into_used(tabled, scope, &place.form, expr, used)?;
             Ok(())
         }
-        Err(Deny::Refused(_)) => Ok(()),
-        Err(Deny::Memory) => Err(AllocError),
+        None => Ok(()),
     }
 }
 

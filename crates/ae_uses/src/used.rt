@@ -17,11 +17,11 @@ impl Used {
     ghost use Rattle.std.specs.Prelude.{◌≡◌, OnOk};
     ghost use Rattle.ae_rules.specs.declared.uses.Resource.{Resource};
     ghost use Rattle.ae_rules.specs.Uses.{nothing, read_use, write_use, together, whole_group, reach_use};
-    ghost use Rattle.ae_uses.specs.Used.{Adds, uses_of};
+    ghost use Rattle.ae_uses.specs.Used.{Adds, used_as};
 
     /// Nothing was used. Takes no memory.
     pub fn new(alloc: Global) -> Used
-        ensures { uses_of result ≡ nothing }
+        ensures { used_as result ≡ nothing }
     {
         Used {
             read: Vec::new(alloc),

@@ -4,7 +4,6 @@ use Rattle.std.proofs.Common.{refl, ap, ◌∙◌, subst, arith, length, length-
 use Rattle.std.specs.Io.KnownBytes.{Consumes, IsAtEnd}
 use Rattle.ae_text.specs.declared.refusal.Spot.{Spot}
 use Rattle.ae_text.specs.declared.refusal.Rule.{Rule}
-use Rattle.ae_text.specs.declared.refusal.Rule.TheVariants.{TooLong}
 use Rattle.ae_text.specs.declared.refusal.Refusal.{Refusal}
 use Rattle.ae_text.specs.Whole.{most}
 use Rattle.ae_tree.specs.Plain.{Code}

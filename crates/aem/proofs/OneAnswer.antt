@@ -5,7 +5,7 @@ use Rattle.std.proofs.lemmas.List.{append_cancel_right}
 use Rattle.std.specs.Io.KnownBytes.{Consumes}
 use Rattle.ae_text.specs.declared.refusal.Spot.{Spot}
 use Rattle.ae_text.specs.declared.refusal.Rule.{Rule}
-use Rattle.ae_text.specs.declared.refusal.Rule.TheVariants.{TooLong, NotBuilt}
+use Rattle.ae_text.specs.declared.refusal.Rule.TheVariants.{TooLong}
 use Rattle.ae_text.specs.declared.refusal.Refusal.{Refusal}
 use Rattle.ae_text.specs.declared.token.Token.{Token}
 use Rattle.ae_text.specs.Tokens.{Lexes, LexFault, place, first_spot}
@@ -15,7 +15,7 @@ use Rattle.ae_tree.specs.Grammar.{Derives}
 use Rattle.ae_tree.specs.Refused.{IsRefused}
 use Rattle.ae_parser.specs.Laws.{IsOneRefusal, NoProgramIsRefused}
 use Rattle.ae_parser.specs.Laws.{IsOneProgram}
-use Rattle.ae_rules.specs.Judges.{Accepts, FirstBroken}
+use Rattle.ae_rules.specs.Judges.{Accepts}
 use Rattle.ae_rules.specs.Laws.{NeverAcceptedAndBroken, FirstIsOne}
 use Rattle.ae_meaning.specs.declared.report.RunReport.{RunReport}
 use Rattle.ae_meaning.specs.declared.report.Ending.{Ending}

@@ -1,12 +1,7 @@
 -- From texts and tokens to programs.
-use Rattle.std.proofs.Common.{◌≡◌, ℕ, List, [], ◌∷◌, refl, sym, ap, subst, ◌∙◌, arith, map, length, get_or}
+use Rattle.std.proofs.Common.{◌≡◌, ℕ, List, sym, subst}
 use Rattle.ae_text.specs.declared.refusal.Deny.{Deny}
 use Rattle.ae_text.specs.declared.refusal.Deny.TheVariants as d
-use Rattle.ae_tree.specs.declared.tree.Method.{Method}
-use Rattle.ae_tree.specs.declared.tree.Stmt.{Stmt}
-use Rattle.ae_tree.specs.declared.tree.Block.{out-Block}
-use Rattle.ae_tree.specs.Plain.{Definition}
-use Rattle.ae_tree.specs.Shown.{definition, lines_from, lines-out}
 use Rattle.ae_text.specs.declared.token.Token.{Token}
 use Rattle.ae_text.specs.Tokens.{Lexes}
 use Rattle.ae_text.specs.Tokens.{IsTextDenied}
@@ -34,19 +29,6 @@ unparsed text tokens d.Memory l u = tt
 pub unread : (command : Command) (text : List ℕ) (e : Deny) → IsUnread text e → IsAnswer command text (denial e)
 unread command text (d.Refused r) u = u command
 unread command text d.Memory u = tt
-
--- the body of the one method
-pub one_body : (ms : List Method) (m : Method) (ls : List Stmt) → length ms ≡ 1 → m ≡ get_or ms 0 m
-    → ls ≡ (out-Block m.body).stmts
-    → (x : Definition) × (map definition ms ≡ x ∷ []) × (x.body ≡ lines_from ls)
-one_body [] m ls n e b = absurd (omega arith)
-one_body (x ∷ []) m ls n e b = (
-  definition x,
-  refl,
-  lines-out x.body ∙ ap (λ (y : Method). lines_from (out-Block y.body).stmts) (sym e)
-      ∙ ap lines_from (sym b),
-)
-one_body (x ∷ y ∷ ms) m ls n e b = absurd (omega arith)
 
 -- an answer to a whole text has its cause
 done_whole : (command : Command) (taken : List ℕ) (left : Option (List ℕ)) (what : What) → IsWholeText taken left

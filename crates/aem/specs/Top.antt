@@ -1,5 +1,5 @@
 -- What the top call answers, and why.
-use Rattle.std.specs.Prelude.{◌≡◌, ◌⊎◌, ℕ, ◌+◌, ◌≤◌, List, [], ◌∷◌, length, take, Option, None, Some, IsSome, Result, Ok}
+use Rattle.std.specs.Prelude.{◌≡◌, ◌⊎◌, ℕ, ◌+◌, ◌≤◌, List, [], length, take, Option, None, Some, IsSome, Result, Ok}
 use Rattle.std.specs.Prelude.{Err}
 use Rattle.std.specs.Io.KnownBytes.{Consumes, IsAtEnd, Appends}
 use Rattle.ae_text.specs.declared.refusal.Spot.{Spot}
@@ -41,10 +41,10 @@ IsFaultAt rule at text = (offset : ℕ) × LexFault text rule offset × (at ≡ 
 abbrev pub IsTokenAt : Rule → Spot → List ℕ → Type 0
 IsTokenAt rule at text = (tokens : List Token) × Lexes text tokens × IsRefused tokens rule at
 
--- the program has only forms that this mode has today: `check` has all
+-- the program has only forms that this mode has today: `check` and `graph` have all
 abbrev pub IsOfMode : Command → Code → Type 0
 IsOfMode Check program = Unit {0}
-IsOfMode Graph program = Built program
+IsOfMode Graph program = Unit {0}
 IsOfMode Run program = Built program
 
 -- this rule of the language is the first that the program breaks

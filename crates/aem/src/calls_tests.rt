@@ -9,11 +9,12 @@ ghost use Rattle.aem.specs.Small.{HasSource};
 use crate::built::is_built;
 use crate::modes::judge;
 use crate::top::{aeminium, read_program};
-use ae_bodies::method_uses;
+use ae_bodies::{method_uses, tabled_of};
 use ae_code::Checked;
 use ae_graph::BlockGraph;
 use ae_meaning::{Ending, evaluate};
 use ae_rules::{Mode, Resource, Use};
+use ae_scope::Scope;
 use ae_text::{Deny, Edge, Gate, Items, MemSink, MemSource, Memory, Spot};
 use ae_tree::{Form, Kind, Name, Perm, Program, derived_programs_are_well_shaped, form_of};
 use ae_uses::OpenedBlock;
@@ -261,15 +262,18 @@ const EDGES: [Edge; 7] = [
     Edge { from: 2, to: 4 },
 ];
 
-// What the statements of `main` use.
+// What the statements of the first method use, block by block.
 fn uses_of(alloc: Global, code: &Checked) -> Result<Items<OpenedBlock>, Memory>
-    requires built { Built (plain code.now.program) }
+    requires shaped { WellShaped (plain code.now.program) }
 {
-    let program = code.program();
-    let Some(method) = program.methods.get(0) else {
+    let tabled = tabled_of(alloc, code);
+    let Some(method) = tabled.program.methods.get(0) else {
         return Err(Memory);
     };
-    method_uses(alloc, code, method)
+    match Scope::new(alloc, tabled.program.names.len()) {
+        Ok(mut scope) => method_uses(&tabled, method, &mut scope),
+        Err(_) => Err(Memory),
+    }
 }
 
 // The graph of the body of `main`.

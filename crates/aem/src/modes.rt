@@ -70,15 +70,13 @@ pub fn checked(alloc: Global, program: Program) -> What
     }
 }
 
-/// What the mode `graph` comes to: the text of the program's graphs, or its refusal.
+/// What the mode `graph` comes to: the text of the graphs of a program that is accepted, of any forms, or its refusal.
+#[tactic(auto, using(crate::proofs::Whole::refusal_is_decided))]
 pub fn drawn(alloc: Global, program: Program) -> What
     requires { HasSource (plain program) }
     ensures { IsDecided Command.Graph (plain program) result }
 {
     derived_programs_are_well_shaped();
-    if !is_built(&program) {
-        return denied(not_built());
-    }
     let code = match judge(alloc, program) {
         Ok(code) => code,
         Err(deny) => return denied(deny),

@@ -41,7 +41,7 @@ fn source_of(
     Ok(MemSource::new(bytes, most, Items::from_slice(alloc, fail)?))
 }
 
-const CASES: [Case; 62] = [
+const CASES: [Case; 65] = [
     Case {
         words: &["check"],
         source: SUM,
@@ -59,6 +59,24 @@ const CASES: [Case; 62] = [
         source: SUM,
         text: "method main\nblock 0 has 3\n2 after 0 1\n",
         status: 0,
+    },
+    Case {
+        words: &["graph"],
+        source: "method void main() { }",
+        text: "method main\nblock 0 has 0\n",
+        status: 0,
+    },
+    Case {
+        words: &["graph"],
+        source: "class Box { int v; } method void main() { let unique Box b = new Box(1); if b == null { } else { b.v = 2; } b = null; }",
+        text: "method main\nblock 0 has 3\n1 after 0\n2 after 1\nblock 1 has 0\nblock 2 has 1\n",
+        status: 0,
+    },
+    Case {
+        words: &["graph"],
+        source: "method void main() { print 1 < 2; }",
+        text: "refused G3 NeedsGroup at 1:22\n",
+        status: 2,
     },
     Case {
         words: &["run"],

@@ -1,27 +1,25 @@
 use Rattle.std.proofs.Common.{◌≡◌, ℕ, List, Err, length, rules, sym, ap, subst, ◌∙◌}
-use Rattle.std.specs.Prelude.{⊤}
 use Rattle.ae_tree.specs.declared.tree.NameAt.{NameAt}
 use Rattle.ae_tree.specs.Plain.{Action, Lines, Splits, Locks}
-use Rattle.ae_tree.specs.Shown.{definition, action, action-Split, action-Atomic, action-Share, braced}
+use Rattle.ae_tree.specs.Shown.{definition, action, action-Split, action-Atomic, braced}
 use Rattle.ae_tree.specs.Shown.{lines_from, lines-out}
 use Rattle.ae_rules.specs.Answers.{Leaves}
-use Rattle.ae_rules.specs.Verdict.{Verdict, ◌>>◌}
+use Rattle.ae_rules.specs.Verdict.{Verdict}
 use Rattle.ae_rules.specs.Groups.{may_split_all, may_lock}
 use Rattle.ae_rules.specs.Context.{Context}
-use Rattle.ae_rules.specs.Statements.{judge_statement, judge_lines, judge_share, while_split, while_locked}
+use Rattle.ae_rules.specs.Statements.{judge_statement, judge_lines, while_split, while_locked}
 use Rattle.ae_judge.specs.Tabled.{code_of}
 use Rattle.ae_scope.specs.Scope.{context_of}
 use Rattle.ae_check.specs.Ready.{IsReady, LinesNamed}
-use Rattle.ae_check.specs.Blocks.{Began, Branched, inside_verdict, keeps_held, choice_verdict}
+use Rattle.ae_check.specs.Blocks.{Branched, inside_verdict, keeps_held, choice_verdict}
 use Rattle.ae_check.proofs.from_scope.GrowLemmas.{grows_same}
 use Rattle.ae_check.proofs.from_scope.ReplayLemmas.{grows_then}
 use Rattle.ae_check.proofs.from_scope.JoinLemmas.{Alike, back_to, same_scope}
 use Rattle.ae_check.proofs.NamedLemmas.{this_line_named, next_lines_named, both_blocks_named}
 use Rattle.ae_check.proofs.BlockLemmas.{next_line, group_is_left, inside_ends, ended_so, ended_grows, still_marked}
-use Rattle.ae_check.proofs.BlockLemmas.{marked_locals, marked_changes, marked_groups, entered, split_begins}
-use Rattle.ae_check.proofs.BlockLemmas.{atomic_begins, body_is_compared}
-use Rattle.ae_check.proofs.BranchLemmas.{answers_the_same, failure_is_handed_on, second_block_fails}
-use Rattle.ae_check.proofs.BranchLemmas.{blocks_decide, both_blocks_hold, branched_so}
+use Rattle.ae_check.proofs.BlockLemmas.{body_is_compared, split_opens, atomic_opens, opened_decides}
+use Rattle.ae_check.proofs.BranchLemmas.{answers_the_same, failure_is_handed_on, second_block_fails, blocks_decide}
+use Rattle.ae_check.proofs.BranchLemmas.{lone_block_decides, loop_block_decides, both_blocks_hold, branched_so}
 use Rattle.ae_check.proofs.blocks.+statements.Goals as goal
 
 pub judge_lines-loop-stmt-init : goal.judge_lines-loop-stmt-init
@@ -102,147 +100,96 @@ judge_body-returns-clause-answer t c =
 
 -- ---- choices and loops
 
-pub judge_branch-judge_body-requires : goal.judge_branch-judge_body-requires
-judge_branch-judge_body-requires t c =
-    (search rules, (c.requires.table, (c.requires.stays, (c.requires.ready, c.requires.named))))
-
-pub judge_loop-judge_body-requires : goal.judge_loop-judge_body-requires
-judge_loop-judge_body-requires t c =
+pub judge_tested-judge_body-requires : goal.judge_tested-judge_body-requires
+judge_tested-judge_body-requires t c =
     (search rules, (c.requires.table, (c.requires.stays, (c.requires.ready, c.requires.named))))
 
 -- ---- split and atomic blocks
 
 pub judge_split-judge_inside-requires : goal.judge_split-judge_inside-requires
 judge_split-judge_inside-requires t c =
-    let p = code_of c.args.tabled.now in
-    let s = c.args.scope.now in
-    let i = c.enter_split.new.self in
-    let gs = c.args.groups.now in
-    let grown = c.in_ok-enter_split.ensures.grows in
-    let e = entered (may_split_all (context_of s).group gs) (while_split gs (context_of s)) (context_of i)
-    c.in_ok-enter_split.ensures.answer in (
+    let o = split_opens (code_of c.args.tabled.now) (definition c.args.method.now) c.args.groups.now
+    c.args.scope.now c.enter_split.new.self c.mark-mark.result c.requires.stays c.requires.ready c.mark-mark.ensures
+    c.in_ok-enter_split.ensures.grows c.in_ok-enter_split.ensures.answer in (
       search rules,
       (
-        grown.table ∙ c.requires.table,
-        (
-          c.requires.stays,
-          (
-            subst (IsReady p) (sym e.1)
-                (c.requires.stays.split gs (context_of s) c.requires.ready e.0),
-            (
-              c.requires.named,
-              (
-                marked_locals s i
-                    c.mark-mark.result c.mark-mark.ensures grown,
-                (
-                  marked_changes s i c.mark-mark.result c.mark-mark.ensures grown,
-                  marked_groups s i c.mark-mark.result c.mark-mark.ensures grown,
-                ),
-              ),
-            ),
-          ),
-        ),
+        o.began.grows.table ∙ c.requires.table,
+        (c.requires.stays, (o.ready, (c.requires.named, (o.locals, (o.changes, o.groups))))),
       ),
     )
 
 pub judge_split-returns-clause-answer : goal.judge_split-returns-clause-answer
 judge_split-returns-clause-answer t c =
     let p = code_of c.args.tabled.now in
-    let s = c.args.scope.now in
-    let i = c.enter_split.new.self in
-    let gs = c.args.groups.now in
-    let grown = c.in_ok-enter_split.ensures.grows in
-    let e = entered (may_split_all (context_of s).group gs) (while_split gs (context_of s)) (context_of i)
-    c.in_ok-enter_split.ensures.answer in
-    let began : Began p s c.mark-mark.result i =
-    split_begins p gs s i c.mark-mark.result c.mark-mark.ensures c.requires.ready grown e.1 in
     let m = definition c.args.method.now in
+    let s = c.args.scope.now in
+    let gs = c.args.groups.now in
     let b = (braced c.args.block.now).lines in
-    λ at. answers_the_same (judge_statement p m at (Splits gs (braced c.args.block.now).no b) (context_of s))
-    (inside_verdict p m b (context_of s) (context_of i)) (context_of c.judge_inside.new.scope) c.judge_inside.result
-    (ap (λ (v : Verdict ⊤). v >> inside_verdict p m b (context_of s) (while_split gs (context_of s))) e.0
-    ∙ ap (inside_verdict p m b (context_of s)) (sym e.1))
-    (c.judge_inside.ensures.answer s began)
+    let o = split_opens p m gs s c.enter_split.new.self c.mark-mark.result c.requires.stays c.requires.ready
+    c.mark-mark.ensures c.in_ok-enter_split.ensures.grows c.in_ok-enter_split.ensures.answer in
+    λ at. answers_the_same (judge_statement p m at (Splits gs (braced c.args.block.now).no b) (context_of s)) _
+    (context_of c.judge_inside.new.scope) c.judge_inside.result (opened_decides p m b (may_split_all (context_of
+    s).group gs) (while_split gs (context_of s)) s c.enter_split.new.self c.mark-mark.result o)
+    (c.judge_inside.ensures.answer s o.began)
 
 pub judge_split-returns-clause-grows : goal.judge_split-returns-clause-grows
 judge_split-returns-clause-grows t c =
-    let p = code_of c.args.tabled.now in
-    let s = c.args.scope.now in
-    let i = c.enter_split.new.self in
-    let gs = c.args.groups.now in
-    let grown = c.in_ok-enter_split.ensures.grows in
-    let e = entered (may_split_all (context_of s).group gs) (while_split gs (context_of s)) (context_of i)
-    c.in_ok-enter_split.ensures.answer in
-    let began : Began p s c.mark-mark.result i =
-    split_begins p gs s i c.mark-mark.result c.mark-mark.ensures c.requires.ready grown e.1 in
-    ended_grows s c.judge_inside.new.scope c.judge_inside.result (c.judge_inside.ensures.ended s began)
+    let o = split_opens (code_of c.args.tabled.now) (definition c.args.method.now) c.args.groups.now
+    c.args.scope.now c.enter_split.new.self c.mark-mark.result c.requires.stays c.requires.ready c.mark-mark.ensures
+    c.in_ok-enter_split.ensures.grows c.in_ok-enter_split.ensures.answer in
+    ended_grows c.args.scope.now c.judge_inside.new.scope c.judge_inside.result
+    (c.judge_inside.ensures.ended c.args.scope.now o.began)
 
 pub judge_atomic-judge_inside-requires : goal.judge_atomic-judge_inside-requires
 judge_atomic-judge_inside-requires t c =
-    let p = code_of c.args.tabled.now in
-    let s = c.args.scope.now in
-    let i = c.enter_atomic.new.self in
-    let gs = c.args.group in
-    let grown = c.in_ok-enter_atomic.ensures.grows in
-    let e = entered (may_lock (context_of s).group gs) (while_locked gs.name (context_of s)) (context_of i)
-    c.in_ok-enter_atomic.ensures.answer in (
+    let o = atomic_opens (code_of c.args.tabled.now) (definition c.args.method.now) c.args.group
+    c.args.scope.now c.enter_atomic.new.self c.mark-mark.result c.requires.stays c.requires.ready c.mark-mark.ensures
+    c.in_ok-enter_atomic.ensures.grows c.in_ok-enter_atomic.ensures.answer in (
       search rules,
       (
-        grown.table ∙ c.requires.table,
-        (
-          c.requires.stays,
-          (
-            subst (IsReady p) (sym e.1)
-                (c.requires.stays.lock gs (context_of s) c.requires.ready e.0),
-            (
-              c.requires.named,
-              (
-                marked_locals s i
-                    c.mark-mark.result c.mark-mark.ensures grown,
-                (
-                  marked_changes s i c.mark-mark.result c.mark-mark.ensures grown,
-                  marked_groups s i c.mark-mark.result c.mark-mark.ensures grown,
-                ),
-              ),
-            ),
-          ),
-        ),
+        o.began.grows.table ∙ c.requires.table,
+        (c.requires.stays, (o.ready, (c.requires.named, (o.locals, (o.changes, o.groups))))),
       ),
     )
 
 pub judge_atomic-returns-clause-answer : goal.judge_atomic-returns-clause-answer
 judge_atomic-returns-clause-answer t c =
     let p = code_of c.args.tabled.now in
-    let s = c.args.scope.now in
-    let i = c.enter_atomic.new.self in
-    let gs = c.args.group in
-    let grown = c.in_ok-enter_atomic.ensures.grows in
-    let e = entered (may_lock (context_of s).group gs) (while_locked gs.name (context_of s)) (context_of i)
-    c.in_ok-enter_atomic.ensures.answer in
-    let began : Began p s c.mark-mark.result i =
-    atomic_begins p gs.name s i c.mark-mark.result c.mark-mark.ensures c.requires.ready grown e.1 in
     let m = definition c.args.method.now in
+    let s = c.args.scope.now in
+    let g = c.args.group in
     let b = (braced c.args.block.now).lines in
-    λ at. answers_the_same (judge_statement p m at (Locks gs (braced c.args.block.now).no b) (context_of s))
-    (inside_verdict p m b (context_of s) (context_of i)) (context_of c.judge_inside.new.scope) c.judge_inside.result
-    (ap (λ (v : Verdict ⊤). v >> inside_verdict p m b (context_of s) (while_locked gs.name (context_of s))) e.0
-    ∙ ap (inside_verdict p m b (context_of s)) (sym e.1))
-    (c.judge_inside.ensures.answer s began)
+    let o = atomic_opens p m g s c.enter_atomic.new.self c.mark-mark.result c.requires.stays c.requires.ready
+    c.mark-mark.ensures c.in_ok-enter_atomic.ensures.grows c.in_ok-enter_atomic.ensures.answer in
+    λ at. answers_the_same (judge_statement p m at (Locks g (braced c.args.block.now).no b) (context_of s)) _
+    (context_of c.judge_inside.new.scope) c.judge_inside.result (opened_decides p m b (may_lock (context_of s).group g)
+    (while_locked g.name (context_of s)) s c.enter_atomic.new.self c.mark-mark.result o)
+    (c.judge_inside.ensures.answer s o.began)
 
 pub judge_atomic-returns-clause-grows : goal.judge_atomic-returns-clause-grows
 judge_atomic-returns-clause-grows t c =
-    let p = code_of c.args.tabled.now in
-    let s = c.args.scope.now in
-    let i = c.enter_atomic.new.self in
-    let gs = c.args.group in
-    let grown = c.in_ok-enter_atomic.ensures.grows in
-    let e = entered (may_lock (context_of s).group gs) (while_locked gs.name (context_of s)) (context_of i)
-    c.in_ok-enter_atomic.ensures.answer in
-    let began : Began p s c.mark-mark.result i =
-    atomic_begins p gs.name s i c.mark-mark.result c.mark-mark.ensures c.requires.ready grown e.1 in
-    ended_grows s c.judge_inside.new.scope c.judge_inside.result (c.judge_inside.ensures.ended s began)
+    let o = atomic_opens (code_of c.args.tabled.now) (definition c.args.method.now) c.args.group
+    c.args.scope.now c.enter_atomic.new.self c.mark-mark.result c.requires.stays c.requires.ready c.mark-mark.ensures
+    c.in_ok-enter_atomic.ensures.grows c.in_ok-enter_atomic.ensures.answer in
+    ended_grows c.args.scope.now c.judge_inside.new.scope c.judge_inside.result
+    (c.judge_inside.ensures.ended c.args.scope.now o.began)
 
 -- ---- statements
+
+pub judge_stmt-returns-in-None-clause-answer : goal.judge_stmt-returns-in-None-clause-answer
+judge_stmt-returns-in-None-clause-answer t c =
+    answers_the_same _ _ (context_of c.judge_tested.new.scope) c.judge_tested.result
+    (lone_block_decides (code_of c.args.tabled.now) (definition c.args.method.now) c.args.stmt.now.at
+    (context_of c.args.scope.now) c.args.stmt.now.kind c.in-If.expr c.in-If.then c.in-If.otherwise c.in-If.is
+    c.in-None.is)
+    c.judge_tested.ensures.answer
+
+pub judge_stmt-returns-in-While-clause-answer : goal.judge_stmt-returns-in-While-clause-answer
+judge_stmt-returns-in-While-clause-answer t c =
+    answers_the_same _ _ (context_of c.judge_tested-in-While.new.scope) c.judge_tested-in-While.result
+    (loop_block_decides (code_of c.args.tabled.now) (definition c.args.method.now) c.args.stmt.now.at
+    (context_of c.args.scope.now) c.args.stmt.now.kind c.in-While.expr c.in-While.block c.in-While.is)
+    c.judge_tested-in-While.ensures.answer
 
 pub judge_stmt-returns-in-Split-clause-answer : goal.judge_stmt-returns-in-Split-clause-answer
 judge_stmt-returns-in-Split-clause-answer t c =
@@ -269,19 +216,6 @@ judge_stmt-returns-in-Atomic-clause-answer t c =
     (ap (λ (x : Action). judge_statement p m at x k) (ap action c.in-Atomic.is
     ∙ action-Atomic c.in-Atomic.group c.in-Atomic.block))
     (c.judge_atomic.ensures.answer at)
-
-pub judge_stmt-returns-in-Share-clause-answer : goal.judge_stmt-returns-in-Share-clause-answer
-judge_stmt-returns-in-Share-clause-answer t c =
-    let p = code_of c.args.tabled.now in
-    let m = definition c.args.method.now in
-    let k = context_of c.args.scope.now in
-    let at = c.args.stmt.now.at in
-    answers_the_same (judge_statement p m at (action c.args.stmt.now.kind) k) (judge_share k c.in-Share.x
-    c.in-Share.group)
-    (context_of c.judge_share.new.scope) c.judge_share.result
-    (ap (λ (x : Action). judge_statement p m at x k) (ap action c.in-Share.is
-    ∙ action-Share c.in-Share.x c.in-Share.group))
-    c.judge_share.ensures.answer
 
 -- ---- choices with two branches
 

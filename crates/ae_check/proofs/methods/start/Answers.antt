@@ -13,7 +13,7 @@ use Rattle.ae_rules.specs.Lookups.{groups_of, own_kind}
 use Rattle.ae_judge.specs.Tabled.{code_of}
 use Rattle.ae_scope.specs.Scope.{context_of, with_known}
 use Rattle.ae_groups.specs.Contexts.{needed}
-use Rattle.ae_check.specs.Methods.{with_needed, with_params}
+use Rattle.ae_check.specs.Methods.{with_groups_needed, with_params}
 use Rattle.ae_check.proofs.MethodLemmas.{no_receiver_yet, starts_so}
 use Rattle.ae_check.proofs.methods.start.Goals as goal
 
@@ -25,10 +25,10 @@ add_me-requires-clause-new c =
     let first : context_of c.know.new.self ≡ with_known io (needed ns io) c0 =
     c.in_ok-know.ensures.context ∙ ap (λ (q : GroupPerm). with_known io q c0) (c.permission_at_start.ensures
     ∙ ap (λ (xs : List GroupNeed). needed xs io) c.as_slice-needs.ensures) in
-    let third : context_of c.know_groups.new.scope ≡ with_needed ns (bare_names c.args.method.now.groups) c2 =
+    let third : context_of c.know_groups.new.scope ≡ with_groups_needed ns (bare_names c.args.method.now.groups) c2 =
     c.in_ok-know_groups.ensures.context
-    ∙ ap (λ (xs : List GroupNeed). with_needed xs (bare_names c.as_slice.result.now) c2) c.as_slice-needs.ensures
-    ∙ ap (λ (gs : List NameAt). with_needed ns (bare_names gs) c2) c.as_slice.ensures in
+    ∙ ap (λ (xs : List GroupNeed). with_groups_needed xs (bare_names c.as_slice.result.now) c2) c.as_slice-needs.ensures
+    ∙ ap (λ (gs : List NameAt). with_groups_needed ns (bare_names gs) c2) c.as_slice.ensures in
     no_receiver_yet ns (groups_of (own_kind (code_of c.args.tabled.now) c.args.method.now.class))
     (bare_names c.args.method.now.groups) c0 (context_of c.know.new.self) c2 (context_of c.know_groups.new.scope)
     c.requires.empty.context first c.in_ok-know_own_groups.ensures.context third
@@ -43,10 +43,10 @@ returns-clause-context c =
     let first : context_of c.know.new.self ≡ with_known io (needed ns io) c0 =
     c.in_ok-know.ensures.context ∙ ap (λ (q : GroupPerm). with_known io q c0) (c.permission_at_start.ensures
     ∙ ap (λ (xs : List GroupNeed). needed xs io) c.as_slice-needs.ensures) in
-    let third : context_of c.know_groups.new.scope ≡ with_needed ns (bare_names c.args.method.now.groups) c2 =
+    let third : context_of c.know_groups.new.scope ≡ with_groups_needed ns (bare_names c.args.method.now.groups) c2 =
     c.in_ok-know_groups.ensures.context
-    ∙ ap (λ (xs : List GroupNeed). with_needed xs (bare_names c.as_slice.result.now) c2) c.as_slice-needs.ensures
-    ∙ ap (λ (gs : List NameAt). with_needed ns (bare_names gs) c2) c.as_slice.ensures in
+    ∙ ap (λ (xs : List GroupNeed). with_groups_needed xs (bare_names c.as_slice.result.now) c2) c.as_slice-needs.ensures
+    ∙ ap (λ (gs : List NameAt). with_groups_needed ns (bare_names gs) c2) c.as_slice.ensures in
     subst (λ (k : Context). Leaves (Holds k) (context_of c.add_params.new.scope) c.add_params.result)
     (ap (λ (xs : List Param). with_params xs c4) c.as_slice-2.ensures
     ∙ sym (starts_so (code_of c.args.tabled.now) m c0 (context_of c.know.new.self) c2

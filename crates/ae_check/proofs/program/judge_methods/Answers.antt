@@ -3,7 +3,8 @@ use Rattle.ae_tree.specs.declared.tree.Program.{Program}
 use Rattle.ae_tree.specs.Shown.{code, definition}
 use Rattle.ae_tree.specs.WellShaped.{MethodNamed}
 use Rattle.ae_check.specs.Ready.{StaysReady}
-use Rattle.ae_check.proofs.ProgramLemmas.{its_place, method_is_named}
+use Rattle.ae_check.proofs.ProgramLemmas.{its_place}
+use Rattle.ae_check.proofs.from_rules.HeldLemmas.{named_method}
 use Rattle.ae_check.proofs.program.judge_methods.Goals as goal
 
 pub judge_method-requires-clause-named : goal.judge_method-requires-clause-named
@@ -11,7 +12,7 @@ judge_method-requires-clause-named c =
     let p = code c.args.program.now in
     subst (λ (k : Program). MethodNamed (length k.names) (definition c.method-item.result))
     (sym c.of-tabled.ensures.program)
-    (method_is_named p c.loop-method.method-index (definition c.method-item.result) c.requires.shaped
+    (named_method p c.loop-method.method-index (definition c.method-item.result) c.requires.shaped
     (its_place p c.as_slice-method-items.result.now c.loop-method.method-index c.method-item.result
     (ap (map definition) (sym c.as_slice-method-items.ensures)) c.loop-method-test.true c.method-item.is))
 

@@ -1,6 +1,6 @@
 use Rattle.std.proofs.Common.{Some, length, refl, ap, ◌∙◌}
 use Rattle.std.proofs.lemmas.List.{length-set}
-use Rattle.ae_groups.specs.Contexts.{groups_of}
+use Rattle.ae_groups.specs.Contexts.{known_groups}
 use Rattle.ae_scope.proofs.TrailLemmas.{listed_as_set, rising_after_noted, noted_as_before}
 use Rattle.ae_scope.proofs.RegroupLemmas.{regrouped_as_set}
 use Rattle.ae_scope.proofs.GrowLemmas.{grows_regrouped}
@@ -22,7 +22,7 @@ invariant_of-self-2 c =
     }
 
 pub returns-clause-context : goal.returns-clause-context
-returns-clause-context c = regrouped_as_set c.args.self.now (groups_of c.set.new.self) c.args.name c.args.perm
+returns-clause-context c = regrouped_as_set c.args.self.now (known_groups c.set.new.self) c.args.name c.args.perm
     c.set.ensures.groups
 
 pub returns-clause-grows : goal.returns-clause-grows
