@@ -72,7 +72,8 @@ pub record PassesBlock (p : Code) (m : Definition) (n : ℕ) (b : Lines) (c d : 
   pub opens : Opens p ((n, block_at m b c) ∷ scenes_among p m false b c) os qs
   pub uses : (r : Resource) → used_as w r ≡ lines_use p m b c r
 
--- A block and its end, with this context outside. What it uses counts as far as it is seen from there, but for a group that may be left out.
+-- A block and its end, with this context outside. What it uses counts as far as it is seen from there, but for a group
+-- that may be left out.
 pub record PassesInside (p : Code) (m : Definition) (n : ℕ) (b : Lines) (but : Option ℕ) (outer c d : Context)
     (os qs : List OpenedBlock) (u w : Used) : Type 0 where
   pub last : Context

@@ -1,4 +1,4 @@
-//! What each statement of an accepted program uses, block by block.
+//! What expressions, calls and statements without blocks use, over a scope.
 #![tactic(auto)]
 
 mod calls;

@@ -1,0 +1,141 @@
+-- When a state fits what is known at a statement: what stands in each local is what the judgement takes it for.
+use Rattle.std.specs.Prelude.{◌≡◌, ◌≢◌, ℕ, nat_eq, Bool, true, ◌&&◌, not, List, [], ◌∷◌, Some, slice_get}
+use Rattle.std.specs.List.{list_all}
+use Rattle.ae_tree.specs.declared.tree.Field.{Field}
+use Rattle.ae_tree.specs.declared.tree.Class.{Class}
+use Rattle.ae_tree.specs.declared.form.Perm.{Perm}
+use Rattle.ae_tree.specs.declared.form.Perm.TheVariants as perm
+use Rattle.ae_tree.specs.declared.form.Form.{Form}
+use Rattle.ae_tree.specs.declared.form.Form.TheVariants as f
+use Rattle.ae_tree.specs.Form.{form}
+use Rattle.ae_tree.specs.Names.{io}
+use Rattle.ae_tree.specs.Plain.{Code}
+use Rattle.ae_rules.specs.declared.held.Held.{Held}
+use Rattle.ae_rules.specs.declared.held.Held.TheVariants as held
+use Rattle.ae_rules.specs.Verdict.{given}
+use Rattle.ae_rules.specs.Forms.{is_object}
+use Rattle.ae_rules.specs.Lookups.{class_at, class_called, groups_of}
+use Rattle.ae_rules.specs.Groups.{opens}
+use Rattle.ae_rules.specs.Context.{Local, Context, holds_nothing}
+use Rattle.ae_rules.specs.Walks.{Place}
+use Rattle.ae_semantics.specs.Values.{Val, OfInt, OfBool, Null, Owned, Member, Tree, Object, Array, Values, NoValue}
+use Rattle.ae_semantics.specs.Values.{AndValue, Store, value_fits}
+use Rattle.ae_semantics.specs.Places.{Bound, State, members, group_of}
+
+-- ---- values
+
+-- the fields of the class with this name
+abbrev pub fields_called : Code → ℕ → List Field
+fields_called p c = given (class_called p c) [] (λ (d : Class). d.fields)
+
+abbrev mutual
+  -- of each object in the value, each field has a value of the form that the object's class gives it
+  pub IsWhole : Code → Val → Type 0
+  IsWhole p (OfInt n) = Unit {0}
+  IsWhole p (OfBool b) = Unit {0}
+  IsWhole p Null = Unit {0}
+  IsWhole p (Owned t) = IsWholeTree p t
+  IsWhole p (Member n) = Unit {0}
+
+  pub IsWholeTree : Code → Tree → Type 0
+  IsWholeTree p (Object c xs) = AreOfFields p (fields_called p c) xs
+  IsWholeTree p (Array ns) = Unit {0}
+
+  -- these fields have these values, and no field lacks one
+  pub AreOfFields : Code → List Field → Values → Type 0
+  AreOfFields p [] NoValue = Unit {0}
+  AreOfFields p [] (AndValue v xs) = ⊥
+  AreOfFields p (d ∷ ds) NoValue = ⊥
+  AreOfFields p (d ∷ ds) (AndValue v xs) = (value_fits p (form d.ty) v ≡ true) × IsWhole p v × AreOfFields p ds xs
+
+-- The value is of this form, and so is each value in it of its own; which groups a form names does not count.
+abbrev pub IsOfForm : Code → Form → Val → Type 0
+IsOfForm p t v = (value_fits p t v ≡ true) × IsWhole p v
+
+-- ---- forms
+
+-- the same form, but for the permission of an object
+abbrev pub SameButPermission : Form → Form → Type 0
+SameButPermission f.Int f.Int = Unit {0}
+SameButPermission f.Int f.Bool = ⊥
+SameButPermission f.Int (f.Object q k) = ⊥
+SameButPermission f.Bool f.Int = ⊥
+SameButPermission f.Bool f.Bool = Unit {0}
+SameButPermission f.Bool (f.Object q k) = ⊥
+SameButPermission (f.Object q k) f.Int = ⊥
+SameButPermission (f.Object q k) f.Bool = ⊥
+SameButPermission (f.Object q k) (f.Object r l) = k ≡ l
+
+-- nothing shared is held
+abbrev pub HoldsNoMember : Held → Type 0
+HoldsNoMember h = (g : ℕ) → h ≢ held.Shared g
+
+-- what is shared in a group is held of an object exactly where it is a member of that group now
+abbrev pub FitsPermission : Perm → Held → Type 0
+FitsPermission perm.Unique h = HoldsNoMember h
+FitsPermission perm.Immutable h = HoldsNoMember h
+FitsPermission perm.Lent h = HoldsNoMember h
+FitsPermission (perm.Shared g) h = h ≡ held.Shared g
+
+-- what is held fits the form that stands here now
+abbrev pub FitsHeld : Form → Held → Type 0
+FitsHeld f.Int h = HoldsNoMember h
+FitsHeld f.Bool h = HoldsNoMember h
+FitsHeld (f.Object q k) h = FitsPermission q h
+
+-- the name is not `io`, which has a log and no members
+abbrev pub has_members : ℕ → Bool
+has_members g = not (nat_eq io g)
+
+-- an object with this permission is no member of `io`
+abbrev pub perm_has_members : Perm → Bool
+perm_has_members perm.Unique = true
+perm_has_members perm.Immutable = true
+perm_has_members perm.Lent = true
+perm_has_members (perm.Shared g) = has_members g
+
+-- no group of the form is `io`
+abbrev pub form_has_members : Form → Bool
+form_has_members f.Int = true
+form_has_members f.Bool = true
+form_has_members (f.Object q k) = perm_has_members q && list_all has_members (groups_of k)
+
+-- no field of the program is of a form with `io` for a group
+abbrev pub FieldsHaveMembers : Code → Type 0
+FieldsHaveMembers p = (n : ℕ) (c : Class) → class_at p n ≡ Some c → (i : ℕ) (d : Field) → slice_get c.fields i ≡ Some d
+    → form_has_members (form d.ty) ≡ true
+
+-- ---- places, locals and groups
+
+-- a place of which this is known has this form now and this value
+pub record FitsPlace (p : Code) (w : Place) (now : Form) (v : Val) : Type 0 where
+  pub form : SameButPermission w.form now
+  pub held : FitsHeld now w.held
+  pub members : form_has_members now ≡ true
+  pub value : IsOfForm p now v
+
+-- a local as a place
+abbrev pub place_of : Local → Place
+place_of l = record { form = l.form; held = l.held }
+
+-- the place has a value: only an object that was moved away has none
+abbrev pub has_value : Place → Bool
+has_value w = not (holds_nothing w.held && is_object w.form)
+
+-- what there is of a local that has this form and of which this is held
+pub record FitsLocal (p : Code) (s : State) (x : ℕ) (w : Place) : Type 0 where
+  pub bound : Bound
+  pub is : s.locals x ≡ Some bound
+  pub fits : FitsPlace p w bound.form bound.value
+
+-- the members of a group are here, and each is whole
+pub record HasMembers (p : Code) (s : State) (g : ℕ) : Type 0 where
+  pub store : Store
+  pub is : members (group_of s g) ≡ Some store
+  pub whole : (n : ℕ) (t : Tree) → slice_get store n ≡ Some t → IsWholeTree p t
+
+-- each visible local that was not moved away has a value of its form, and each group but `io` that may be reached has
+-- its members here
+pub record FitsContext (p : Code) (c : Context) (s : State) : Type 0 where
+  pub local : (x : ℕ) (l : Local) → c.local x ≡ Some l → has_value (place_of l) ≡ true → FitsLocal p s x (place_of l)
+  pub group : (g : ℕ) → has_members g ≡ true → opens c.group g ≡ true → HasMembers p s g

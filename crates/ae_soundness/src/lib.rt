@@ -1,0 +1,9 @@
+//! What an accepted program never lacks, as laws on the rules and the meaning.
+#![tactic(auto)]
+
+mod laws;
+
+pub use laws::{
+    beginnings_fit, fields_are_of_groups, fields_are_there, objects_are_reached, paths_are_found,
+    slots_are_found, values_are_found, what_goes_in_fits,
+};
