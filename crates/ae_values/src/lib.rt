@@ -1,0 +1,14 @@
+//! Values with their heights, the members of groups, and what is bound under names.
+#![tactic(auto)]
+
+mod env;
+mod laws;
+mod store;
+#[cfg(test)]
+mod tests;
+mod value;
+
+pub use env::{Bind, Bound, Env, Image};
+pub use laws::binds_change_one_name;
+pub use store::Store;
+pub use value::{Object, Val};
