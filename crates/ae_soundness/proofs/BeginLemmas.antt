@@ -31,9 +31,10 @@ use Rattle.ae_semantics.specs.Values.{Owned, Array}
 use Rattle.ae_semantics.specs.Places.{Bound}
 use Rattle.ae_semantics.specs.Calls.{taken}
 use Rattle.ae_semantics.specs.Means.{Start, main_state, start_at}
-use Rattle.ae_soundness.specs.Fits.{FitsPlace, FitsContext, has_members, place_of}
+use Rattle.ae_soundness.specs.Fits.{FitsPlace, FitsContext, has_members, form_has_members, place_held}
 use Rattle.ae_soundness.specs.Laws.{BeginningsFit}
 use Rattle.ae_soundness.proofs.FieldLemmas.{given_some}
+use Rattle.ae_soundness.proofs.LocalLemmas.{HasBound, is_bound}
 use Rattle.ae_soundness.proofs.from_rules.PathLemmas.{first_holds}
 use Rattle.ae_soundness.proofs.from_rules.SeenLemmas.{found_is, required}
 use Rattle.ae_soundness.proofs.from_rules.ShapeLemmas.{callee_receiver}
@@ -82,9 +83,9 @@ main_bound p m ints o xs y = taken
     (if_some (option_map (me_slot p (λ g. g) m) o) (map (param_slot (λ g. g)) xs)))
     (record { value = Owned (Array ints); from = None } ∷ []) y
 
--- there is something that fits
-abbrev HasBound : Code → Local → Option Bound → Type 0
-HasBound p l o = (b : Bound) × (o ≡ Some b) × FitsPlace p (place_of l) b.form b.value
+-- there is something that fits, and no group of the local is `io`
+abbrev IsBoundFirst : Code → Local → Option Bound → Type 0
+IsBoundFirst p l o = HasBound p l o × (form_has_members l.form ≡ true)
 
 ints_form : (t : Form) → is_unique t ≡ true → is_ints t ≡ true → t ≡ f.Object perm.Unique kind.Ints
 ints_form f.Int u i = absurd (cc)
@@ -96,20 +97,27 @@ ints_form (f.Object perm.Lent k) u i = absurd (cc u)
 ints_form (f.Object (perm.Shared g) k) u i = absurd (cc u)
 
 args_fit : (p : Code) (ints : List ℤ) (z : Param) → form z.ty ≡ f.Object perm.Unique kind.Ints
-    → FitsPlace p (place_of (param_local z)) (form_with (λ g. g) (form z.ty)) (Owned (Array ints))
+    → FitsPlace p (place_held (param_local z)) (form_with (λ g. g) (form z.ty)) (Owned (Array ints))
 args_fit p ints z e = rw e (record { form = refl; held = λ g d. absurd (cc); members = refl; value = (refl, tt) })
+
+args_have_members : (z : Param) → form z.ty ≡ f.Object perm.Unique kind.Ints
+    → form_has_members (param_local z).form ≡ true
+args_have_members z e = rw e refl
 
 named_bound : (p : Code) (ints : List ℤ) (z : Param) → form z.ty ≡ f.Object perm.Unique kind.Ints
     → (d : Bool) (l : Local)
     → option_map param_local (if d then Some z else None) ≡ Some l
-    → HasBound p l (if d then Some (record { form = form_with (λ g. g) (form z.ty); value = Owned (Array ints) })
+    → IsBoundFirst p l (if d then Some (record { form = form_with (λ g. g) (form z.ty); value = Owned (Array ints) })
     else None)
 named_bound p ints z e true l h =
     let same : param_local z ≡ l = same_Some (param_local z) l h in (
-      _,
-      refl,
-      subst (λ (k : Local). FitsPlace p (place_of k) (form_with (λ g. g) (form z.ty)) (Owned (Array ints))) same
-          (args_fit p ints z e),
+      (
+        _,
+        refl,
+        subst (λ (k : Local). FitsPlace p (place_held k) (form_with (λ g. g) (form z.ty)) (Owned (Array ints))) same
+            (args_fit p ints z e),
+      ),
+      subst (λ (k : Local). form_has_members k.form ≡ true) same (args_have_members z e),
     )
 named_bound p ints z e false l h = absurd (cc)
 
@@ -119,7 +127,7 @@ not_this false o l e = e
 
 main_fits : (p : Code) (m : Definition) (ints : List ℤ) (xs : List Param) → are_main_params xs ≡ true
     → (y : ℕ) (l : Local)
-    → main_local p m None xs y ≡ Some l → HasBound p l (main_bound p m ints None xs y)
+    → main_local p m None xs y ≡ Some l → IsBoundFirst p l (main_bound p m ints None xs y)
 main_fits p m ints [] a y l e = absurd (cc (not_this (nat_eq this y) None l e))
 main_fits p m ints (z ∷ []) a y l e =
     let i = and_parts (is_unique (form z.ty) && is_ints (form z.ty)) (is_none z.away) a in
@@ -137,14 +145,16 @@ none_there (Some x) e = absurd (cc)
 main_begins : (p : Code) (m : Definition) (n : ℕ) (ints : List ℤ) → m.me ≡ None → are_main_params m.params ≡ true
     → are_main_needs m.needs ≡ true → FitsContext p (start p m) (main_state p m ints)
 main_begins p m n ints i a b = record {
-  local = λ y l e h.
-      let r = subst
-      (λ (o : Option Me). main_local p m o m.params y ≡ Some l → HasBound p l (main_bound p m ints o m.params y))
-      (sym i)
-      (main_fits p m ints m.params a y l) e in
-      record { bound = r.0; is = r.1; fits = r.2 };
+  form = λ y l e. (first_bound y l e).1;
+  local = λ y l e h. is_bound p (main_state p m ints) y l (first_bound y l e).0;
   group = λ g h o. absurd (none_open m.needs b g h (knows p m g) o);
 }
+  where
+    first_bound : (y : ℕ) (l : Local) → main_local p m m.me m.params y ≡ Some l
+        → IsBoundFirst p l (main_bound p m ints m.me m.params y)
+    first_bound y l e = subst
+        (λ (o : Option Me). main_local p m o m.params y ≡ Some l → IsBoundFirst p l (main_bound p m ints o m.params y))
+        (sym i) (main_fits p m ints m.params a y l) e
 
 pub beginnings_fit : BeginningsFit
 beginnings_fit p w h ints x e =

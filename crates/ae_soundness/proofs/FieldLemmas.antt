@@ -4,6 +4,7 @@ use Rattle.std.proofs.Common.{if◌then◌else◌, List, [], ◌∷◌, map, Opt
 use Rattle.std.specs.Prelude.{slice_get, option_map}
 use Rattle.std.specs.List.{list_all}
 use Rattle.std.proofs.lemmas.Bool.{eqb-true, and_from}
+use Rattle.std.proofs.lemmas.Option.{same_Some}
 use Rattle.ae_tree.specs.declared.tree.Field.{Field}
 use Rattle.ae_tree.specs.declared.tree.Class.{Class}
 use Rattle.ae_tree.specs.declared.form.Perm.{Perm}
@@ -22,10 +23,10 @@ use Rattle.ae_rules.specs.Lookups.{class_at, class_number, class_called, field_n
 use Rattle.ae_rules.specs.Lookups.{field_form, field_of_kind}
 use Rattle.ae_rules.specs.Walks.{held_inside, held_in_field}
 use Rattle.ae_semantics.specs.Values.{Val, OfInt, OfBool, Null, Owned, Member, Tree, Object, Array, Values, NoValue}
-use Rattle.ae_semantics.specs.Values.{AndValue, is_of_kind, fits_object, value_fits, value_at}
+use Rattle.ae_semantics.specs.Values.{AndValue, is_of_kind, fits_object, value_fits, value_at, with_changed, put_at}
 use Rattle.ae_semantics.specs.Places.{Fine, NumberedField, OpenedObject, numbered_as, numbered_field}
 use Rattle.ae_semantics.specs.Places.{field_value, field_place, into_field}
-use Rattle.ae_soundness.specs.Fits.{IsWholeTree, AreOfFields, IsOfForm, fields_called, SameButPermission}
+use Rattle.ae_soundness.specs.Fits.{IsWhole, IsWholeTree, AreOfFields, IsOfForm, fields_called, SameButPermission}
 use Rattle.ae_soundness.specs.Fits.{HoldsNoMember, FitsHeld, FitsPlace, has_members, form_has_members}
 use Rattle.ae_soundness.specs.Fits.{perm_has_members}
 use Rattle.ae_soundness.specs.Fits.{FieldsHaveMembers}
@@ -84,7 +85,8 @@ chosen_members : (b : Bool) (y z : ℕ) → has_members y ≡ true → has_membe
 chosen_members true y z h e = h
 chosen_members false y z h e = e
 
-in_place_members : (xs ys : List ℕ) (g : ℕ) → list_all has_members ys ≡ true → has_members g ≡ true
+-- A group in the place of another is not `io`, where none of these is.
+pub in_place_members : (xs ys : List ℕ) (g : ℕ) → list_all has_members ys ≡ true → has_members g ≡ true
     → has_members (in_place xs ys g) ≡ true
 in_place_members [] ys g h e = e
 in_place_members (x ∷ xs) [] g h e = e
@@ -115,7 +117,8 @@ kind_members : (new : ℕ → ℕ) → KeepsMembers new → (k : Kind) → list_
 kind_members new m kind.Ints h = refl
 kind_members new m (kind.Class c gs) h = all_members new m gs h
 
-form_members : (new : ℕ → ℕ) → KeepsMembers new → (t : Form) → form_has_members t ≡ true
+-- No group of a form with others for its groups is `io`.
+pub form_members : (new : ℕ → ℕ) → KeepsMembers new → (t : Form) → form_has_members t ≡ true
     → form_has_members (form_with new t) ≡ true
 form_members new m f.Int h = refl
 form_members new m f.Bool h = refl
@@ -221,6 +224,18 @@ class_of_tree p c gs (Object y xs) e =
     let same : c ≡ y = eqb-true c y (first_of_both (nat_eq c y) _ e) in
     (xs, ap (λ z. Object z xs) (sym same))
 
+-- With one value changed to another of its form the fields have their values.
+pub changed_fields : (p : Code) (ds : List Field) (xs : Values) (i : ℕ) (new : Val → Val) → AreOfFields p ds xs
+    → ((d : Field) (v : Val) → slice_get ds i ≡ Some d → value_at xs i ≡ Some v → IsOfForm p (form d.ty) v
+    → IsOfForm p (form d.ty) (new v))
+    → AreOfFields p ds (with_changed xs i new)
+changed_fields p [] NoValue i new a k = tt
+changed_fields p [] (AndValue v xs) i new a k = absurd a
+changed_fields p (d ∷ ds) NoValue i new a k = absurd a
+changed_fields p (d ∷ ds) (AndValue v xs) zero new a k =
+    let r : IsOfForm p (form d.ty) (new v) = k d v refl refl (a.0, a.1) in (r.0, r.1, a.2)
+changed_fields p (d ∷ ds) (AndValue v xs) (suc i) new a k = (a.0, a.1, changed_fields p ds xs i new a.2 k)
+
 -- A field of an object by its number, with its value.
 pub record FieldThere (p : Code) (o : OpenedObject) (x : ℕ) (t : Form) : Type 0 where
   pub part : NumberedField
@@ -229,6 +244,7 @@ pub record FieldThere (p : Code) (o : OpenedObject) (x : ℕ) (t : Form) : Type 
   pub value : Val
   pub there : field_value o.tree part.number ≡ Some value
   pub fits : IsOfForm p t value
+  pub changed : (w : Val) → IsOfForm p t w → IsWhole p (put_at (part.number ∷ []) w (Owned o.tree))
 
 -- A declared field of a whole object has its number and a value of its form.
 pub field_there : (p : Code) (k : Kind) (x : ℕ) (t : Form) → field_of_kind p k x ≡ Some t → (o : OpenedObject)
@@ -256,6 +272,17 @@ field_there p k x t e o r =
       value = v.0;
       there = ap (λ (y : Tree). field_value y z.number) tree.1 ∙ v.1;
       fits = (fits, v.2.1);
+      changed = λ w i. subst (λ (y : Tree). IsWhole p (put_at (z.number ∷ []) w (Owned y))) (sym tree.1)
+          (changed_fields p (fields_called p z.name) tree.0 z.number (λ y. w)
+          (subst (λ (ds : List Field). AreOfFields p ds tree.0) (sym listed) whole)
+          (λ b y e u l.
+          let same : z.field ≡ b = same_Some z.field b (sym z.there
+          ∙ ap (λ (ds : List Field). slice_get ds z.number) (sym listed) ∙ e) in
+          subst (λ (a : Field). IsOfForm p (form a.ty) w) same (
+            sym (same_value_fit p (in_place (bare_names z.class.groups) z.groups) (form z.field.ty) w)
+                ∙ subst (λ (a : Form). value_fits p a w ≡ true) (sym z.form) i.0,
+            i.1,
+          )));
     }
 
 -- a field's form has no `io` for a group, where its object's has none

@@ -39,7 +39,8 @@ pub group_has_members : (known : Names) (g : NameAt) (u : ⊤) → is_group know
 group_has_members known g u e = second_of_both (known g.name) (has_members g.name)
     (required (known g.name && has_members g.name) rule.UnknownGroup g.at u e)
 
-groups_have_members : (known : Names) (gs : List NameAt) (u : ⊤) → each (is_group known) gs ≡ Holds u
+-- Groups that are known as such are not `io`.
+pub groups_have_members : (known : Names) (gs : List NameAt) (u : ⊤) → each (is_group known) gs ≡ Holds u
     → list_all has_members (bare_names gs) ≡ true
 groups_have_members known [] u e = refl
 groups_have_members known (g ∷ gs) u e =
@@ -47,7 +48,8 @@ groups_have_members known (g ∷ gs) u e =
     and_from (has_members g.name) (list_all has_members (bare_names gs)) (group_has_members known g a.0 a.1)
     (groups_have_members known gs u a.2)
 
-perm_written : (known : Names) (may : Bool) (q : PermAt) (u : ⊤) → forms_perm known may q ≡ Holds u
+-- A permission that may be written is of no group `io`.
+pub perm_written : (known : Names) (may : Bool) (q : PermAt) (u : ⊤) → forms_perm known may q ≡ Holds u
     → perm_has_members (perm_of q) ≡ true
 perm_written known may (perm_at.Unique at) u e = refl
 perm_written known may (perm_at.Immutable at) u e = refl
@@ -75,13 +77,14 @@ type_has_members p known may (ty.Object q k) u e =
 
 -- ---- classes
 
--- the number at a place of a row of numbers
-numbered_at : (k n i : ℕ) → i < n → slice_get (numbers_from k n) i ≡ Some (k + i)
+-- The number at a place of a row of numbers.
+pub numbered_at : (k n i : ℕ) → i < n → slice_get (numbers_from k n) i ≡ Some (k + i)
 numbered_at k zero i h = absurd (omega arith)
 numbered_at k (suc n) zero h = ap Some (omega arith)
 numbered_at k (suc n) (suc i) h = numbered_at (k + 1) n i (omega arith) ∙ ap Some (omega arith)
 
-class_declared : (ds : List Decl) (i n : ℕ) → slice_get (filter_map class_in ds) i ≡ Some n
+-- A class that is declared has its declaration.
+pub class_declared : (ds : List Decl) (i n : ℕ) → slice_get (filter_map class_in ds) i ≡ Some n
     → (j : ℕ) × (slice_get ds j ≡ Some (decl.Class n))
 class_declared [] i n e = absurd (cc)
 class_declared (decl.Class m ∷ ds) zero n e = (0, ap (λ x. Some (decl.Class x)) (same_Some m n e))

@@ -53,8 +53,8 @@ same_class p (kind.Class c gs) (kind.Class d hs) t e =
 
 -- ---- permissions
 
--- what is no member fits as what is unique
-as_unique : (p : Code) (q : Perm) (k : Kind) (v : Val) → FitsPermission q held.None
+-- What is no member fits as what is unique.
+pub as_unique : (p : Code) (q : Perm) (k : Kind) (v : Val) → FitsPermission q held.None
     → fits_object p q k v ≡ fits_object p perm.Unique k v
 as_unique p (perm.Shared g) k v h = absurd (cc h)
 as_unique p perm.Unique k v h = refl
@@ -69,7 +69,8 @@ as_unique p perm.Lent k Null h = refl
 as_unique p perm.Lent k (Owned t) h = refl
 as_unique p perm.Lent k (Member n) h = refl
 
-of_same_class : (p : Code) (k l : Kind) (v : Val) → same_kind k l ≡ true
+-- Of one class what is unique fits alike.
+pub of_same_class : (p : Code) (k l : Kind) (v : Val) → same_kind k l ≡ true
     → fits_object p perm.Unique l v ≡ fits_object p perm.Unique k v
 of_same_class p k l (OfInt n) e = refl
 of_same_class p k l (OfBool b) e = refl
@@ -77,7 +78,8 @@ of_same_class p k l Null e = refl
 of_same_class p k l (Owned t) e = same_class p k l t e
 of_same_class p k l (Member n) e = refl
 
-as_shared : (p : Code) (g h : ℕ) (k l : Kind) (v : Val)
+-- What is shared fits every shared form.
+pub as_shared : (p : Code) (g h : ℕ) (k l : Kind) (v : Val)
     → fits_object p (perm.Shared h) l v ≡ fits_object p (perm.Shared g) k v
 as_shared p g h k l (OfInt n) = refl
 as_shared p g h k l (OfBool b) = refl
@@ -85,15 +87,15 @@ as_shared p g h k l Null = refl
 as_shared p g h k l (Owned t) = refl
 as_shared p g h k l (Member n) = refl
 
--- where nothing shared is held, there is no member now
-no_member : (r : Perm) (h : Held) → FitsPermission r h → HoldsNoMember h → FitsPermission r held.None
+-- Where nothing shared is held, there is no member now.
+pub no_member : (r : Perm) (h : Held) → FitsPermission r h → HoldsNoMember h → FitsPermission r held.None
 no_member perm.Unique h a b = λ g e. absurd (cc e)
 no_member perm.Immutable h a b = λ g e. absurd (cc e)
 no_member perm.Lent h a b = λ g e. absurd (cc e)
 no_member (perm.Shared g) h a b = absurd (b g a)
 
--- a value that is no member goes where no member is wanted
-plain_fits : (p : Code) (q r : Perm) (k l : Kind) (v : Val) (h : Held) → FitsPermission q held.None
+-- A value that is no member goes where no member is wanted.
+pub plain_fits : (p : Code) (q r : Perm) (k l : Kind) (v : Val) (h : Held) → FitsPermission q held.None
     → FitsPermission r h → HoldsNoMember h → same_kind k l ≡ true → fits_object p r l v ≡ true
     → fits_object p q k v ≡ true
 plain_fits p q r k l v h a b n e i = as_unique p q k v a ∙ sym (of_same_class p k l v e)
@@ -121,7 +123,8 @@ into_shared_fits p g r k l v held.None named at u e h i = absurd (cc e)
 holds_so : (h k : Held) → same_held h k ≡ true → HoldsNoMember h → HoldsNoMember k
 holds_so h k e n = subst (λ (x : Held). HoldsNoMember x) (same_held_is h k e) n
 
-object_fits : (p : Code) (q r : Perm) (k l : Kind) (v : Val) (h : Held) (named : Bool) (at : Spot) (u : ⊤)
+-- A value goes into the form of an object that it is judged to go into.
+pub object_fits : (p : Code) (q r : Perm) (k l : Kind) (v : Val) (h : Held) (named : Bool) (at : Spot) (u : ⊤)
     → into_perm q named h at ≡ Holds u → FitsPermission r h → same_kind k l ≡ true → fits_object p r l v ≡ true
     → fits_object p q k v ≡ true
 object_fits p perm.Unique r k l v h named at u e a s i = plain_fits p perm.Unique r k l v h (λ g d. absurd (cc d)) a
@@ -135,18 +138,18 @@ object_fits p perm.Immutable r k l v h named at u e a s i = plain_fits p perm.Im
 object_fits p perm.Lent r k l v h named at u e a s i = absurd (cc e)
 object_fits p (perm.Shared g) r k l v h named at u e a s i = into_shared_fits p g r k l v h named at u e a i
 
--- a value of a place goes into the form that it is judged to go into
-place_fits : (p : Code) (q : Perm) (k : Kind) (t now : Form) (h : Held) (v : Val) (named : Bool) (at : Spot) (u : ⊤)
-    → is_object_of k t ≡ true → into_perm q named h at ≡ Holds u
+-- A value of a place goes into the form of an object into which its own form may go.
+pub place_fits : (p : Code) (q : Perm) (k : Kind) (t now : Form) (h : Held) (v : Val) → is_object_of k t ≡ true
+    → ((r : Perm) (m : Kind) → FitsPermission r h → same_kind k m ≡ true → fits_object p r m v ≡ true
+    → fits_object p q k v ≡ true)
     → FitsPlace p (record { form = t; held = h }) now v → IsOfForm p (f.Object q k) v
-place_fits p q k f.Int now h v named at u o e z = absurd (cc o)
-place_fits p q k f.Bool now h v named at u o e z = absurd (cc o)
-place_fits p q k (f.Object y l) f.Int h v named at u o e z = absurd z.form
-place_fits p q k (f.Object y l) f.Bool h v named at u o e z = absurd z.form
-place_fits p q k (f.Object y l) (f.Object r m) h v named at u o e z =
-    let same : same_kind k m ≡ true = subst (λ (x : Kind). same_kind k x ≡ true) z.form o in
-    let goes : fits_object p q k v ≡ true = object_fits p q r k m v h named at u e z.held same z.value.0 in
-    (goes, z.value.1)
+place_fits p q k f.Int now h v o goes z = absurd (cc o)
+place_fits p q k f.Bool now h v o goes z = absurd (cc o)
+place_fits p q k (f.Object y l) f.Int h v o goes z = absurd z.form
+place_fits p q k (f.Object y l) f.Bool h v o goes z = absurd z.form
+place_fits p q k (f.Object y l) (f.Object r m) h v o goes z =
+    let same : same_kind k m ≡ true = subst (λ (x : Kind). same_kind k x ≡ true) z.form o
+    in (goes r m z.held same z.value.0, z.value.1)
 
 -- ---- expressions
 
@@ -161,7 +164,8 @@ leaving_value t held.Lent at u e = refl
 leaving_value t (held.Shared g) at u e = refl
 leaving_value t (held.Inner g) at u e = refl
 
-null_fits : (p : Code) (q : Perm) (k : Kind) → fits_object p q k Null ≡ true
+-- Null fits every object's form.
+pub null_fits : (p : Code) (q : Perm) (k : Kind) → fits_object p q k Null ≡ true
 null_fits p perm.Unique k = refl
 null_fits p perm.Immutable k = refl
 null_fits p perm.Lent k = refl
@@ -178,7 +182,8 @@ path_in p c s q k path at u m z e =
     let object : is_object_of k w.form ≡ true = required (is_object_of k w.form) rule.TypeMismatch at b.0 b.1
     in then_place p w (f.Object q k) (walk_to p s path) (λ x. Fine x.value)
     (paths_are_found p c s path w m z a.1 (λ n. leaving_value w.form w.held at d.0 d.1))
-    (λ x h. place_fits p q k w.form x.form w.held x.value (is_name path) at u object d.2 h)
+    (λ x h. place_fits p q k w.form x.form w.held x.value object
+    (λ r l a i e. object_fits p q r k l x.value w.held (is_name path) at u d.2 a i e) h)
 
 object_in : (p : Code) (c : Context) (s : State) (q : Perm) (k : Kind) (e : Expression) (u : ⊤) → FieldsHaveMembers p
     → FitsContext p c s → fits p c (f.Object q k) e ≡ Holds u → IsValueOf p (f.Object q k) (value p s e)

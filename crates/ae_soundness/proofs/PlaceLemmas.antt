@@ -24,7 +24,7 @@ use Rattle.ae_semantics.specs.Places.{Outcome, Fine, Traps, Lacks, ◌>>=◌, th
 use Rattle.ae_semantics.specs.Places.{InGroup, Address, PlaceFound, OpenedObject, opened_if}
 use Rattle.ae_semantics.specs.Places.{opened_member, open_value, open_form, open_place, into_field, step_to, steps}
 use Rattle.ae_semantics.specs.Places.{local_place, walk_to}
-use Rattle.ae_soundness.specs.Fits.{IsWholeTree, IsOfForm, SameButPermission, FitsPermission, FitsPlace, place_of}
+use Rattle.ae_soundness.specs.Fits.{IsWholeTree, IsOfForm, SameButPermission, FitsPermission, FitsPlace, place_held}
 use Rattle.ae_soundness.specs.Fits.{has_value, FitsLocal, has_members, perm_has_members, form_has_members}
 use Rattle.ae_soundness.specs.Fits.{HasMembers, FieldsHaveMembers, FitsContext}
 use Rattle.ae_soundness.specs.Laws.{IsFoundAs, IsReachedAs, PathsAreFound, ObjectsAreReached}
@@ -114,7 +114,8 @@ object_known p c s z w (f.Object r l) v h q k e a at u = subst
     (λ (x : Kind). IsReachedAs p x (open_value p s r l a v)) (sym (same_kinds q r k l w.form e h.form))
     (value_known p c s z r l w.held v a at h.held h.members h.value u)
 
-kind_members : (p : Code) (w : Place) (now : Form) (v : Val) → FitsPlace p w now v → (q : Perm) (k : Kind)
+-- No group of a place's kind is `io`.
+pub kind_members : (p : Code) (w : Place) (now : Form) (v : Val) → FitsPlace p w now v → (q : Perm) (k : Kind)
     → w.form ≡ f.Object q k → list_all has_members (groups_of k) ≡ true
 kind_members p w f.Int v h q k e = absurd (no_number q k w.form e h.form)
 kind_members p w f.Bool v h q k e = absurd (no_truth q k w.form e h.form)
@@ -204,11 +205,11 @@ paths_are_found p c s path w m z e h =
     let l : Local = a.0 in
     let visible : c.local path.root.name ≡ Some l = found_is (c.local path.root.name) rule.UnknownName path.root.at l
     a.1 in
-    let b : FitsLocal p s path.root.name (place_of l) = z.local path.root.name l visible
-    (root_value p c path.root.at path.steps (place_of l) w a.2 h) in
+    let b : FitsLocal p s path.root.name (place_held l) = z.local path.root.name l visible
+    (root_value p c path.root.at path.steps (place_held l) w a.2 h) in
     subst (λ (o : Option Bound). IsFoundAs p w (there o >>= λ y. steps p s path.steps (local_place path.root.name y)))
     (sym b.is)
-    (steps_known p c s m z path.root.at path.steps (place_of l) w (local_place path.root.name b.bound) b.fits a.2)
+    (steps_known p c s m z path.root.at path.steps (place_held l) w (local_place path.root.name b.bound) b.fits a.2)
 
 then_open : (p : Code) (c : Context) (s : State) → FitsContext p c s → (w : Place) (q : Perm) (k : Kind)
     → w.form ≡ f.Object q k → (at : Spot) → access c at w.held ≡ fine → (o : Outcome PlaceFound) → IsFoundAs p w o

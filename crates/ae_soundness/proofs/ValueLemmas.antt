@@ -30,7 +30,7 @@ use Rattle.ae_semantics.specs.Places.{Outcome, Fine, Traps, ◌>>=◌, State, Pl
 use Rattle.ae_semantics.specs.Places.{open_place, walk_to, reach}
 use Rattle.ae_semantics.specs.Expressions.{fitted, numbers, index}
 use Rattle.ae_semantics.specs.Expressions.{item_at, item, both, value}
-use Rattle.ae_soundness.specs.Fits.{IsOfForm, SameButPermission, place_of, has_value, FieldsHaveMembers}
+use Rattle.ae_soundness.specs.Fits.{IsOfForm, SameButPermission, place_held, has_value, FieldsHaveMembers}
 use Rattle.ae_soundness.specs.Fits.{FitsContext}
 use Rattle.ae_soundness.specs.Laws.{IsFoundAs, IsValueOf, ValuesAreFound}
 use Rattle.ae_soundness.proofs.OperatorLemmas.{then_value, then_place, then_object, then_number, then_truth}
@@ -111,7 +111,7 @@ name_value p c path w e h =
     a.0 a.1 in
     let nothing : holds_nothing (held_in c path.root.name) ≡ false = not-true
     (holds_nothing (held_in c path.root.name)) h
-    in held_name p c path.root.at path.steps (place_of a.0) w a.2
+    in held_name p c path.root.at path.steps (place_held a.0) w a.2
     (subst (λ (o : Option Local). holds_nothing (given o held.None (λ (l : Local). l.held)) ≡ false) visible nothing)
 
 -- ---- operands
@@ -194,7 +194,8 @@ item_value : (p : Code) (ns : List ℤ) (z : ℤ) → IsValueOf p f.Int (index n
 item_value p ns (pos i) = item_there p ns i (nat_lt i (length ns)) refl
 item_value p ns (negsuc i) = tt
 
-ints_is : (t : Form) → is_ints t ≡ true → (q : Perm) × (t ≡ f.Object q kind.Ints)
+-- A form of integers is that of an object with some permission.
+pub ints_is : (t : Form) → is_ints t ≡ true → (q : Perm) × (t ≡ f.Object q kind.Ints)
 ints_is f.Int e = absurd (cc)
 ints_is f.Bool e = absurd (cc)
 ints_is (f.Object q kind.Ints) e = (q, refl)

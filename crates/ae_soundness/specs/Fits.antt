@@ -115,8 +115,8 @@ pub record FitsPlace (p : Code) (w : Place) (now : Form) (v : Val) : Type 0 wher
   pub value : IsOfForm p now v
 
 -- a local as a place
-abbrev pub place_of : Local → Place
-place_of l = record { form = l.form; held = l.held }
+abbrev pub place_held : Local → Place
+place_held l = record { form = l.form; held = l.held }
 
 -- the place has a value: only an object that was moved away has none
 abbrev pub has_value : Place → Bool
@@ -134,8 +134,9 @@ pub record HasMembers (p : Code) (s : State) (g : ℕ) : Type 0 where
   pub is : members (group_of s g) ≡ Some store
   pub whole : (n : ℕ) (t : Tree) → slice_get store n ≡ Some t → IsWholeTree p t
 
--- each visible local that was not moved away has a value of its form, and each group but `io` that may be reached has
--- its members here
+-- no group of a visible local's form is `io`, each visible local that was not moved away has a value of its form, and
+-- each group but `io` that may be reached has its members here
 pub record FitsContext (p : Code) (c : Context) (s : State) : Type 0 where
-  pub local : (x : ℕ) (l : Local) → c.local x ≡ Some l → has_value (place_of l) ≡ true → FitsLocal p s x (place_of l)
+  pub form : (x : ℕ) (l : Local) → c.local x ≡ Some l → form_has_members l.form ≡ true
+  pub local : (x : ℕ) (l : Local) → c.local x ≡ Some l → has_value (place_held l) ≡ true → FitsLocal p s x (place_held l)
   pub group : (g : ℕ) → has_members g ≡ true → opens c.group g ≡ true → HasMembers p s g

@@ -1,9 +1,9 @@
 // What an accepted program never lacks.
-ghost use Rattle.ae_soundness.specs.Laws.{BeginningsFit, FieldsAreOfGroups, FieldsAreThere};
-ghost use Rattle.ae_soundness.specs.Laws.{ObjectsAreReached, PathsAreFound, SlotsAreFound, ValuesAreFound};
-ghost use Rattle.ae_soundness.specs.Laws.{WhatGoesInFits};
+ghost use Rattle.ae_soundness.specs.Laws.{BeginningsFit, CallsAreEntered, FieldsAreOfGroups, FieldsAreThere};
+ghost use Rattle.ae_soundness.specs.Laws.{MethodsHaveMembers, ObjectsAreReached, PathsAreFound, SlotsAreFound};
+ghost use Rattle.ae_soundness.specs.Laws.{StatementsWithoutCallsFit, ValuesAreFound, WhatGoesInFits};
 
-use ae_rules::walks_go_by_owners;
+use ae_rules::{every_slot_is_given, walks_go_by_owners};
 
 /// In a program whose declarations hold no field is of a form with `io` for a group, so that each group that a walk
 /// meets has members.
@@ -51,4 +51,26 @@ pub fn slots_are_found()
     ensures { SlotsAreFound }
 {
     walks_go_by_owners();
+}
+
+/// A judged statement that has no block and calls no method goes on from a state that fits what is known to one that
+/// fits what is known after it, or is a trap; nothing is lacking. What it takes or writes has to be a field.
+pub fn statements_without_calls_fit()
+    ensures { StatementsWithoutCallsFit }
+{
+    walks_go_by_owners();
+}
+
+/// In a well-shaped program whose declarations hold no group of a receiver's or a parameter's form is `io`.
+pub fn methods_have_members()
+    ensures { MethodsHaveMembers }
+{}
+
+/// In a well-shaped program whose declarations hold a judged call enters the method that it is judged to call, from a
+/// state that fits what is known, with values of its parameters' forms, and the state fits where that begins; or it is
+/// a trap. Nothing is lacking.
+pub fn calls_are_entered()
+    ensures { CallsAreEntered }
+{
+    every_slot_is_given();
 }
