@@ -6,7 +6,7 @@ use Rattle.ae_rules.specs.declared.uses.Mode.{Mode}
 use Rattle.ae_rules.specs.declared.uses.Mode.TheVariants as mode
 use Rattle.ae_rules.specs.Verdict.{Verdict, judged}
 use Rattle.ae_rules.specs.Lookups.{has_name}
-use Rattle.ae_rules.specs.Edges.{Uses}
+use Rattle.ae_rules.specs.Edges.{Uses, IsRising}
 use Rattle.ae_rules.specs.Uses.{stronger}
 use Rattle.ae_uses.specs.declared.used.Used.{Used}
 
@@ -29,3 +29,10 @@ pub record Adds (u : Used) (v : Uses) (w : Used) : Type 0 where
 -- with what is used already, what is still to be used comes to the whole
 pub record Owes (u : Used) (whole : Uses) (w : Used) (rest : Uses) : Type 0 where
   pub at : (r : Resource) → stronger (used_as u r) (whole r) ≡ stronger (used_as w r) (rest r)
+
+-- each name stands once in each of the four lists, which rise
+pub record IsCompact (u : Used) : Type 0 where
+  pub read : IsRising u.read.items
+  pub written : IsRising u.written.items
+  pub together : IsRising u.together.items
+  pub whole : IsRising u.whole.items

@@ -91,12 +91,13 @@ impl Used {
     ghost use Rattle.std.specs.Prelude.{◌≡◌, IfOk};
     ghost use Rattle.ae_rules.specs.declared.uses.Resource.{Resource};
     ghost use Rattle.ae_uses.specs.Footprint.{IsFootprintOf};
-    ghost use Rattle.ae_uses.specs.Used.{used_as};
+    ghost use Rattle.ae_uses.specs.Used.{IsCompact, used_as};
 
     /// Each name once in its list; what was used stays the same. So what is handed on to the blocks around a statement
     /// costs what the statement uses, and not how often. Takes no memory, and costs n log n.
     pub fn compact(&mut self)
-        ensures { (r : Resource) → used_as self.new r ≡ used_as self.old r }
+        ensures same { (r : Resource) → used_as self.new r ≡ used_as self.old r }
+        ensures once { IsCompact self.new }
     {
         each_once(&mut self.read);
         each_once(&mut self.written);
