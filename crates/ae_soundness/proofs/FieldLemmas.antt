@@ -244,7 +244,8 @@ pub record FieldThere (p : Code) (o : OpenedObject) (x : ℕ) (t : Form) : Type 
   pub value : Val
   pub there : field_value o.tree part.number ≡ Some value
   pub fits : IsOfForm p t value
-  pub changed : (w : Val) → IsOfForm p t w → IsWhole p (put_at (part.number ∷ []) w (Owned o.tree))
+  pub changed : (fields : List ℕ) (w : Val) → ((y : Val) → IsOfForm p t y → IsOfForm p t (put_at fields w y))
+      → IsWhole p (put_at (part.number ∷ fields) w (Owned o.tree))
 
 -- A declared field of a whole object has its number and a value of its form.
 pub field_there : (p : Code) (k : Kind) (x : ℕ) (t : Form) → field_of_kind p k x ≡ Some t → (o : OpenedObject)
@@ -272,15 +273,20 @@ field_there p k x t e o r =
       value = v.0;
       there = ap (λ (y : Tree). field_value y z.number) tree.1 ∙ v.1;
       fits = (fits, v.2.1);
-      changed = λ w i. subst (λ (y : Tree). IsWhole p (put_at (z.number ∷ []) w (Owned y))) (sym tree.1)
-          (changed_fields p (fields_called p z.name) tree.0 z.number (λ y. w)
+      changed = λ fields w keeps. subst (λ (y : Tree). IsWhole p (put_at (z.number ∷ fields) w (Owned y))) (sym tree.1)
+          (changed_fields p (fields_called p z.name) tree.0 z.number (put_at fields w)
           (subst (λ (ds : List Field). AreOfFields p ds tree.0) (sym listed) whole)
           (λ b y e u l.
           let same : z.field ≡ b = same_Some z.field b (sym z.there
           ∙ ap (λ (ds : List Field). slice_get ds z.number) (sym listed) ∙ e) in
-          subst (λ (a : Field). IsOfForm p (form a.ty) w) same (
-            sym (same_value_fit p (in_place (bare_names z.class.groups) z.groups) (form z.field.ty) w)
-                ∙ subst (λ (a : Form). value_fits p a w ≡ true) (sym z.form) i.0,
+          let old : IsOfForm p (form z.field.ty) y
+          = subst (λ (a : Field). IsOfForm p (form a.ty) y) (sym same) l in
+          let here : value_fits p t y ≡ true = subst (λ (a : Form). value_fits p a y ≡ true) z.form
+          (same_value_fit p (in_place (bare_names z.class.groups) z.groups) (form z.field.ty) y ∙ old.0) in
+          let i : IsOfForm p t (put_at fields w y) = keeps y (here, old.1) in
+          subst (λ (a : Field). IsOfForm p (form a.ty) (put_at fields w y)) same (
+            sym (same_value_fit p (in_place (bare_names z.class.groups) z.groups) (form z.field.ty) (put_at fields w y))
+                ∙ subst (λ (a : Form). value_fits p a (put_at fields w y) ≡ true) (sym z.form) i.0,
             i.1,
           )));
     }

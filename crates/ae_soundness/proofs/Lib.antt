@@ -24,3 +24,10 @@ pub mod CallGroupLemmas
 pub mod ParamLemmas
 pub mod MethodLemmas
 pub mod CallLemmas
+pub mod ResultLemmas
+pub mod BackLemmas
+pub mod GivenLemmas
+pub mod AwayLemmas
+pub mod UniqueLemmas
+pub mod KeptLemmas
+pub mod LeaveLemmas

@@ -129,8 +129,8 @@ local_declared p c s x t b z k m = record {
 abbrev pub IsObjectThere : Context → ℕ → Type 0
 IsObjectThere c x = (l : Local) → c.local x ≡ Some l → is_object l.form ≡ true
 
--- an object of which nothing is held has no value
-no_value : (t : Form) → is_object t ≡ true → has_value (record { form = t; held = held.None }) ≡ true → ⊥
+-- An object of which nothing is held has no value.
+pub no_value : (t : Form) → is_object t ≡ true → has_value (record { form = t; held = held.None }) ≡ true → ⊥
 no_value f.Int e v = absurd (cc e)
 no_value f.Bool e v = absurd (cc e)
 no_value (f.Object q k) e v = absurd (cc v)

@@ -41,7 +41,8 @@ KeepsForms c d = (x : ℕ) (k : Local) → d.local x ≡ Some k → (l : Local) 
 pub keeps_itself : (c : Context) → KeepsForms c c
 keeps_itself c x k e = (k, e, refl)
 
-held_keeps : (c d : Context) (x y : ℕ) (h : Held) → KeepsForms c d → (b : Bool) (k : Local)
+-- No form changes where another thing is held of a local.
+pub held_keeps : (c d : Context) (x y : ℕ) (h : Held) → KeepsForms c d → (b : Bool) (k : Local)
     → (if b then option_map (holding h) (d.local y) else d.local y) ≡ Some k
     → (l : Local) × (c.local y ≡ Some l) × (l.form ≡ k.form)
 held_keeps c d x y h z true k e =
@@ -59,16 +60,17 @@ pub kept_object : (c d : Context) (x : ℕ) → KeepsForms c d → IsObjectThere
 kept_object c d x z o k e =
     let r = z x k e in subst (λ (t : Form). is_object t ≡ true) r.2 (o r.0 r.1)
 
--- a walk without steps leads to the local itself
-bare_walk : (p : Code) (c : Context) (at : Spot) (xs : List NameAt) (w u : Place) → in_turn (step p c at) xs w ≡ Holds u
-    → is_empty xs ≡ true → u.form ≡ w.form
-bare_walk p c at [] w u e n = ap (λ (y : Place). y.form) (same_place u w (sym e))
+-- A walk without steps leads to the local itself.
+pub bare_walk : (p : Code) (c : Context) (at : Spot) (xs : List NameAt) (w u : Place)
+    → in_turn (step p c at) xs w ≡ Holds u → is_empty xs ≡ true → u ≡ w
+bare_walk p c at [] w u e n = same_place u w (sym e)
   where
     same_place : (a b : Place) → Holds a ≡ Holds b → a ≡ b
     same_place a b h = cc h
 bare_walk p c at (x ∷ xs) w u e n = absurd (cc n)
 
-object_of : (k : Kind) (t : Form) → is_object_of k t ≡ true → is_object t ≡ true
+-- What is of an object's kind is an object.
+pub object_of : (k : Kind) (t : Form) → is_object_of k t ≡ true → is_object t ≡ true
 object_of k f.Int e = absurd (cc e)
 object_of k f.Bool e = absurd (cc e)
 object_of k (f.Object q l) e = refl
@@ -82,8 +84,8 @@ path_object p c k path at u h l e =
     let d = first_holds (may_leave w.held at) (λ _. into_perm perm.Unique (is_name path) w.held at) u b.2 in
     let n = and_parts (is_name path) _ (required (is_name path && _) rule.NeedsUnique at u d.2) in
     let g = first_holds (found (c.local path.root.name) rule.UnknownName path.root.at) _ w a.1 in
-    let same : w.form ≡ g.0.form = bare_walk p c path.root.at path.steps
-    (record { form = g.0.form; held = g.0.held }) w g.2 n.0 in
+    let same : w.form ≡ g.0.form = ap (λ (y : Place). y.form) (bare_walk p c path.root.at path.steps
+    (record { form = g.0.form; held = g.0.held }) w g.2 n.0) in
     let it : g.0 ≡ l = cc (found_is (c.local path.root.name) rule.UnknownName path.root.at g.0 g.1, e) in
     subst (λ (y : Local). is_object y.form ≡ true) it
     (subst (λ (t : Form). is_object t ≡ true) same

@@ -141,8 +141,9 @@ then_into p m k x t e g h (Fine o) r =
 then_into p m k x t e g h (Traps code) r = r
 then_into p m k x t e g h Lacks r = absurd r
 
-step_known : (p : Code) (c : Context) (s : State) → FieldsHaveMembers p → FitsContext p c s → (at : Spot) (x : NameAt)
-    (w u : Place) (from : PlaceFound) → FitsPlace p w from.form from.value → step p c at x w ≡ Holds u
+-- A step that is judged from a place that fits is found.
+pub step_known : (p : Code) (c : Context) (s : State) → FieldsHaveMembers p → FitsContext p c s → (at : Spot)
+    (x : NameAt) (w u : Place) (from : PlaceFound) → FitsPlace p w from.form from.value → step p c at x w ≡ Holds u
     → IsFoundAs p u (step_to p s x from)
 step_known p c s m z at x w u from h e =
     let a = first_holds (found (field_of p w.form x.name) rule.UnknownField x.at) _ u e in
@@ -186,8 +187,8 @@ reached_value c at t (held.Shared g) u e = refl
 reached_value c at t (held.Inner g) u e = refl
 reached_value c at t held.None u e = absurd (cc)
 
--- the root of a judged walk has a value, where the walk has a step or its name has one
-root_value : (p : Code) (c : Context) (at : Spot) (xs : List NameAt) (w u : Place)
+-- The root of a judged walk has a value, where the walk has a step or its name has one.
+pub root_value : (p : Code) (c : Context) (at : Spot) (xs : List NameAt) (w u : Place)
     → in_turn (step p c at) xs w ≡ Holds u → (is_empty xs ≡ true → has_value u ≡ true) → has_value w ≡ true
 root_value p c at [] w u e h =
     let same : w ≡ u = cc e in

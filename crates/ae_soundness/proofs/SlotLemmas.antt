@@ -38,7 +38,7 @@ slot_there p k x t e o r =
     let y : FieldThere p o x.name t = field_there p k x.name t e o r in
     let whole : IsReachedAs p o.kind (Fine o) = subst (λ (l : Kind). IsReachedAs p l (Fine o)) (sym r.0) r in
     subst (λ (d : Option NumberedField). IsSlotOf p t (there d >>= λ d. Fine (record { object = o; part = d })))
-    (sym y.numbered) (whole, y.form, y.changed, y.value, y.there, y.fits)
+    (sym y.numbered) (whole, y.form, (λ w i. y.changed [] w (λ _ _. i)), y.value, y.there, y.fits)
 
 then_slot : (p : Code) (k : Kind) (x : NameAt) (t : Form) → field_of_kind p k x.name ≡ Some t
     → (o : Outcome OpenedObject) → IsReachedAs p k o → IsSlotOf p t (o >>= λ y. slot_in p y x)

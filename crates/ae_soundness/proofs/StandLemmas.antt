@@ -24,13 +24,15 @@ use Rattle.ae_soundness.proofs.FieldLemmas.{given_some}
 
 -- ---- outcomes
 
-fine_first : {A B : Type 0} (o : Outcome A) (next : A → Outcome B) (y : B) → (o >>= next) ≡ Fine y
+-- What comes of two comes of the first.
+pub fine_first : {A B : Type 0} (o : Outcome A) (next : A → Outcome B) (y : B) → (o >>= next) ≡ Fine y
     → (x : A) × (o ≡ Fine x) × (next x ≡ Fine y)
 fine_first (Fine x) next y e = (x, refl, e)
 fine_first (Traps code) next y e = absurd (cc e)
 fine_first Lacks next y e = absurd (cc e)
 
-there_is : {A : Type 0} (o : Option A) (x : A) → there o ≡ Fine x → o ≡ Some x
+-- What is there was found.
+pub there_is : {A : Type 0} (o : Option A) (x : A) → there o ≡ Fine x → o ≡ Some x
 there_is None x e = absurd (cc e)
 there_is (Some y) x e = cc e
 
@@ -94,11 +96,13 @@ field_stands s (InGroup g n) fields t i v h e =
 
 -- ---- steps
 
-met_is : (p : Code) (x y : PlaceFound) (b : Bool) → (if b then Fine x else Traps 3) ≡ Fine y → x ≡ y
+-- What is met is the place itself.
+pub met_is : (p : Code) (x y : PlaceFound) (b : Bool) → (if b then Fine x else Traps 3) ≡ Fine y → x ≡ y
 met_is p x y true e = cc e
 met_is p x y false e = absurd (cc e)
 
-opened_is : (b : Bool) (o u : OpenedObject) → opened_if b o ≡ Fine u → o ≡ u
+-- What is opened is the object itself.
+pub opened_is : (b : Bool) (o u : OpenedObject) → opened_if b o ≡ Fine u → o ≡ u
 opened_is true o u e = cc e
 opened_is false o u e = absurd (cc e)
 

@@ -27,7 +27,7 @@ members_here (Some (Away cell)) st e = absurd (cc)
 members_here (Some (As h)) st e = absurd (cc)
 
 -- what there is of a group, where this stands under its name
-abbrev behind : (ℕ → Option Group) → ℕ → Option Group → Option Group
+abbrev pub behind : (ℕ → Option Group) → ℕ → Option Group → Option Group
 behind gs y o = gs (other_name y o)
 
 -- what there is of a group is what was stored, where it had what was stored there before, or else is as it was

@@ -38,7 +38,8 @@ changed_alike (AndValue y xs) zero v a b e h =
     ap (λ (w : Val). AndValue w xs) (subst (λ (u : Val). a u ≡ b u) (sym same) h)
 changed_alike (AndValue y xs) (suc i) v a b e h = ap (λ (ys : Values). AndValue y ys) (changed_alike xs i v a b e h)
 
-changed_count : (xs : Values) (i : ℕ) (a : Val → Val) → value_count (with_changed xs i a) ≡ value_count xs
+-- As many values stay where one is changed.
+pub changed_count : (xs : Values) (i : ℕ) (a : Val → Val) → value_count (with_changed xs i a) ≡ value_count xs
 changed_count NoValue i a = refl
 changed_count (AndValue v xs) zero a = refl
 changed_count (AndValue v xs) (suc i) a = ap (λ (n : ℕ). n + 1) (changed_count xs i a)
@@ -85,8 +86,8 @@ class_count : (p : Code) (x c : ℕ) (xs ys : Values) → value_count xs ≡ val
 class_count p x c xs ys e = ap
     (λ (n : ℕ). nat_eq x c && given (class_called p x) false (λ (d : Class). nat_eq (length d.fields) n)) e
 
--- an object fits as one of its class with as many fields
-same_count : (p : Code) (t : Form) (c : ℕ) (xs ys : Values) → value_count xs ≡ value_count ys
+-- An object fits as one of its class with as many fields.
+pub same_count : (p : Code) (t : Form) (c : ℕ) (xs ys : Values) → value_count xs ≡ value_count ys
     → value_fits p t (Owned (Object c xs)) ≡ value_fits p t (Owned (Object c ys))
 same_count p f.Int c xs ys e = refl
 same_count p f.Bool c xs ys e = refl

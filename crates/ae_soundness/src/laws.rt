@@ -2,8 +2,10 @@
 ghost use Rattle.ae_soundness.specs.Laws.{BeginningsFit, CallsAreEntered, FieldsAreOfGroups, FieldsAreThere};
 ghost use Rattle.ae_soundness.specs.Laws.{MethodsHaveMembers, ObjectsAreReached, PathsAreFound, SlotsAreFound};
 ghost use Rattle.ae_soundness.specs.Laws.{StatementsWithoutCallsFit, ValuesAreFound, WhatGoesInFits};
+ghost use Rattle.ae_soundness.specs.Returns.{CallsAreLeft, GroupsComeBack, NamesGoAway, ReturnsGiveResults};
+ghost use Rattle.ae_soundness.specs.Returns.{MembersMayComeBack, ValuesComeBack};
 
-use ae_rules::{every_slot_is_given, walks_go_by_owners};
+use ae_rules::{calls_give_back, every_slot_is_given, given_away_is_gone, walks_go_by_owners};
 
 /// In a program whose declarations hold no field is of a form with `io` for a group, so that each group that a walk
 /// meets has members.
@@ -74,3 +76,47 @@ pub fn calls_are_entered()
 {
     every_slot_is_given();
 }
+
+/// From a state that fits what is known a judged `return` gives a result of its method's form, and no other statement
+/// without blocks and calls changes the result.
+pub fn returns_give_results()
+    ensures { ReturnsGiveResults }
+{}
+
+/// A state keeps fitting what is known where what a method left of its groups comes back to it: members that are
+/// whole, or what there was.
+pub fn groups_come_back()
+    ensures { GroupsComeBack }
+{}
+
+/// Where the arguments of a call are judged, and the names that they give away have no value then, the state fits what
+/// is known after the call.
+pub fn names_go_away()
+    ensures { NamesGoAway }
+{
+    calls_give_back();
+    given_away_is_gone();
+}
+
+/// Where a walk is judged to lead to what is held Unique, and came to a place, a unique value of that place's form may
+/// be written back there, also in a later state that fits what is known then of the walk's root, or it is a trap;
+/// nothing is lacking.
+pub fn values_come_back()
+    ensures { ValuesComeBack }
+{}
+
+/// In a well-shaped program whose declarations hold a judged call that was entered from a state that fits what is known
+/// is left with a state that fits what is known after it, or it is a trap; nothing is lacking. Where the method ends,
+/// its parameters have to have the values that come back, and what it left of its groups may come back.
+pub fn calls_are_left()
+    ensures { CallsAreLeft }
+{
+    calls_give_back();
+    given_away_is_gone();
+    every_slot_is_given();
+}
+
+/// A group whose members a method has where it ends may come back to a caller's group that is no other name.
+pub fn members_may_come_back()
+    ensures { MembersMayComeBack }
+{}
