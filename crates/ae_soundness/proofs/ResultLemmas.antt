@@ -1,5 +1,5 @@
 -- A `return` gives a result of its method's form, and no other statement without blocks and calls changes it.
-use Rattle.std.proofs.Common.{◌≡◌, refl, sym, ◌∙◌, subst, ℕ, Bool, true, false, List, [], ◌∷◌, Option, Some}
+use Rattle.std.proofs.Common.{not, ◌≡◌, refl, sym, ◌∙◌, subst, ℕ, Bool, true, false, List, [], ◌∷◌, Option, Some}
 use Rattle.std.specs.Prelude.{⊤}
 use Rattle.std.specs.Prelude as prelude
 use Rattle.ae_text.specs.declared.refusal.Spot.{Spot}
@@ -32,7 +32,8 @@ use Rattle.ae_semantics.specs.Meaning.{made, right_moved, assigned, sets, take_f
 use Rattle.ae_semantics.specs.Meaning.{printed_value, asserts, returns_value}
 use Rattle.ae_semantics.specs.Meaning.{shared_value, shares_into, does, each_value, zeros}
 use Rattle.ae_soundness.specs.Fits.{IsOfForm, FieldsHaveMembers, FitsContext}
-use Rattle.ae_soundness.specs.Laws.{is_no_call, IsValueOf}
+use Rattle.ae_rules.specs.Paths.{is_call}
+use Rattle.ae_soundness.specs.Laws.{IsValueOf}
 use Rattle.ae_soundness.specs.Returns.{IsResultOf, HasResult, LeavesResult, KeepsResult, ReturnsGiveBy, ResultsStayBy}
 use Rattle.ae_soundness.specs.Returns.{ReturnsGiveResults}
 use Rattle.ae_soundness.proofs.IntoLemmas.{what_goes_in_fits}
@@ -115,7 +116,7 @@ taken_result p s x = next_gives (SecondIs s.result) (there (field_value x.object
     (λ place. then_gives (IsAs s.result) (SecondIs s.result) (write_field s x.object x.part.number Null)
     (λ t. Fine (place.value, t)) (write_result s x.object.at.base _ Null) (λ t h. h)))
 
-made_result : (p : Code) (e : RightSide) (s : State) → is_no_call e ≡ true → Gives (SecondIs s.result) (made p e s)
+made_result : (p : Code) (e : RightSide) (s : State) → not (is_call e) ≡ true → Gives (SecondIs s.result) (made p e s)
 made_result p (Value e) s o = next_gives (SecondIs s.result) (value p s e) (λ v. Fine (v, s)) (λ v. refl)
 made_result p (Taken path at) s o = next_gives (SecondIs s.result) (slot p s path) (take_from p s)
     (λ x. taken_result p s x)
@@ -130,7 +131,7 @@ assigned_result r at x t v s n h = run_keeps r (IsAs s.result) (bind x t v s) at
     (λ y i. i ∙ h)
 
 set_made : {W : Type 0} (p : Code) (at : Spot) (x : ℕ) (t : Form) (e : RightSide) (s : State) (n : Notes W)
-    → is_no_call e ≡ true → KeepsResult s.result (outcome_given (made p e s) at n
+    → not (is_call e) ≡ true → KeepsResult s.result (outcome_given (made p e s) at n
     (λ r. assigned at x t r.0 (without_moved (right_moved p t e) r.1) n))
 set_made p at x t e s n o = run_keeps s.result (SecondIs s.result) (made p e s) at n
     (λ r. assigned at x t r.0 (without_moved (right_moved p t e) r.1) n) (made_result p e s o)
@@ -138,7 +139,7 @@ set_made p at x t e s n o = run_keeps s.result (SecondIs s.result) (made p e s) 
     (moved_result (right_moved p t e) y.1 ∙ h))
 
 set_result : {W : Type 0} (m : Machine W) (below : Option (Below W)) (here : Where) (at : Spot) (x : ℕ) (t : Form)
-    (e : RightSide) (s : State) (n : Notes W) → is_no_call e ≡ true
+    (e : RightSide) (s : State) (n : Notes W) → not (is_call e) ≡ true
     → KeepsResult s.result (sets m below here at x t e s n)
 set_result m below here at x t (Value e) s n o = set_made m.code at x t (Value e) s n o
 set_result m below here at x t (Taken path y) s n o = set_made m.code at x t (Taken path y) s n o

@@ -1,5 +1,5 @@
 -- What stands right of a = comes to a value of the form that it goes into, and the state keeps fitting.
-use Rattle.std.proofs.Common.{◌≡◌, ◌≢◌, refl, sym, ap, ◌∙◌, subst, ℕ, suc, ℤ, pos, negsuc, nat_eq, Bool}
+use Rattle.std.proofs.Common.{not, ◌≡◌, ◌≢◌, refl, sym, ap, ◌∙◌, subst, ℕ, suc, ℤ, pos, negsuc, nat_eq, Bool}
 use Rattle.std.proofs.Common.{true, false, if◌then◌else◌, List, [], ◌∷◌, map, zip, length, Option, None, Some}
 use Rattle.std.proofs.Common.{add-one, arith}
 use Rattle.std.specs.Prelude.{filter_map, ⊤}
@@ -43,7 +43,8 @@ use Rattle.ae_semantics.specs.Calls.{without_moved}
 use Rattle.ae_semantics.specs.Meaning.{each_value, zeros, take_from, made, name_moved, fields_moved, right_moved}
 use Rattle.ae_soundness.specs.Fits.{AreOfFields, IsOfForm, FieldsHaveMembers}
 use Rattle.ae_soundness.specs.Fits.{FitsContext}
-use Rattle.ae_soundness.specs.Laws.{IsSlotOf, is_no_call}
+use Rattle.ae_rules.specs.Paths.{is_call}
+use Rattle.ae_soundness.specs.Laws.{IsSlotOf}
 use Rattle.ae_soundness.proofs.FieldLemmas.{same_value_fit}
 use Rattle.ae_soundness.proofs.IntoLemmas.{as_unique, as_shared, of_same_class, null_fits, what_goes_in_fits}
 use Rattle.ae_soundness.proofs.ValueLemmas.{judged_so, values_are_found}
@@ -360,7 +361,7 @@ new_right p c d s t x gs es at m z h =
 
 -- A judged right side that is no call comes to a value of the form that it goes into, and the state keeps fitting.
 pub right_fits : WalksGoByOwners → (p : Code) (c d : Context) (s : State) (t : Form) (e : RightSide)
-    → FieldsHaveMembers p → is_no_call e ≡ true → TakesField e → FitsContext p c s → judge_right p c t e ≡ Holds d
+    → FieldsHaveMembers p → not (is_call e) ≡ true → TakesField e → FitsContext p c s → judge_right p c t e ≡ Holds d
     → RightFits p c d s t e
 right_fits law p c d s t (Value e) m o n z h = value_right p c d s t e m z h
 right_fits law p c d s t (Taken path at) m o n z h = take_right law p c d s t path at m n z h

@@ -29,7 +29,8 @@ use Rattle.ae_semantics.specs.Meaning.{made, right_moved, assigned, sets}
 use Rattle.ae_semantics.specs.Meaning.{does}
 use Rattle.ae_soundness.specs.Fits.{IsOfForm, FitsHeld, FitsPermission, FitsPlace, FitsContext}
 use Rattle.ae_soundness.specs.Fits.{form_has_members, FieldsHaveMembers, place_held}
-use Rattle.ae_soundness.specs.Laws.{KeepsFitting, is_no_call}
+use Rattle.ae_rules.specs.Paths.{is_call}
+use Rattle.ae_soundness.specs.Laws.{KeepsFitting}
 use Rattle.ae_soundness.proofs.FieldLemmas.{same_but_nothing}
 use Rattle.ae_soundness.proofs.GroupLemmas.{type_has_members}
 use Rattle.ae_soundness.proofs.LocalLemmas.{declared, held_changed, local_declared}
@@ -93,7 +94,7 @@ made_set p c d u at x t e s n r k = then_runs (GoesRight p d t (right_moved p t 
     (λ y i. assigned_fits p u at x t y.0 (without_moved (right_moved p t e) y.1) n (k y.0 _ i.0 i.1))
 
 set_fits : {W : Type 0} (m : Machine W) (below : Option (Below W)) (here : Where) (c d u : Context) (at : Spot) (x : ℕ)
-    (t : Form) (e : RightSide) (s : State) (n : Notes W) → is_no_call e ≡ true → RightFits m.code c d s t e
+    (t : Form) (e : RightSide) (s : State) (n : Notes W) → not (is_call e) ≡ true → RightFits m.code c d s t e
     → SetsFit m.code d u x t → KeepsFitting m.code u (sets m below here at x t e s n)
 set_fits m below here c d u at x t (Value e) s n o r k = made_set m.code c d u at x t (Value e) s n r k
 set_fits m below here c d u at x t (Taken path y) s n o r k = made_set m.code c d u at x t (Taken path y) s n r k
@@ -104,7 +105,7 @@ set_fits m below here c d u at x t (Returned i) s n o r k = absurd (cc o)
 -- A judged `let` keeps fitting.
 pub declares_fit : {W : Type 0} (law : WalksGoByOwners) (m : Machine W) (below : Option (Below W)) (here : Where)
     (c d : Context) (at : Spot) (ty : Ty) (x : NameAt) (e : RightSide) (s : State) (n : Notes W)
-    → FieldsHaveMembers m.code → is_no_call e ≡ true → TakesField e → FitsContext m.code c s
+    → FieldsHaveMembers m.code → not (is_call e) ≡ true → TakesField e → FitsContext m.code c s
     → judge_let m.code c ty x e ≡ Holds d → KeepsFitting m.code d (sets m below here at x.name (form ty) e s n)
 declares_fit law m below here c d at ty x e s n w o k z h =
     let p : Code = m.code in
@@ -136,7 +137,7 @@ assigns_so p c d x l e m k v s i z = held_changed p d s x (held_of l.form)
 -- A judged assignment keeps fitting.
 pub assigns_fit : {W : Type 0} (law : WalksGoByOwners) (m : Machine W) (below : Option (Below W)) (here : Where)
     (d : Context) (at : Spot) (x : NameAt) (e : RightSide) (s : State) (n : Notes W)
-    → FieldsHaveMembers m.code → is_no_call e ≡ true → TakesField e → FitsContext m.code here.context s
+    → FieldsHaveMembers m.code → not (is_call e) ≡ true → TakesField e → FitsContext m.code here.context s
     → judge_assign m.code here.context x e ≡ Holds d
     → KeepsFitting m.code d (outcome_given (there (here.context.local x.name)) at n
     (λ (l : Local). sets m below here at x.name l.form e s n))

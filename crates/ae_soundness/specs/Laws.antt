@@ -25,6 +25,7 @@ use Rattle.ae_rules.specs.Expressions.{judge_value}
 use Rattle.ae_rules.specs.Into.{into}
 use Rattle.ae_rules.specs.Calls.{me_form, Callee, ParamSlot, slots, Called, judge_callee, judge_callee_with}
 use Rattle.ae_rules.specs.Judges.{Judges, start}
+use Rattle.ae_rules.specs.Paths.{is_simple}
 use Rattle.ae_semantics.specs.Values.{Val, Owned, is_of_kind, put_at}
 use Rattle.ae_semantics.specs.Places.{Outcome, Fine, Traps, Lacks, State, PlaceFound, OpenedObject, into_field}
 use Rattle.ae_semantics.specs.Places.{walk_to, reach, field_value, ObjectField, slot}
@@ -113,33 +114,10 @@ SlotsAreFound = (p : Code) (c : Context) (s : State) (path : Path) (w : Place) �
 
 -- ---- statements
 
--- what stands right of a = calls no method
-abbrev pub is_no_call : RightSide → Bool
-is_no_call (Value e) = true
-is_no_call (Taken path at) = true
-is_no_call (Zeros e at) = true
-is_no_call (Made x gs args at) = true
-is_no_call (Returned i) = false
-
 -- the statement has no block and calls no method
 abbrev pub is_without_calls : Action → Bool
-is_without_calls (Declares t x e) = is_no_call e
-is_without_calls (Assigns x e) = is_no_call e
-is_without_calls (Stores path e) = true
-is_without_calls (StoresAt path i e) = true
-is_without_calls (Calls i) = false
-is_without_calls (Chooses e n b) = false
-is_without_calls (ChoosesElse e n b k b') = false
-is_without_calls (Repeats e n b) = false
-is_without_calls (Groups g) = true
-is_without_calls (Splits gs n b) = false
 is_without_calls (Locks g n b) = false
-is_without_calls (Freezes x) = true
-is_without_calls (Shares x g) = true
-is_without_calls (Prints e) = true
-is_without_calls (PrintsText text) = true
-is_without_calls (Asserts e) = true
-is_without_calls (Returns e) = true
+is_without_calls a = is_simple a
 
 -- a run that goes on with a state that fits, or ends by a trap or for want of fuel; nothing is lacking
 abbrev pub KeepsFitting : {W : Type 0} → Code → Context → Run W → Type 0
