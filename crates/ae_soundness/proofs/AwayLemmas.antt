@@ -2,7 +2,7 @@
 use Rattle.std.proofs.Common.{◌≡◌, ◌⊎◌, inl, inr, refl, sym, ap, ◌∙◌, subst, ℕ, nat_eq, Bool, true, false}
 use Rattle.std.proofs.Common.{◌&&◌, not, if◌then◌else◌, List, [], ◌∷◌, ◌++◌, Option, None, Some}
 use Rattle.std.specs.List.{cons_option}
-use Rattle.std.specs.Prelude.{filter_map}
+use Rattle.std.specs.Prelude.{filter_map, is_some}
 use Rattle.std.proofs.lemmas.Bool.{and_from, eqb-true}
 use Rattle.ae_tree.specs.declared.form.Form.{Form}
 use Rattle.ae_tree.specs.Plain.{Code, Expression}
@@ -15,13 +15,13 @@ use Rattle.ae_rules.specs.Context.{Local, Context, held_in, with_held}
 use Rattle.ae_rules.specs.Calls.{Roots, no_roots, ParamSlot, if_some}
 use Rattle.ae_rules.specs.Calls.{to_slot, LentPart, argument_parts, given_back, after_call}
 use Rattle.ae_rules.specs.Laws.{none_away, CallsGiveBack, none_of, GivenAwayIsGone}
-use Rattle.ae_rules.specs.declared.held.GroupPerm.{GroupPerm}
-use Rattle.ae_semantics.specs.Places.{Group, State, with_bound, members}
+use Rattle.ae_tree.specs.Names.{io}
+use Rattle.ae_rules.specs.Groups.{known}
+use Rattle.ae_semantics.specs.Places.{Group, State, other_name, name_of, with_bound}
 use Rattle.ae_semantics.specs.Calls.{without_moved}
-use Rattle.ae_soundness.specs.Fits.{FitsLocal, form_has_members, place_held, has_value}
+use Rattle.ae_soundness.specs.Fits.{FitsGroup, FitsLocal, form_has_members, place_held, has_value}
 use Rattle.ae_soundness.specs.Returns.{name_away, NamesGoAway}
 use Rattle.ae_soundness.proofs.LocalLemmas.{IsObjectThere, no_value}
-use Rattle.ae_soundness.proofs.StoreLemmas.{behind, opens_so}
 use Rattle.ae_soundness.proofs.MoveLemmas.{KeepsForms, keeps_itself, held_keeps}
 use Rattle.ae_soundness.proofs.from_rules.PathLemmas.{first_holds}
 use Rattle.ae_soundness.proofs.GivenLemmas.{part_of, away_part, StaysHere, GoesAway, IsGiven, form_is_given}
@@ -192,6 +192,10 @@ after_same c d (x ∷ xs) k = by_split (λ (e : Context) i. after_same c e xs i)
     by_split ih (Some share) = back_same c (after_call xs (with_held x.root share.1 d)) x share
         (ih (with_held x.root share.1 d) (held_same c d x.root share.1 k))
 
+-- Forms stay in a call.
+pub forms_after : (c : Context) (xs : List LentPart) → KeepsForms c (after_call xs c)
+forms_after c xs = (after_same c c xs (record { forms = keeps_itself c; groups = λ g. refl })).forms
+
 -- Groups stay where names move.
 pub moved_groups : (xs : List ℕ) (s : State) → (without_moved xs s).groups ≡ s.groups
 moved_groups [] s = refl
@@ -216,13 +220,13 @@ names_go_away back gone p c s xs roots z h = record {
   form = λ y l e. let r = same.forms y l e in
       subst (λ (t : Form). form_has_members t ≡ true) r.2 (z.form y r.0 r.1);
   local = λ y l e v. at_local y l e v (each_is p c xs no_roots roots y h);
-  group = λ g m o. let r = z.group g m (subst (λ (q : Option GroupPerm). opens_so q ≡ true) (same.groups g) o) in
-      record {
-        store = r.store;
-        is = subst (λ (gs : ℕ → Option Group). members (behind gs g (gs g)) ≡ Some r.store)
-            (sym (moved_groups names s)) r.is;
-        whole = r.whole;
-      };
+  group = λ g q m e n. subst (λ (gs : ℕ → Option Group). FitsGroup p q (gs (other_name g (gs g)))) (sym moved)
+      (z.group g q m (sym (same.groups g) ∙ e)) n;
+  name = λ g m k. subst (λ (gs : ℕ → Option Group). known (after_call parts c).group (other_name g (gs g)) ≡ true)
+      (sym moved) (ap is_some (same.groups (name_of s g)) ∙ z.name g m (ap is_some (sym (same.groups g)) ∙ k));
+  log = ap (λ (gs : ℕ → Option Group). gs io) moved ∙ z.log;
+  log_known = ap is_some (same.groups io) ∙ z.log_known;
+  unknown = λ g k. ap (λ (gs : ℕ → Option Group). gs g) moved ∙ z.unknown g (ap is_some (sym (same.groups g)) ∙ k);
 }
   where
     parts : List LentPart
@@ -230,6 +234,9 @@ names_go_away back gone p c s xs roots z h = record {
 
     names : List ℕ
     names = filter_map name_away xs
+
+    moved : (without_moved names s).groups ≡ s.groups
+    moved = moved_groups names s
 
     same : IsSame c (after_call parts c)
     same = after_same c c parts (record { forms = keeps_itself c; groups = λ g. refl })

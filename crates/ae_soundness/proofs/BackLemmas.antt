@@ -7,33 +7,20 @@ use Rattle.ae_tree.specs.Plain.{Code}
 use Rattle.ae_semantics.specs.Values.{Store}
 use Rattle.ae_semantics.specs.Places.{Group, Here, Away, As, State, other_name, name_of, group_of, members}
 use Rattle.ae_semantics.specs.Calls.{group_back, groups_back}
-use Rattle.ae_soundness.specs.Fits.{HasMembers}
-use Rattle.ae_soundness.specs.Returns.{is_no_name, MayComeBack, EachMayComeBack, GroupsComeBack}
+use Rattle.ae_soundness.specs.Fits.{AreWhole}
+use Rattle.ae_soundness.specs.Returns.{is_here, MayComeBack, EachMayComeBack, GroupsComeBack}
 use Rattle.ae_soundness.specs.Returns.{MembersMayComeBack}
-use Rattle.ae_soundness.proofs.StoreLemmas.{AreWhole, members_here}
+use Rattle.ae_soundness.proofs.LikeLemmas.{IsLike, AreLike, like_itself, FitsGroups, like_fits}
 
--- What stands under a name is as it was, but that members may be others that are whole, and that where nothing was or
--- what was away there may be anything but another name.
-abbrev IsLike : Code → Option Group → Option Group → Type 0
-IsLike p None new = is_no_name new ≡ true
-IsLike p (Some (Here st)) new = (x : Store) × (new ≡ Some (Here x)) × (AreWhole p st → AreWhole p x)
-IsLike p (Some (Away cell)) new = is_no_name new ≡ true
-IsLike p (Some (As h)) new = new ≡ Some (As h)
-
--- under each name
-abbrev AreLike : Code → State → State → Type 0
-AreLike p s t = (h : ℕ) → IsLike p (s.groups h) (t.groups h)
-
-like_itself : (p : Code) (o : Option Group) → IsLike p o o
-like_itself p None = refl
-like_itself p (Some (Here st)) = (st, refl, λ w. w)
-like_itself p (Some (Away cell)) = refl
-like_itself p (Some (As h)) = refl
+-- what there is under a name is no other name
+abbrev is_no_name : Option Group → Bool
+is_no_name (Some (As h)) = false
+is_no_name _ = true
 
 like_no_name : (p : Code) (o new : Option Group) → is_no_name o ≡ true → IsLike p o new → is_no_name new ≡ true
-like_no_name p None new n l = l
+like_no_name p None new n l = ap is_no_name l
 like_no_name p (Some (Here st)) new n l = ap is_no_name l.1
-like_no_name p (Some (Away cell)) new n l = l
+like_no_name p (Some (Away cell)) new n l = ap is_no_name l
 like_no_name p (Some (As h)) new n l = absurd (cc n)
 
 own_name : (g : ℕ) (o : Option Group) → is_no_name o ≡ true → other_name g o ≡ g
@@ -42,48 +29,25 @@ own_name g (Some (Here st)) n = refl
 own_name g (Some (Away cell)) n = refl
 own_name g (Some (As h)) n = absurd (cc n)
 
--- ---- members
-
--- Members are still there.
-like_members : (p : Code) (s t : State) (y : ℕ) → AreLike p s t → HasMembers p s y → HasMembers p t y
-like_members p s t y l h = by_group (s.groups y) refl
-  where
-    here : (n : ℕ) → s.groups n ≡ Some (Here h.store) → (x : Store) × (t.groups n ≡ Some (Here x)) × AreWhole p x
-    here n e = let r = subst (λ (o : Option Group). IsLike p o (t.groups n)) e (l n) in (r.0, r.1, r.2 h.whole)
-
-    found : (n : ℕ) → s.groups n ≡ Some (Here h.store) → group_of t y ≡ t.groups n → HasMembers p t y
-    found n e g = let r = here n e in record { store = r.0; is = ap members (g ∙ r.1); whole = r.2 }
-
-    by_group : (o : Option Group) → s.groups y ≡ o → HasMembers p t y
-    by_group None e =
-        let m : members (group_of s y) ≡ None = ap (λ (o : Option Group). members (s.groups (other_name y o))) e
-        ∙ ap members e in absurd (cc (m, h.is))
-    by_group (Some (Here st)) e =
-        let g : group_of s y ≡ s.groups y = ap (λ (o : Option Group). s.groups (other_name y o)) e in
-        let k : s.groups y ≡ Some (Here h.store) = sym g ∙ members_here (group_of s y) h.store h.is in
-        found y k (ap (λ (o : Option Group). t.groups (other_name y o)) (here y k).1)
-    by_group (Some (Away cell)) e =
-        let m : members (group_of s y) ≡ None = ap (λ (o : Option Group). members (s.groups (other_name y o))) e
-        ∙ ap members e in absurd (cc (m, h.is))
-    by_group (Some (As k)) e =
-        let g : group_of s y ≡ s.groups k = ap (λ (o : Option Group). s.groups (other_name y o)) e in
-        let i : s.groups k ≡ Some (Here h.store) = sym g ∙ members_here (group_of s y) h.store h.is in
-        let j : t.groups y ≡ Some (As k) = subst (λ (o : Option Group). IsLike p o (t.groups y)) e (l y) in
-        found k i (ap (λ (o : Option Group). t.groups (other_name y o)) j)
+here_no_name : (o : Option Group) → is_here o ≡ true → is_no_name o ≡ true
+here_no_name None h = refl
+here_no_name (Some (Here st)) h = refl
+here_no_name (Some (Away cell)) h = refl
+here_no_name (Some (As g)) h = absurd (cc h)
 
 -- ---- groups that come back
 
-here_like : (p : Code) (o : Option Group) (st : Store) → AreWhole p st → is_no_name o ≡ true
+here_like : (p : Code) (o : Option Group) (st : Store) → AreWhole p st → is_here o ≡ true
     → IsLike p o (Some (Here st))
-here_like p None st w n = refl
+here_like p None st w n = absurd (cc n)
 here_like p (Some (Here old)) st w n = (st, refl, λ _. w)
-here_like p (Some (Away cell)) st w n = refl
+here_like p (Some (Away cell)) st w n = absurd (cc n)
 here_like p (Some (As h)) st w n = absurd (cc n)
 
-stored_like : (p : Code) (s t : State) (g : ℕ) (new : Option Group) → AreLike p s t → is_no_name (s.groups g) ≡ true
+back_like : (p : Code) (s t : State) (g : ℕ) (new : Option Group) → AreLike p s t → is_no_name (s.groups g) ≡ true
     → IsLike p (s.groups g) new → (h : ℕ)
     → IsLike p (s.groups h) (if nat_eq (name_of t g) h then new else t.groups h)
-stored_like p s t g new l n k h = by_test (nat_eq (name_of t g) h) refl
+back_like p s t g new l n k h = by_test (nat_eq (name_of t g) h) refl
   where
     by_test : (b : Bool) → nat_eq (name_of t g) h ≡ b → IsLike p (s.groups h) (if b then new else t.groups h)
     by_test true e =
@@ -94,11 +58,11 @@ stored_like p s t g new l n k h = by_test (nat_eq (name_of t g) h) refl
 
 one_back : (p : Code) (s t : State) (g : ℕ) (new : Option Group) → AreLike p s t → MayComeBack p (s.groups g) new
     → AreLike p s (group_back g new t)
-one_back p s t g None l k = stored_like p s t g None l (ap is_no_name k)
+one_back p s t g None l k = back_like p s t g None l (ap is_no_name k)
     (subst (λ (o : Option Group). IsLike p o None) (sym k) refl)
-one_back p s t g (Some (Here st)) l k = stored_like p s t g (Some (Here st)) l k.1
-    (here_like p (s.groups g) st k.0 k.1)
-one_back p s t g (Some (Away cell)) l k = stored_like p s t g (Some (Away cell)) l (ap is_no_name k)
+one_back p s t g (Some (Here st)) l k = back_like p s t g (Some (Here st)) l
+    (here_no_name (s.groups g) k.1) (here_like p (s.groups g) st k.0 k.1)
+one_back p s t g (Some (Away cell)) l k = back_like p s t g (Some (Away cell)) l (ap is_no_name k)
     (subst (λ (o : Option Group). IsLike p o (Some (Away cell))) (sym k) refl)
 one_back p s t g (Some (As h)) l k = l
 
@@ -130,11 +94,18 @@ groups_come_back p c s after groups ns z k = record {
   form = z.form;
   local = λ y l i v. let r = z.local y l i v in
       record { bound = r.bound; is = back_locals groups ns after s y ∙ r.is; fits = r.fits };
-  group = λ g m o. like_members p s (groups_back groups ns after s) g
-      (each_back p s s after groups ns (λ h. like_itself p (s.groups h)) k) (z.group g m o);
+  group = fits.group;
+  name = fits.name;
+  log = fits.log;
+  log_known = z.log_known;
+  unknown = fits.unknown;
 }
+  where
+    fits : FitsGroups p c.group (groups_back groups ns after s)
+    fits = like_fits p c s (groups_back groups ns after s) z
+        (each_back p s s after groups ns (λ h. like_itself p (s.groups h)) k)
 
--- A group whose members are here may come back to what is no other name.
+-- A group whose members are here may come back to members that are here.
 pub members_may_come_back : MembersMayComeBack
 members_may_come_back p o t g h n = by_group (t.groups g) refl
   where

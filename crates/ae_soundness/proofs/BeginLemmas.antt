@@ -1,5 +1,5 @@
 -- Where a program begins, the state fits.
-use Rattle.std.proofs.Common.{◌≡◌, refl, sym, ap, ◌∙◌, subst, ℕ, ℤ, nat_eq, Bool, true, false, ◌&&◌, ◌||◌}
+use Rattle.std.proofs.Common.{◌≡◌, refl, sym, ap, ◌∙◌, subst, ℕ, ℤ, nat_eq, Bool, true, false, ◌&&◌}
 use Rattle.std.proofs.Common.{if◌then◌else◌, List, [], ◌∷◌, map, Option, None, Some}
 use Rattle.std.specs.Prelude.{is_some, is_none, option_map, zip}
 use Rattle.std.proofs.lemmas.Bool.{and_parts, eqb-true}
@@ -41,10 +41,6 @@ use Rattle.ae_soundness.proofs.from_rules.ShapeLemmas.{callee_receiver}
 
 -- ---- groups
 
--- the permission of a group lets it be reached
-abbrev is_open : Option GroupPerm → Bool
-is_open o = given o false (same_group_perm group.Exclusive) || given o false (same_group_perm group.Protected)
-
 -- what `main` knows of a group, by its needs
 abbrev main_group : Bool → List GroupNeed → ℕ → Option GroupPerm
 main_group b ns g = if b then Some
@@ -55,19 +51,21 @@ named_io a g e d h =
     let same : a ≡ g = eqb-true a g d in
     let named : nat_eq io g ≡ true = ap (nat_eq io) (sym same) ∙ e in cc (named, h)
 
-need_open : (n : GroupNeed) (d : Bool)
-    → is_open (Some (given (if d then Some n else None) group.None (λ (k : GroupNeed). permission_needed k.need)))
-    ≡ true → d ≡ true
-need_open n true e = refl
-need_open n false e = absurd (cc)
+asked_named : (n : GroupNeed) (d : Bool) (q : GroupPerm)
+    → given (if d then Some n else None) group.None (λ (k : GroupNeed). permission_needed k.need) ≡ q
+    → same_group_perm group.None q ≡ false → d ≡ true
+asked_named n true q e a = refl
+asked_named n false q e a = absurd (cc (ap (same_group_perm group.None) e, a))
 
-none_open : (ns : List GroupNeed) → are_main_needs ns ≡ true → (g : ℕ) → has_members g ≡ true → (b : Bool)
-    → is_open (main_group b ns g) ≡ true → ⊥
-none_open ns a g h false e = cc
-none_open [] a g h true e = cc
-none_open (n ∷ []) a g h true e = named_io n.group.name g (and_parts (is_exclusive n.need) (nat_eq io n.group.name) a).1
-    (need_open n (nat_eq n.group.name g) e) h
-none_open (n ∷ k ∷ ns) a g h true e = absurd (cc a)
+-- `main` needs no group but `io`
+none_needed : (ns : List GroupNeed) → are_main_needs ns ≡ true → (g : ℕ) (q : GroupPerm) → has_members g ≡ true
+    → (b : Bool) → main_group b ns g ≡ Some q → same_group_perm group.None q ≡ false → ⊥
+none_needed ns a g q h false e m = cc e
+none_needed [] a g q h true e m = cc (ap (same_group_perm group.None) (same_Some group.None q e), m)
+none_needed (n ∷ []) a g q h true e m = named_io n.group.name g
+    (and_parts (is_exclusive n.need) (nat_eq io n.group.name) a).1
+    (asked_named n (nat_eq n.group.name g) q (same_Some _ q e) m) h
+none_needed (n ∷ k ∷ ns) a g q h true e m = absurd (cc a)
 
 -- ---- locals
 
@@ -147,7 +145,11 @@ main_begins : (p : Code) (m : Definition) (n : ℕ) (ints : List ℤ) → m.me �
 main_begins p m n ints i a b = record {
   form = λ y l e. (first_bound y l e).1;
   local = λ y l e h. is_bound p (main_state p m ints) y l (first_bound y l e).0;
-  group = λ g h o. absurd (none_open m.needs b g h (knows p m g) o);
+  group = λ g q h e a. absurd (none_needed m.needs b g q h (knows p m g) e a);
+  name = λ g h k. k;
+  log = refl;
+  log_known = refl;
+  unknown = λ g k. refl;
 }
   where
     first_bound : (y : ℕ) (l : Local) → main_local p m m.me m.params y ≡ Some l

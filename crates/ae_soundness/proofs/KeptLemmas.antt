@@ -54,10 +54,10 @@ slot_as new w = record { form = form_with new w.form; away = w.away }
 abbrev pub taker_as : Shape → Taker
 taker_as w = (w.name, slot_as (λ g. g) w)
 
-abbrev shape_of : Param → Shape
+abbrev pub shape_of : Param → Shape
 shape_of z = record { name = z.name.name; form = form z.ty; away = is_some z.away }
 
-abbrev me_shape : Code → Definition → Me → Shape
+abbrev pub me_shape : Code → Definition → Me → Shape
 me_shape p m me = record { name = this; form = me_form p m me; away = is_some me.away }
 
 -- the receiver, where the method has one, and the parameters

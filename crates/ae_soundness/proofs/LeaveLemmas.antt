@@ -2,10 +2,12 @@
 use Rattle.std.proofs.Common.{◌≡◌, refl, sym, ap, ◌∙◌, subst, ℕ, nat_eq, Bool, true, false}
 use Rattle.std.proofs.Common.{not}
 use Rattle.std.proofs.Common.{if◌then◌else◌, List, [], ◌∷◌, map, zip, length, Option, None, Some}
-use Rattle.std.specs.Prelude.{filter_map}
+use Rattle.std.specs.Prelude.{filter_map, option_map}
 use Rattle.std.proofs.lemmas.Bool.{and_parts, not-true}
 use Rattle.ae_text.specs.declared.refusal.Rule.TheVariants as rule
 use Rattle.ae_tree.specs.declared.tree.Path.{Path}
+use Rattle.ae_tree.specs.declared.tree.Ty.{Ty}
+use Rattle.ae_tree.specs.Form.{form}
 use Rattle.ae_tree.specs.declared.tree.GroupNeed.{GroupNeed}
 use Rattle.ae_tree.specs.declared.form.Perm.TheVariants as perm
 use Rattle.ae_tree.specs.declared.form.Kind.{Kind}
@@ -220,13 +222,15 @@ frame_left gone p c s t i k groups xs roots m z back h a may ts same =
     (record { members = m; fits = z; back = back }) h (each_kept p c pairs no_roots roots h) a there
     (groups_back groups k.method.needs t u) fits))
 
--- what is judged of a call's arguments, and the context after it
-record JudgedLeave (p : Code) (c : Context) (i : Invocation) (k : Callee) (d : Called) : Type 0 where
-  roots : Roots
-  arguments : in_turn (to_slot p c) (zip (slots p (group_in k i.groups) k.method) (givens i)) no_roots ≡ Holds roots
-  after : after_call (argument_parts c (zip (slots p (group_in k i.groups) k.method) (givens i))) c ≡ d.after
+-- what is judged of a call's arguments, and the context after it with the form of its result
+pub record JudgedLeave (p : Code) (c : Context) (i : Invocation) (k : Callee) (d : Called) : Type 0 where
+  pub roots : Roots
+  pub arguments : in_turn (to_slot p c) (zip (slots p (group_in k i.groups) k.method) (givens i)) no_roots ≡ Holds roots
+  pub after : after_call (argument_parts c (zip (slots p (group_in k i.groups) k.method) (givens i))) c ≡ d.after
+  pub result : option_map (λ (t : Ty). form_with (group_in k i.groups) (form t)) k.method.result ≡ d.result
 
-judged_leave : (p : Code) (c : Context) (i : Invocation) (k : Callee) (d : Called)
+-- Of a judged call the arguments are judged, and its result has the form of the method's.
+pub judged_leave : (p : Code) (c : Context) (i : Invocation) (k : Callee) (d : Called)
     → judge_callee_with p c i k ≡ Holds d → JudgedLeave p c i k d
 judged_leave p c i k d h =
     let a = first_holds (groups_fit (known c.group) (length k.method.groups) i.method.at i.groups) _ d h in
@@ -236,18 +240,24 @@ judged_leave p c i k d h =
     b.2 in
     let n = first_holds
     (needs_met c.group i.method.at (map (wanted_need (group_in k i.groups)) k.method.needs)) _ d r.2 in
-    record { roots = r.0; arguments = r.1; after = same_after _ d n.2 }
+    record {
+      roots = r.0;
+      arguments = r.1;
+      after = ap (λ (z : Called). z.after) (same_called _ d n.2);
+      result = ap (λ (z : Called). z.result) (same_called _ d n.2);
+    }
   where
-    same_after : (x y : Called) → Holds x ≡ Holds y → x.after ≡ y.after
-    same_after x y e = let same : x ≡ y = cc e in ap (λ (z : Called). z.after) same
+    same_called : (x y : Called) → Holds x ≡ Holds y → x ≡ y
+    same_called x y e = cc e
 
 -- what was entered is the frame of the method that was judged
-record WasEntered (p : Code) (s : State) (here : Where) (i : Invocation) (k : Callee) (y : CallFrame) : Type 0 where
-  arguments : List Argument
-  evaluated : each_argument p s (givens i) ≡ Fine arguments
-  is : frame p here s k (group_given s k i) arguments ≡ y
+pub record WasEntered (p : Code) (s : State) (here : Where) (i : Invocation) (k : Callee) (y : CallFrame) : Type 0 where
+  pub arguments : List Argument
+  pub evaluated : each_argument p s (givens i) ≡ Fine arguments
+  pub is : frame p here s k (group_given s k i) arguments ≡ y
 
-was_entered : (p : Code) (s : State) (here : Where) (i : Invocation) (k : Callee) (y : CallFrame)
+-- What was entered is a frame.
+pub was_entered : (p : Code) (s : State) (here : Where) (i : Invocation) (k : Callee) (y : CallFrame)
     → enter p here i s ≡ Fine y → y.callee ≡ k → WasEntered p s here i k y
 was_entered p s here i k y e h =
     let a = fine_first (called_method p s i) (λ c. each_argument p s (givens i)

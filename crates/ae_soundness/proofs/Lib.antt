@@ -7,6 +7,7 @@ pub mod OperatorLemmas
 pub mod ValueLemmas
 pub mod GroupLemmas
 pub mod LocalLemmas
+pub mod LikeLemmas
 pub mod StoreLemmas
 pub mod BeginLemmas
 pub mod IntoLemmas
@@ -22,6 +23,7 @@ pub mod StatementLemmas
 pub mod ArgumentLemmas
 pub mod CallGroupLemmas
 pub mod ParamLemmas
+pub mod NeedLemmas
 pub mod MethodLemmas
 pub mod CallLemmas
 pub mod ResultLemmas
@@ -31,3 +33,11 @@ pub mod AwayLemmas
 pub mod UniqueLemmas
 pub mod KeptLemmas
 pub mod LeaveLemmas
+pub mod LastingLemmas
+pub mod LeavingLemmas
+pub mod FollowLemmas
+pub mod WholeLemmas
+pub mod BodyLemmas
+pub mod EndLemmas
+pub mod GiveLemmas
+pub mod CallingLemmas

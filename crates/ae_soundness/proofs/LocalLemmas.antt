@@ -14,7 +14,7 @@ use Rattle.ae_rules.specs.Forms.{is_object}
 use Rattle.ae_rules.specs.Context.{Local, Context, held_of, with_local, with_held, with_name_moved}
 use Rattle.ae_semantics.specs.Places.{Bound, State, with_bound}
 use Rattle.ae_semantics.specs.Calls.{without_moved}
-use Rattle.ae_soundness.specs.Fits.{FitsPlace, FitsLocal, FitsContext, HasMembers, form_has_members, place_held}
+use Rattle.ae_soundness.specs.Fits.{FitsPlace, FitsLocal, FitsContext, form_has_members, place_held}
 use Rattle.ae_soundness.specs.Fits.{has_value}
 use Rattle.ae_soundness.proofs.from_rules.PathLemmas.{mapped}
 
@@ -27,11 +27,6 @@ is_bound p s y l r = record { bound = r.0; is = r.1; fits = r.2 }
 
 bound_is : (p : Code) (s : State) (y : ℕ) (l : Local) → FitsLocal p s y (place_held l) → HasBound p l (s.locals y)
 bound_is p s y l r = (r.bound, r.is, r.fits)
-
--- The members of a group stay where a local changes.
-pub same_members : (p : Code) (s : State) (x : ℕ) (o : Option Bound) (g : ℕ) → HasMembers p s g
-    → HasMembers p (with_bound x o s) g
-same_members p s x o g h = record { store = h.store; is = h.is; whole = h.whole }
 
 -- ---- another thing is held
 
@@ -69,7 +64,11 @@ pub held_changed : (p : Code) (c : Context) (s : State) (x : ℕ) (h : Held) (o 
 held_changed p c s x h o z k = record {
   form = λ y l e. held_form p c s y h z (nat_eq x y) l e;
   local = λ y l e v. is_bound p (with_bound x o s) y l (held_bound p c s x y h o z k (nat_eq x y) refl l e v);
-  group = λ g m i. same_members p s x o g (z.group g m i);
+  group = z.group;
+  name = z.name;
+  log = z.log;
+  log_known = z.log_known;
+  unknown = z.unknown;
 }
 
 -- ---- another value is there
@@ -89,7 +88,11 @@ pub bound_changed : (p : Code) (c : Context) (s : State) (x : ℕ) (o : Option B
 bound_changed p c s x o z k = record {
   form = z.form;
   local = λ y l e v. is_bound p (with_bound x o s) y l (changed_bound p c s x y o z k (nat_eq x y) refl l e v);
-  group = λ g m i. same_members p s x o g (z.group g m i);
+  group = z.group;
+  name = z.name;
+  log = z.log;
+  log_known = z.log_known;
+  unknown = z.unknown;
 }
 
 -- ---- a local is declared
@@ -120,7 +123,11 @@ pub local_declared : (p : Code) (c : Context) (s : State) (x : ℕ) (t : Form) (
 local_declared p c s x t b z k m = record {
   form = λ y l e. declared_form p c s y t z m (nat_eq x y) l e;
   local = λ y l e v. is_bound p (with_bound x (Some b) s) y l (declared_bound p c s y t b z k (nat_eq x y) l e v);
-  group = λ g i o. same_members p s x (Some b) g (z.group g i o);
+  group = z.group;
+  name = z.name;
+  log = z.log;
+  log_known = z.log_known;
+  unknown = z.unknown;
 }
 
 -- ---- a name moves

@@ -16,17 +16,17 @@ use Rattle.ae_tree.specs.Form.{form}
 use Rattle.ae_tree.specs.Names.{this}
 use Rattle.ae_tree.specs.Plain.{Code, Definition}
 use Rattle.ae_rules.specs.Forms.{kind_with, form_with}
-use Rattle.ae_rules.specs.Groups.{opens}
 use Rattle.ae_rules.specs.Context.{Local, held_of}
 use Rattle.ae_rules.specs.Calls.{param_slot, me_form, me_slot, if_some, slots}
 use Rattle.ae_rules.specs.Judges.{local_at_start, me_local, param_local, param_called, groups_at_start, start}
 use Rattle.ae_semantics.specs.Values.{Val}
 use Rattle.ae_semantics.specs.Places.{Bound, State}
 use Rattle.ae_semantics.specs.Calls.{Argument, takers, taken}
-use Rattle.ae_soundness.specs.Fits.{IsOfForm, SameButPermission, FitsHeld, HasMembers}
-use Rattle.ae_soundness.specs.Fits.{has_members, form_has_members, FitsContext}
+use Rattle.ae_soundness.specs.Fits.{IsOfForm, SameButPermission, FitsHeld}
+use Rattle.ae_soundness.specs.Fits.{form_has_members, FitsContext}
 use Rattle.ae_soundness.specs.Laws.{AreOfSlots, ParamsHaveMembers}
 use Rattle.ae_soundness.proofs.FieldLemmas.{form_members}
+use Rattle.ae_soundness.proofs.LikeLemmas.{FitsGroups}
 use Rattle.ae_soundness.proofs.LocalLemmas.{HasBound, is_bound}
 use Rattle.ae_soundness.proofs.from_text.Basics.{first_of_both, second_of_both}
 
@@ -134,11 +134,15 @@ locals_begun p m (Some me) ps (x ∷ xs) y l k h e = by_test (nat_eq this y) e
 -- Where a method begins with such values and groups the state fits.
 pub method_begins : (p : Code) (m : Definition) (xs : List Argument) (s : State) → ParamsHaveMembers p m m.me m.params
     → AreOfSlots p (slots p (λ g. g) m) xs → ((y : ℕ) → s.locals y ≡ taken (takers p m) xs y)
-    → ((g : ℕ) → has_members g ≡ true → opens (groups_at_start p m) g ≡ true → HasMembers p s g)
+    → FitsGroups p (groups_at_start p m) s
     → FitsContext p (start p m) s
 method_begins p m xs s k h same groups = record {
   form = λ y l e. (locals_begun p m m.me m.params xs y l k h e).1;
   local = λ y l e v. is_bound p s y l
       (subst (λ (o : Option Bound). HasBound p l o) (sym (same y)) (locals_begun p m m.me m.params xs y l k h e).0);
-  group = groups;
+  group = groups.group;
+  name = groups.name;
+  log = groups.log;
+  log_known = refl;
+  unknown = groups.unknown;
 }

@@ -28,6 +28,7 @@ use Rattle.ae_soundness.specs.Fits.{IsWholeTree, IsOfForm, SameButPermission, Fi
 use Rattle.ae_soundness.specs.Fits.{has_value, FitsLocal, has_members, perm_has_members, form_has_members}
 use Rattle.ae_soundness.specs.Fits.{HasMembers, FieldsHaveMembers, FitsContext}
 use Rattle.ae_soundness.specs.Laws.{IsFoundAs, IsReachedAs, PathsAreFound, ObjectsAreReached}
+use Rattle.ae_soundness.proofs.LikeLemmas.{opened_members}
 use Rattle.ae_soundness.proofs.FieldLemmas.{fields_are_there}
 use Rattle.ae_soundness.proofs.from_rules.PathLemmas.{first_holds}
 use Rattle.ae_soundness.proofs.from_rules.SeenLemmas.{found_is, required}
@@ -93,7 +94,8 @@ value_known p c s z perm.Unique k h v a at e m i u = owned_known p s k a v perm.
 value_known p c s z perm.Immutable k h v a at e m i u = owned_known p s k a v perm.Immutable i (λ g x. absurd (cc))
 value_known p c s z perm.Lent k h v a at e m i u = owned_known p s k a v perm.Lent i (λ g x. absurd (cc))
 value_known p c s z (perm.Shared g) k h v a at e m i u = shared_known p s k a v g
-    (z.group g (first_of_both (has_members g) (list_all has_members (groups_of k)) m) (group_open c at g h e u))
+    (opened_members p c s g z (first_of_both (has_members g) (list_all has_members (groups_of k)) m)
+    (group_open c at g h e u))
 
 same_kinds : (q r : Perm) (k l : Kind) (t : Form) → t ≡ f.Object q k → SameButPermission t (f.Object r l) → k ≡ l
 same_kinds q r k l t e s = subst (λ (x : Form). SameButPermission x (f.Object r l)) e s

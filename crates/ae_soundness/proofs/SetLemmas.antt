@@ -67,22 +67,23 @@ form_held f.Int = λ g e. absurd (cc e)
 form_held f.Bool = λ g e. absurd (cc e)
 form_held (f.Object q k) = perm_held q
 
--- a value of a form fits a local that holds the form's permission
-own_place : (p : Code) (t : Form) (v : Val) → form_has_members t ≡ true → IsOfForm p t v
+-- A value of a form fits a local that holds the form's permission.
+pub own_place : (p : Code) (t : Form) (v : Val) → form_has_members t ≡ true → IsOfForm p t v
     → FitsPlace p (place_held (declared t)) t v
 own_place p t v m i = record { form = same_but_nothing t; held = form_held t; members = m; value = i }
 
 -- a local gets the value
-abbrev gets : ℕ → Form → Val → State → State
+abbrev pub gets : ℕ → Form → Val → State → State
 gets x t v s = with_bound x (Some (record { form = t; value = v })) s
 
-assigned_fits : {W : Type 0} (p : Code) (d : Context) (at : Spot) (x : ℕ) (t : Form) (v : Val) (s : State)
+-- A local that fits with the value gets it.
+pub assigned_fits : {W : Type 0} (p : Code) (d : Context) (at : Spot) (x : ℕ) (t : Form) (v : Val) (s : State)
     (n : Notes W) → FitsContext p d (gets x t v s) → KeepsFitting p d (assigned at x t v s n)
 assigned_fits p d at x t v s n z = does_fit p d at n (bind x t v s)
     (low_then (FitsContext p d) v (λ w. Fine (gets x t w s)) z)
 
 -- where a right side fits, and the local with its value does then
-abbrev SetsFit : Code → Context → Context → ℕ → Form → Type 0
+abbrev pub SetsFit : Code → Context → Context → ℕ → Form → Type 0
 SetsFit p d u x t = (v : Val) (s : State) → IsOfForm p t v → FitsContext p d s → FitsContext p u (gets x t v s)
 
 made_set : {W : Type 0} (p : Code) (c d u : Context) (at : Spot) (x : ℕ) (t : Form) (e : RightSide) (s : State)
@@ -120,7 +121,8 @@ declares_fit law m below here c d at ty x e s n w o k z h =
     (right_fits law p c r.0 s t e w o k z r.1)
     (λ v y i j. local_declared p r.0 y x.name t (record { form = t; value = v }) j (own_place p t v has i) has))
 
-assigns_so : (p : Code) (c d : Context) (x : ℕ) (l : Local) → c.local x ≡ Some l → form_has_members l.form ≡ true
+-- A local that is there gets a value of its form.
+pub assigns_so : (p : Code) (c d : Context) (x : ℕ) (l : Local) → c.local x ≡ Some l → form_has_members l.form ≡ true
     → KeepsForms c d → SetsFit p d (with_held x (held_of l.form) d) x l.form
 assigns_so p c d x l e m k v s i z = held_changed p d s x (held_of l.form)
     (Some (record { form = l.form; value = v })) z

@@ -25,12 +25,14 @@ use Rattle.ae_semantics.specs.Values.{Val, OfInt, OfBool, Null, Owned, Member, T
 use Rattle.ae_semantics.specs.Places.{Fine, ◌>>=◌, there, Here, Bound, State, group_of, store_of, with_store}
 use Rattle.ae_semantics.specs.Places.{with_bound}
 use Rattle.ae_semantics.specs.Meaning.{with_perm, frozen, shared_value, shares_into}
-use Rattle.ae_soundness.specs.Fits.{IsWhole, IsWholeTree, FitsPermission, FitsPlace, FitsLocal, HasMembers, FitsContext}
+use Rattle.ae_soundness.specs.Fits.{AreWhole, IsWhole, IsWholeTree, FitsPermission, FitsPlace, FitsLocal}
+use Rattle.ae_soundness.specs.Fits.{HasMembers, FitsContext}
 use Rattle.ae_soundness.specs.Fits.{HoldsNoMember, has_members, perm_has_members, place_held, has_value}
 use Rattle.ae_soundness.proofs.IntoLemmas.{as_unique, no_member}
 use Rattle.ae_soundness.proofs.GroupLemmas.{group_has_members}
 use Rattle.ae_soundness.proofs.LocalLemmas.{HasBound, FitsThen, holding, held_changed}
-use Rattle.ae_soundness.proofs.StoreLemmas.{AreWhole, members_here, store_changed}
+use Rattle.ae_soundness.proofs.LikeLemmas.{opened_members}
+use Rattle.ae_soundness.proofs.StoreLemmas.{members_here, store_changed}
 use Rattle.ae_soundness.proofs.OutcomeLemmas.{Comes}
 use Rattle.ae_soundness.proofs.from_rules.PathLemmas.{first_holds}
 use Rattle.ae_soundness.proofs.from_rules.SeenLemmas.{found_is, required}
@@ -203,7 +205,7 @@ share_fits p c d s x g z e =
     let j = first_holds (group_access c.group g.name g.at)
     (λ _. Holds (with_held x.name (held.Shared g.name) c)) d i.2 in
     let named : has_members g.name ≡ true = group_has_members (known c.group) g i.0 i.1 in
-    let m : HasMembers p s g.name = z.group g.name named
+    let m : HasMembers p s g.name = opened_members p c s g.name z named
     (required (opens c.group g.name) rule.NeedsGroup g.at j.0 j.1) in
     let a : HoldsAll c x.name = holds_all c x h.0 h.1 in
     let b : FitsLocal p s x.name (place_held a.local) = bound_alone p c s x.name z a in

@@ -168,8 +168,13 @@ group_fits p c d g s z h =
     let same : with_group g.name group.Exclusive c.group ≡ b.0 = same_groups e.2 in
     subst (λ (y : Context). FitsContext p y (with_store g.name (Some (Here [])) s))
     (ap (λ (gs : GroupsKnown). record c { group = gs }) same ∙ same_context (record c { group = b.0 }) d b.2)
-    (group_declared p c s g.name z)
+    (group_declared p c s g.name z (known_not (known c.group g.name)
+    (required (not (known c.group g.name)) rule.DuplicateLocal g.at e.0 e.1)))
   where
+    known_not : (b : Bool) → not b ≡ true → b ≡ false
+    known_not true h = absurd (cc h)
+    known_not false h = refl
+
     same_groups : {u v : GroupsKnown} → Holds u ≡ Holds v → u ≡ v
     same_groups e = cc e
 
@@ -265,7 +270,11 @@ result_apart : (p : Code) (d : Context) (s : State) (v : Option Val) → FitsCon
 result_apart p d s v z = record {
   form = z.form;
   local = λ y l i h. let r = z.local y l i h in record { bound = r.bound; is = r.is; fits = r.fits };
-  group = λ g m o. let h = z.group g m o in record { store = h.store; is = h.is; whole = h.whole };
+  group = z.group;
+  name = z.name;
+  log = z.log;
+  log_known = z.log_known;
+  unknown = z.unknown;
 }
 
 return_fits : (p : Code) (m : Definition) (c d : Context) (e : Expression) (at : Spot) (s : State)

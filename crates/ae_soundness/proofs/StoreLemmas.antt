@@ -1,23 +1,19 @@
 -- A state keeps fitting where the members of a group are others.
-use Rattle.std.proofs.Common.{◌≡◌, ◌⊎◌, inl, inr, refl, sym, ap, ◌∙◌, subst, ℕ, nat_eq, Bool, true, false}
-use Rattle.std.proofs.Common.{if◌then◌else◌, [], ◌||◌, Option, None, Some}
-use Rattle.std.specs.Prelude.{slice_get}
+use Rattle.std.proofs.Common.{◌≡◌, refl, sym, ap, ◌∙◌, subst, ℕ, nat_eq, Bool, true, false, if◌then◌else◌, []}
+use Rattle.std.proofs.Common.{Option, None, Some}
+use Rattle.std.specs.Prelude.{is_some}
 use Rattle.std.proofs.lemmas.Bool.{eqb-true}
+use Rattle.ae_tree.specs.Names.{io}
 use Rattle.ae_tree.specs.Plain.{Code}
 use Rattle.ae_rules.specs.declared.held.GroupPerm.{GroupPerm}
 use Rattle.ae_rules.specs.declared.held.GroupPerm.TheVariants as group
-use Rattle.ae_rules.specs.Verdict.{given}
-use Rattle.ae_rules.specs.Groups.{same_group_perm, with_group}
+use Rattle.ae_rules.specs.Groups.{known, with_group}
 use Rattle.ae_rules.specs.Context.{Context}
-use Rattle.ae_semantics.specs.Values.{Tree, Store}
+use Rattle.ae_semantics.specs.Values.{Store}
 use Rattle.ae_semantics.specs.Places.{Group, Here, Away, As, State, with, other_name, name_of, group_of, with_store}
 use Rattle.ae_semantics.specs.Places.{members}
-use Rattle.ae_soundness.specs.Fits.{IsWholeTree, HasMembers, has_members, FitsContext}
-use Rattle.ae_soundness.proofs.from_text.Basics.{number_is_itself}
-
--- each of these members is whole
-abbrev pub AreWhole : Code → Store → Type 0
-AreWhole p st = (n : ℕ) (t : Tree) → slice_get st n ≡ Some t → IsWholeTree p t
+use Rattle.ae_soundness.specs.Fits.{AreWhole, FitsGroup, FitsContext, has_members}
+use Rattle.ae_soundness.proofs.LikeLemmas.{IsLike, like_itself, FitsGroups, like_fits}
 
 -- A group with members is here with them.
 pub members_here : (o : Option Group) (st : Store) → members o ≡ Some st → o ≡ Some (Here st)
@@ -26,54 +22,12 @@ members_here (Some (Here old)) st e = cc
 members_here (Some (Away cell)) st e = absurd (cc)
 members_here (Some (As h)) st e = absurd (cc)
 
--- what there is of a group, where this stands under its name
-abbrev pub behind : (ℕ → Option Group) → ℕ → Option Group → Option Group
-behind gs y o = gs (other_name y o)
-
--- what there is of a group is what was stored, where it had what was stored there before, or else is as it was
-abbrev IsStored : (ℕ → Option Group) → ℕ → ℕ → Store → Type 0
-IsStored gs n y st = ((behind (with n (Some (Here st)) gs) y (with n (Some (Here st)) gs y) ≡ Some (Here st))
-    × ((old : Store) → gs n ≡ Some (Here old) → behind gs y (gs y) ≡ Some (Here old)))
-    ⊎ (behind (with n (Some (Here st)) gs) y (with n (Some (Here st)) gs y) ≡ behind gs y (gs y))
-
-stored_behind : (gs : ℕ → Option Group) (n y k : ℕ) (st : Store) → gs k ≡ behind gs y (gs y)
-    → with n (Some (Here st)) gs k ≡ behind (with n (Some (Here st)) gs) y (with n (Some (Here st)) gs y)
-    → (b : Bool) → nat_eq n k ≡ b → IsStored gs n y st
-stored_behind gs n y k st e i true d = inl (
-  sym i ∙ ap (λ (b : Bool). if b then Some (Here st) else gs k) d,
-  λ old h. sym e ∙ ap gs (sym (eqb-true n k d)) ∙ h,
-)
-stored_behind gs n y k st e i false d = inr (sym i ∙ ap (λ (b : Bool). if b then Some (Here st) else gs k) d ∙ e)
-
-stored_at_name : (gs : ℕ → Option Group) (n y : ℕ) (st : Store) (b : Bool) → nat_eq n y ≡ b → IsStored gs n y st
-stored_at_name gs n y st true d =
-    let is : with n (Some (Here st)) gs y ≡ Some (Here st) = ap (λ (b : Bool). if b then Some (Here st) else gs y) d in
-    let same : n ≡ y = eqb-true n y d in inl (
-      ap (behind (with n (Some (Here st)) gs) y) is ∙ is,
-      λ old h. let j : gs y ≡ Some (Here old) = ap gs (sym same) ∙ h in ap (behind gs y) j ∙ j,
-    )
-stored_at_name gs n y st false d =
-    let is : with n (Some (Here st)) gs y ≡ gs y = ap (λ (b : Bool). if b then Some (Here st) else gs y) d in
-    let found : IsStored gs n y st = stored_behind gs n y (other_name y (gs y)) st refl
-    (sym (ap (behind (with n (Some (Here st)) gs) y) is)) (nat_eq n (other_name y (gs y))) refl in found
-
-has_stored : (p : Code) (s : State) (g y : ℕ) (st : Store) → AreWhole p st
-    → group_of (with_store g (Some (Here st)) s) y ≡ Some (Here st) → HasMembers p (with_store g (Some (Here st)) s) y
-has_stored p s g y st w e = record { store = st; is = ap members e; whole = w }
-
-has_same : (p : Code) (s : State) (g y : ℕ) (st : Store) → HasMembers p s y
-    → group_of (with_store g (Some (Here st)) s) y ≡ group_of s y → HasMembers p (with_store g (Some (Here st)) s) y
-has_same p s g y st h e = record { store = h.store; is = ap members e ∙ h.is; whole = h.whole }
-
--- where other members are whole if those before were
-kept_whole : (p : Code) (s : State) (g y : ℕ) (old st : Store) → group_of s g ≡ Some (Here old)
-    → (AreWhole p old → AreWhole p st) → HasMembers p s y → IsStored s.groups (name_of s g) y st
-    → HasMembers p (with_store g (Some (Here st)) s) y
-kept_whole p s g y old st e k h (inl r) =
-    let is : Some h.store ≡ Some old = sym h.is ∙ ap members (r.1 old e) in
-    has_stored p s g y st (k (subst (λ (o : Option Store). (x : Store) → o ≡ Some x → AreWhole p x) is
-    (λ x i. subst (AreWhole p) (cc i) h.whole) old refl)) r.0
-kept_whole p s g y old st e k h (inr r) = has_same p s g y st h r
+stored_like : (p : Code) (gs : ℕ → Option Group) (n h : ℕ) (old st : Store) → gs n ≡ Some (Here old)
+    → (AreWhole p old → AreWhole p st) → (b : Bool) → nat_eq n h ≡ b
+    → IsLike p (gs h) (if b then Some (Here st) else gs h)
+stored_like p gs n h old st e k true d =
+    subst (λ (o : Option Group). IsLike p o (Some (Here st))) (sym (ap gs (sym (eqb-true n h d)) ∙ e)) (st, refl, k)
+stored_like p gs n h old st e k false d = like_itself p (gs h)
 
 -- The members of a group are others, which are whole where those before were.
 pub store_changed : (p : Code) (c : Context) (s : State) (g : ℕ) (old st : Store) → FitsContext p c s
@@ -82,51 +36,81 @@ pub store_changed : (p : Code) (c : Context) (s : State) (g : ℕ) (old st : Sto
 store_changed p c s g old st z e k = record {
   form = z.form;
   local = λ y l i v. let r = z.local y l i v in record { bound = r.bound; is = r.is; fits = r.fits };
-  group = λ y m o. kept_whole p s g y old st e k (z.group y m o)
-      (stored_at_name s.groups (name_of s g) y st (nat_eq (name_of s g) y) refl);
+  group = fits.group;
+  name = fits.name;
+  log = fits.log;
+  log_known = z.log_known;
+  unknown = fits.unknown;
 }
+  where
+    fits : FitsGroups p c.group (with_store g (Some (Here st)) s)
+    fits = like_fits p c s (with_store g (Some (Here st)) s) z
+        (λ h. stored_like p s.groups (name_of s g) h old st e k (nat_eq (name_of s g) h) refl)
 
 -- ---- a group is declared
-
--- what was stored is there
-stored_here : (gs : ℕ → Option Group) (g : ℕ) (st : Store) (b : Bool) → nat_eq (other_name g (gs g)) g ≡ b
-    → behind (with (other_name g (gs g)) (Some (Here st)) gs) g (with (other_name g (gs g)) (Some (Here st)) gs g)
-    ≡ Some (Here st)
-stored_here gs g st true d =
-    let n : ℕ = other_name g (gs g) in
-    let is : with n (Some (Here st)) gs g ≡ Some (Here st) = ap (λ (b : Bool). if b then Some (Here st) else gs g) d in
-    ap (behind (with n (Some (Here st)) gs) g) is ∙ is
-stored_here gs g st false d =
-    let n : ℕ = other_name g (gs g) in
-    let is : with n (Some (Here st)) gs g ≡ gs g = ap (λ (b : Bool). if b then Some (Here st) else gs g) d in
-    ap (behind (with n (Some (Here st)) gs) g) is
-    ∙ ap (λ (b : Bool). if b then Some (Here st) else gs n) (number_is_itself n)
-
--- the permission of a group lets its members be reached
-abbrev pub opens_so : Option GroupPerm → Bool
-opens_so o = given o false (same_group_perm group.Exclusive) || given o false (same_group_perm group.Protected)
 
 none_whole : (p : Code) → AreWhole p []
 none_whole p n t e = absurd (cc e)
 
-declared_members : (p : Code) (c : Context) (s : State) (g y : ℕ) → FitsContext p c s → has_members y ≡ true
-    → (b : Bool) → nat_eq g y ≡ b → opens_so (if b then Some group.Exclusive else c.group y) ≡ true
-    → HasMembers p (with_store g (Some (Here [])) s) y
-declared_members p c s g y z m true d o =
-    subst (λ (x : ℕ). HasMembers p (with_store g (Some (Here [])) s) x) (eqb-true g y d)
-    (has_stored p s g g [] (none_whole p) (stored_here s.groups g [] (nat_eq (name_of s g) g) refl))
-declared_members p c s g y z m false d o =
-    one_of (stored_at_name s.groups (name_of s g) y [] (nat_eq (name_of s g) y) refl)
-  where
-    one_of : IsStored s.groups (name_of s g) y [] → HasMembers p (with_store g (Some (Here [])) s) y
-    one_of (inl r) = has_stored p s g y [] (none_whole p) r.0
-    one_of (inr r) = has_same p s g y [] (z.group y m o) r
+still_known : (b : Bool) (o : Option GroupPerm) → is_some o ≡ true
+    → is_some (if b then Some group.Exclusive else o) ≡ true
+still_known true o k = refl
+still_known false o k = k
 
--- A group is declared, and has no members yet.
-pub group_declared : (p : Code) (c : Context) (s : State) (g : ℕ) → FitsContext p c s
-    → FitsContext p (record c { group = with_group g group.Exclusive c.group }) (with_store g (Some (Here [])) s)
-group_declared p c s g z = record {
+-- no members, or what there was
+fits_new : (p : Code) (q : GroupPerm) (b : Bool) (o : Option Group) → FitsGroup p q o
+    → FitsGroup p q (if b then Some (Here []) else o)
+fits_new p q true o h n = none_whole p
+fits_new p q false o h n = h n
+
+new_group : (p : Code) (c : Context) (s : State) (g y : ℕ) (q : GroupPerm) → FitsContext p c s
+    → has_members y ≡ true → (b : Bool) → nat_eq g y ≡ b → (if b then Some group.Exclusive else c.group y) ≡ Some q
+    → FitsGroup p q (with g (Some (Here [])) s.groups (other_name y (if b then Some (Here []) else s.groups y)))
+new_group p c s g y q z m true d e n =
+    subst (λ (b : Bool). FitsGroup p q (if b then Some (Here []) else s.groups y)) (sym d) (λ _. none_whole p) n
+new_group p c s g y q z m false d e n =
+    (fits_new) p q (nat_eq g (name_of s y)) (group_of s y) (z.group y q m e) n
+
+new_name : (p : Code) (c : Context) (s : State) (g y : ℕ) → FitsContext p c s
+    → has_members y ≡ true → (b : Bool) → nat_eq g y ≡ b
+    → is_some (if b then Some group.Exclusive else c.group y) ≡ true
+    → known (with_group g group.Exclusive c.group) (other_name y (if b then Some (Here []) else s.groups y)) ≡ true
+new_name p c s g y z m true d k =
+    ap (λ (b : Bool). is_some (if b then Some group.Exclusive else c.group y)) d
+new_name p c s g y z m false d k =
+    still_known (nat_eq g (name_of s y)) (c.group (name_of s y)) (z.name y m k)
+
+new_log : (p : Code) (c : Context) (s : State) (g : ℕ) → FitsContext p c s → known c.group g ≡ false → (b : Bool)
+    → nat_eq g io ≡ b → (if b then Some (Here []) else s.groups io) ≡ None
+new_log p c s g z u true d =
+    let same : g ≡ io = eqb-true g io d in
+    let k : known c.group g ≡ true = ap (known c.group) same ∙ z.log_known in absurd (cc (k, u))
+new_log p c s g z u false d = z.log
+
+new_unknown : (p : Code) (c : Context) (s : State) (y : ℕ) → FitsContext p c s → (b : Bool)
+    → is_some (if b then Some group.Exclusive else c.group y) ≡ false
+    → (if b then Some (Here []) else s.groups y) ≡ None
+new_unknown p c s y z true k = absurd (cc k)
+new_unknown p c s y z false k = z.unknown y k
+
+-- a group that is declared under its own name
+declared_so : (p : Code) (c : Context) (s : State) (g : ℕ) → FitsContext p c s → known c.group g ≡ false
+    → FitsContext p (record c { group = with_group g group.Exclusive c.group })
+    (record s { groups = with g (Some (Here [])) s.groups })
+declared_so p c s g z u = record {
   form = z.form;
   local = λ y l i v. let r = z.local y l i v in record { bound = r.bound; is = r.is; fits = r.fits };
-  group = λ y m o. declared_members p c s g y z m (nat_eq g y) refl o;
+  group = λ y q m e. new_group p c s g y q z m (nat_eq g y) refl e;
+  name = λ y m k. new_name p c s g y z m (nat_eq g y) refl k;
+  log = new_log p c s g z u (nat_eq g io) refl;
+  log_known = still_known (nat_eq g io) (c.group io) z.log_known;
+  unknown = λ y k. new_unknown p c s y z (nat_eq g y) k;
 }
+
+-- A group that was not known is declared, and has no members yet.
+pub group_declared : (p : Code) (c : Context) (s : State) (g : ℕ) → FitsContext p c s → known c.group g ≡ false
+    → FitsContext p (record c { group = with_group g group.Exclusive c.group }) (with_store g (Some (Here [])) s)
+group_declared p c s g z u =
+    let same : name_of s g ≡ g = ap (other_name g) (z.unknown g u) in
+    subst (λ (n : ℕ). FitsContext p (record c { group = with_group g group.Exclusive c.group })
+    (record s { groups = with n (Some (Here [])) s.groups })) (sym same) (declared_so p c s g z u)

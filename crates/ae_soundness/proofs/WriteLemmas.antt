@@ -19,11 +19,11 @@ use Rattle.ae_semantics.specs.Values.{AndValue, Store, value_count, value_fits, 
 use Rattle.ae_semantics.specs.Places.{Outcome, Fine, Traps, ◌>>=◌, there, Bound, State, group_of}
 use Rattle.ae_semantics.specs.Places.{with_bound, members, Base, InLocal, InGroup, OpenedObject}
 use Rattle.ae_semantics.specs.Places.{low, bind, with_member, rewrite_member, write_in, write, write_field}
-use Rattle.ae_soundness.specs.Fits.{IsWhole, IsWholeTree, FitsPlace, FitsLocal, FitsContext, fields_called}
+use Rattle.ae_soundness.specs.Fits.{AreWhole, IsWhole, IsWholeTree, FitsPlace, FitsLocal, FitsContext, fields_called}
 use Rattle.ae_soundness.specs.Fits.{place_held, has_value}
 use Rattle.ae_soundness.proofs.FieldLemmas.{given_some, changed_fields}
 use Rattle.ae_soundness.proofs.LocalLemmas.{HasBound, bound_changed}
-use Rattle.ae_soundness.proofs.StoreLemmas.{AreWhole, members_here, store_changed}
+use Rattle.ae_soundness.proofs.StoreLemmas.{members_here, store_changed}
 use Rattle.ae_soundness.proofs.OutcomeLemmas.{Comes}
 use Rattle.ae_soundness.proofs.StandLemmas.{inside_at, StandsIn, ObjectStands}
 use Rattle.ae_soundness.proofs.from_text.Basics.{option_holds_one}

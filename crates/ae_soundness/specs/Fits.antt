@@ -1,5 +1,6 @@
 -- When a state fits what is known at a statement: what stands in each local is what the judgement takes it for.
-use Rattle.std.specs.Prelude.{◌≡◌, ◌≢◌, ℕ, nat_eq, Bool, true, ◌&&◌, not, List, [], ◌∷◌, Some, slice_get}
+use Rattle.std.specs.Prelude.{◌≡◌, ◌≢◌, ℕ, nat_eq, Bool, true, false, ◌&&◌, ◌||◌, not, List, [], ◌∷◌, Option, None}
+use Rattle.std.specs.Prelude.{Some, slice_get}
 use Rattle.std.specs.List.{list_all}
 use Rattle.ae_tree.specs.declared.tree.Field.{Field}
 use Rattle.ae_tree.specs.declared.tree.Class.{Class}
@@ -10,17 +11,19 @@ use Rattle.ae_tree.specs.declared.form.Form.TheVariants as f
 use Rattle.ae_tree.specs.Form.{form}
 use Rattle.ae_tree.specs.Names.{io}
 use Rattle.ae_tree.specs.Plain.{Code}
+use Rattle.ae_rules.specs.declared.held.GroupPerm.{GroupPerm}
+use Rattle.ae_rules.specs.declared.held.GroupPerm.TheVariants as group
 use Rattle.ae_rules.specs.declared.held.Held.{Held}
 use Rattle.ae_rules.specs.declared.held.Held.TheVariants as held
 use Rattle.ae_rules.specs.Verdict.{given}
 use Rattle.ae_rules.specs.Forms.{is_object}
 use Rattle.ae_rules.specs.Lookups.{class_at, class_called, groups_of}
-use Rattle.ae_rules.specs.Groups.{opens}
+use Rattle.ae_rules.specs.Groups.{known, same_group_perm}
 use Rattle.ae_rules.specs.Context.{Local, Context, holds_nothing}
 use Rattle.ae_rules.specs.Walks.{Place}
 use Rattle.ae_semantics.specs.Values.{Val, OfInt, OfBool, Null, Owned, Member, Tree, Object, Array, Values, NoValue}
 use Rattle.ae_semantics.specs.Values.{AndValue, Store, value_fits}
-use Rattle.ae_semantics.specs.Places.{Bound, State, members, group_of}
+use Rattle.ae_semantics.specs.Places.{CellName, Group, Here, Away, As, Bound, State, members, group_of, name_of}
 
 -- ---- values
 
@@ -128,15 +131,44 @@ pub record FitsLocal (p : Code) (s : State) (x : ℕ) (w : Place) : Type 0 where
   pub is : s.locals x ≡ Some bound
   pub fits : FitsPlace p w bound.form bound.value
 
+-- each member of a group is whole
+abbrev pub AreWhole : Code → Store → Type 0
+AreWhole p st = (n : ℕ) (t : Tree) → slice_get st n ≡ Some t → IsWholeTree p t
+
 -- the members of a group are here, and each is whole
 pub record HasMembers (p : Code) (s : State) (g : ℕ) : Type 0 where
   pub store : Store
   pub is : members (group_of s g) ≡ Some store
-  pub whole : (n : ℕ) (t : Tree) → slice_get store n ≡ Some t → IsWholeTree p t
+  pub whole : AreWhole p store
 
--- no group of a visible local's form is `io`, each visible local that was not moved away has a value of its form, and
--- each group but `io` that may be reached has its members here
+-- a group with this permission may be in a cell
+abbrev pub may_be_away : GroupPerm → Bool
+may_be_away q = same_group_perm group.Shared q || same_group_perm group.HeldBack q
+
+-- what there is of a group of which this may be done: its members, each whole, or the cell that has them
+abbrev pub FitsShown : Code → GroupPerm → Option Group → Type 0
+FitsShown p q None = ⊥
+FitsShown p q (Some (Here st)) = AreWhole p st
+FitsShown p q (Some (Away cell)) = may_be_away q ≡ true
+FitsShown p q (Some (As h)) = ⊥
+
+-- of a group that a method does not need there may be anything
+abbrev pub FitsGroup : Code → GroupPerm → Option Group → Type 0
+FitsGroup p q o = same_group_perm group.None q ≡ false → FitsShown p q o
+
+-- No group of a visible local's form is `io`, and each visible local that was not moved away has a value of its form.
+-- Of each known group but `io` there is what may be, under a known name; of `io`, which is known, and of what is not
+-- known there is nothing.
 pub record FitsContext (p : Code) (c : Context) (s : State) : Type 0 where
   pub form : (x : ℕ) (l : Local) → c.local x ≡ Some l → form_has_members l.form ≡ true
-  pub local : (x : ℕ) (l : Local) → c.local x ≡ Some l → has_value (place_held l) ≡ true → FitsLocal p s x (place_held l)
-  pub group : (g : ℕ) → has_members g ≡ true → opens c.group g ≡ true → HasMembers p s g
+  pub local : (x : ℕ) (l : Local) → c.local x ≡ Some l → has_value (place_held l) ≡ true
+      → FitsLocal p s x (place_held l)
+  pub group : (g : ℕ) (q : GroupPerm) → has_members g ≡ true → c.group g ≡ Some q → FitsGroup p q (group_of s g)
+  pub name : (g : ℕ) → has_members g ≡ true → known c.group g ≡ true → known c.group (name_of s g) ≡ true
+  pub log : s.groups io ≡ None
+  pub log_known : known c.group io ≡ true
+  pub unknown : (g : ℕ) → known c.group g ≡ false → s.groups g ≡ None
+
+-- no group is away in a cell
+abbrev pub NoneAway : State → Type 0
+NoneAway s = (g : ℕ) (cell : CellName) → s.groups g ≢ Some (Away cell)

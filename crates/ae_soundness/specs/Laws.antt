@@ -10,10 +10,10 @@ use Rattle.ae_tree.specs.declared.form.Perm.{Perm}
 use Rattle.ae_tree.specs.declared.form.Kind.{Kind}
 use Rattle.ae_tree.specs.declared.form.Form.TheVariants as f
 use Rattle.ae_tree.specs.Form.{form}
-use Rattle.ae_tree.specs.Plain.{Expression, Invocation, RightSide, Value, Taken, Zeros, Made, Returned, Definition}
+use Rattle.ae_tree.specs.Plain.{Expression, Invocation, Definition}
 use Rattle.ae_tree.specs.Plain.{Code}
-use Rattle.ae_tree.specs.Plain.{Action, Declares, Assigns, Stores, StoresAt, Calls, Chooses, ChoosesElse, Repeats}
-use Rattle.ae_tree.specs.Plain.{Groups, Splits, Locks, Freezes, Shares, Prints, PrintsText, Asserts, Returns}
+use Rattle.ae_tree.specs.Plain.{Action}
+use Rattle.ae_tree.specs.Plain.{Locks}
 use Rattle.ae_tree.specs.WellShaped.{WellShaped, HasField}
 use Rattle.ae_rules.specs.declared.held.Held.{Held}
 use Rattle.ae_rules.specs.Verdict.{Holds, fine}

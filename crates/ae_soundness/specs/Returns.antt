@@ -1,6 +1,6 @@
 -- Laws on what a method leaves to its caller: its result, and what comes back.
 use Rattle.std.specs.Prelude.{◌≡◌, ℕ, Bool, true, false, List, [], ◌∷◌, if◌then◌else◌, filter_map, Option, None}
-use Rattle.std.specs.Prelude.{Some, slice_get, ⊤}
+use Rattle.std.specs.Prelude.{Some, ⊤}
 use Rattle.ae_text.specs.declared.refusal.Spot.{Spot}
 use Rattle.ae_tree.specs.declared.tree.Ty.{Ty}
 use Rattle.ae_tree.specs.declared.tree.Path.{Path}
@@ -9,16 +9,18 @@ use Rattle.ae_tree.specs.declared.tree.GroupNeed.{GroupNeed}
 use Rattle.ae_tree.specs.Form.{form}
 use Rattle.ae_tree.specs.Plain.{Code, Definition, Expression, Invocation, Action, Returns}
 use Rattle.ae_tree.specs.WellShaped.{WellShaped}
+use Rattle.ae_tree.specs.FreeThis.{ThisIsFree}
 use Rattle.ae_rules.specs.Table.{TableHolds}
 use Rattle.ae_rules.specs.declared.held.Held.TheVariants as held
-use Rattle.ae_rules.specs.Verdict.{Holds, in_turn}
+use Rattle.ae_rules.specs.Verdict.{Holds, fine, in_turn}
 use Rattle.ae_rules.specs.Context.{Context}
 use Rattle.ae_rules.specs.Walks.{Place, walk}
 use Rattle.ae_rules.specs.Into.{name_into}
 use Rattle.ae_rules.specs.Calls.{Callee, Called, judge_callee, judge_callee_with}
 use Rattle.ae_rules.specs.Calls.{Roots, no_roots, ParamSlot, to_slot, argument_parts, after_call}
-use Rattle.ae_rules.specs.Judges.{Judges, is_return}
-use Rattle.ae_semantics.specs.Values.{Val, Tree}
+use Rattle.ae_rules.specs.Statements.{judge_lines, end_block}
+use Rattle.ae_rules.specs.Judges.{Judges, is_return, start, end_method}
+use Rattle.ae_semantics.specs.Values.{Val}
 use Rattle.ae_semantics.specs.Places.{Outcome, Fine, Traps, Lacks, Bound, Group, Here, Away, As, State, PlaceFound}
 use Rattle.ae_semantics.specs.Places.{walk_to, write}
 use Rattle.ae_semantics.specs.Observations.{Seen, Notes}
@@ -26,7 +28,7 @@ use Rattle.ae_semantics.specs.Runs.{Run, Went, Ends, Stops, Where, Machine, Belo
 use Rattle.ae_semantics.specs.Calls.{without_moved, groups_back, Taker, value_comes_back}
 use Rattle.ae_semantics.specs.Calls.{CallFrame, enter, leave}
 use Rattle.ae_semantics.specs.Meaning.{with_perm, one}
-use Rattle.ae_soundness.specs.Fits.{HasMembers, IsOfForm, IsWholeTree, FieldsHaveMembers, FitsContext}
+use Rattle.ae_soundness.specs.Fits.{AreWhole, HasMembers, IsOfForm, FieldsHaveMembers, FitsContext, NoneAway}
 use Rattle.ae_soundness.specs.Laws.{is_without_calls}
 
 -- ---- results
@@ -72,19 +74,16 @@ ReturnsGiveResults = (ReturnsGiveBy ⊤ × ReturnsGiveBy (List Seen)) × (Result
 
 -- ---- groups
 
--- what there is under a name is no other name
-abbrev pub is_no_name : Option Group → Bool
-is_no_name None = true
-is_no_name (Some (Here st)) = true
-is_no_name (Some (Away cell)) = true
-is_no_name (Some (As h)) = false
+-- members are here
+abbrev pub is_here : Option Group → Bool
+is_here (Some (Here st)) = true
+is_here _ = false
 
--- What a method left of a group may come back to where there is this: members that are whole in place of what is no
--- other name, what there is, or another name, under which the members come back.
+-- What a method left of a group may come back to where there is this: members that are whole in place of members, what
+-- there is, or another name, under which the members come back.
 abbrev pub MayComeBack : Code → Option Group → Option Group → Type 0
 MayComeBack p o None = o ≡ None
-MayComeBack p o (Some (Here st)) = ((n : ℕ) (t : Tree) → slice_get st n ≡ Some t → IsWholeTree p t)
-    × (is_no_name o ≡ true)
+MayComeBack p o (Some (Here st)) = AreWhole p st × (is_here o ≡ true)
 MayComeBack p o (Some (Away cell)) = o ≡ Some (Away cell)
 MayComeBack p o (Some (As h)) = Unit {0}
 
@@ -94,9 +93,9 @@ EachMayComeBack p groups s after [] = Unit {0}
 EachMayComeBack p groups s after (n ∷ ns) = MayComeBack p (s.groups (groups n.group.name)) (after.groups n.group.name)
     × EachMayComeBack p groups s after ns
 
--- a group whose members the method has where it ends may come back to what is no other name
+-- a group whose members the method has where it ends may come back to members
 abbrev pub MembersMayComeBack : Type 0
-MembersMayComeBack = (p : Code) (o : Option Group) (t : State) (g : ℕ) → HasMembers p t g → is_no_name o ≡ true
+MembersMayComeBack = (p : Code) (o : Option Group) (t : State) (g : ℕ) → HasMembers p t g → is_here o ≡ true
     → MayComeBack p o (t.groups g)
 
 -- a state keeps fitting where groups come back to it
@@ -152,3 +151,21 @@ CallsAreLeft = (p : Code) → WellShaped p → TableHolds p → (c : Context) (s
     (k : Callee) (d : Called) (f : CallFrame) → FitsContext p c s → judge_callee p c i.on i.method ≡ Holds k
     → judge_callee_with p c i k ≡ Holds d → enter p here i s ≡ Fine f → EachIsThere p t f.takers
     → EachMayComeBack p f.groups s t k.method.needs → IsStateOf p d.after (leave f i s t)
+
+-- ---- a method's end
+
+-- the method may end in this context: that after its body, where what the body declares is known no more
+abbrev pub EndsIn : Code → Definition → Context → Type 0
+EndsIn p m d = (c : Context) × (judge_lines p m m.body (start p m) ≡ Holds c)
+    × (end_block p (start p m) m.body c ≡ Holds d) × (end_method p m d ≡ fine)
+
+-- In a well-shaped program whose declarations hold, and none of which is under the name `this`: where a judged call was
+-- entered from a state that fits, and its method ends in a state that fits a context in which it may end, its
+-- parameters have the values that come back, and what it left of its groups may come back; no group is away before and
+-- after it.
+abbrev pub MethodsGiveBack : Type 0
+MethodsGiveBack = (p : Code) → WellShaped p → ThisIsFree p → TableHolds p → (c : Context) (s t : State) (here : Where)
+    (i : Invocation) (k : Callee) (d : Called) (f : CallFrame) (last : Context) → FitsContext p c s → NoneAway s
+    → judge_callee p c i.on i.method ≡ Holds k → judge_callee_with p c i k ≡ Holds d → enter p here i s ≡ Fine f
+    → EndsIn p k.method last → FitsContext p last t → NoneAway t
+    → EachIsThere p t f.takers × EachMayComeBack p f.groups s t k.method.needs

@@ -3,9 +3,13 @@ ghost use Rattle.ae_soundness.specs.Laws.{BeginningsFit, CallsAreEntered, Fields
 ghost use Rattle.ae_soundness.specs.Laws.{MethodsHaveMembers, ObjectsAreReached, PathsAreFound, SlotsAreFound};
 ghost use Rattle.ae_soundness.specs.Laws.{StatementsWithoutCallsFit, ValuesAreFound, WhatGoesInFits};
 ghost use Rattle.ae_soundness.specs.Returns.{CallsAreLeft, GroupsComeBack, NamesGoAway, ReturnsGiveResults};
-ghost use Rattle.ae_soundness.specs.Returns.{MembersMayComeBack, ValuesComeBack};
+ghost use Rattle.ae_soundness.specs.Returns.{MembersMayComeBack, MethodsGiveBack, ValuesComeBack};
+ghost use Rattle.ae_soundness.specs.Whole.{AcceptedMeaningsEnd, AcceptedRunsNeverLack, CallsKeepStanding};
 
-use ae_rules::{calls_give_back, every_slot_is_given, given_away_is_gone, walks_go_by_owners};
+use ae_rules::{
+    calls_give_back, comparisons_are_exact, every_slot_is_given, given_away_is_gone,
+    judging_keeps_right, statements_keep_what_is_visible, walks_go_by_owners,
+};
 
 /// In a program whose declarations hold no field is of a form with `io` for a group, so that each group that a walk
 /// meets has members.
@@ -116,7 +120,53 @@ pub fn calls_are_left()
     every_slot_is_given();
 }
 
-/// A group whose members a method has where it ends may come back to a caller's group that is no other name.
+/// A group whose members a method has where it ends may come back to a caller's group that has members.
 pub fn members_may_come_back()
     ensures { MembersMayComeBack }
 {}
+
+/// Where a judged call was entered from a state that fits what is known, and its method ends in a state that fits a
+/// context in which it may end, the parameters have the values that come back, and what the method left of its groups
+/// may come back to the caller's. No group may be away in a cell then, and nothing declared under the name `this`.
+pub fn methods_give_back()
+    ensures { MethodsGiveBack }
+{
+    every_slot_is_given();
+    statements_keep_what_is_visible();
+}
+
+/// Where each method's body, from a state that stands where it begins, is left as it is judged to end, each judged
+/// statement that calls goes on from a state that stands to one that stands at what is known after it, or is a trap, or
+/// wants fuel; nothing is lacking.
+pub fn calls_keep_standing()
+    ensures { CallsKeepStanding }
+{
+    calls_are_entered();
+    calls_are_left();
+    methods_give_back();
+}
+
+/// No run of an accepted program in which nothing is split lacks anything, up to its first ending: it goes through, or
+/// ends by a trap or for want of fuel, with each fuel, on all integers, and whatever is observed. Programs with `split`
+/// or `atomic` are left out, and nothing may be declared under the name `this`.
+pub fn accepted_runs_never_lack()
+    ensures { AcceptedRunsNeverLack }
+{
+    fields_are_of_groups();
+    values_are_found();
+    statements_without_calls_fit();
+    returns_give_results();
+    beginnings_fit();
+    calls_keep_standing();
+    statements_keep_what_is_visible();
+    comparisons_are_exact();
+    judging_keeps_right();
+}
+
+/// The meaning of an accepted program in which nothing is split has an ending, whatever is observed: it is done, it is
+/// a trap, or the fuel was spent.
+pub fn accepted_meanings_end()
+    ensures { AcceptedMeaningsEnd }
+{
+    accepted_runs_never_lack();
+}
