@@ -1,19 +1,20 @@
 -- Facts on what is bound under names, where a bind is taken out, changed or added.
 use Rattle.std.proofs.Common.{◌≡◌, ℕ, zero, suc, nat_eq, Bool, true, false, not, List, [], ◌∷◌, ◌++◌, Option, None}
-use Rattle.std.proofs.Common.{Some, slice_get, slice_set, option_map, refl, sym, ap, ◌∙◌}
-use Rattle.std.specs.Prelude.{if◌then◌else◌, remove, is_some}
+use Rattle.std.proofs.Common.{Some, slice_get, slice_set, option_map, refl, sym, ap, ◌∙◌, arith}
+use Rattle.std.specs.Prelude.{if◌then◌else◌, is_some, ◌<◌, ◌≤◌, ◌+◌, ◌-◌, take, drop, length}
 use Rattle.std.proofs.lemmas.Bool.{and_from, eqb-true, ne_eqb, both_ways}
+use Rattle.std.proofs.lemmas.List.{drop-set-add, drop-append-le}
 use Rattle.std.proofs.lemmas.Option.{none-some, same_Some}
 use Rattle.ae_values.proofs.from_text.Basics.{first_of_both, second_of_both, number_is_itself, functions_agree}
 use Rattle.ae_rules.specs.Verdict.{given}
-use Rattle.ae_semantics.specs.Places.{with}
+use Rattle.ae_semantics.specs.Values as meant_value
+use Rattle.ae_semantics.specs.Places.{with, name_of, State, CellName}
 use Rattle.ae_values.specs.declared.env.Bind.{Bind}
-use Rattle.ae_values.specs.Binding.{bound_in, bound_once}
-use Rattle.ae_values.specs.Environments.{local_bound, group_bound, BindsChangeOneName}
-
--- the bind at this place has this name
-abbrev pub NamedAt : List Bind → ℕ → ℕ → Type 0
-NamedAt bs i x = option_map (λ (b : Bind). b.name) (slice_get bs i) ≡ Some x
+use Rattle.ae_tree.specs.declared.form.Perm.{Perm}
+use Rattle.ae_values.specs.declared.env.Bound.{Bound}
+use Rattle.ae_values.specs.Binding.{bound_in, bound_once, IsNamedAt, heads, declared_as}
+use Rattle.ae_values.specs.Environments.{local_bound, group_bound, BindsChangeOneName, bound_under, locals_in, groups_in}
+use Rattle.ae_values.specs.Environments.{state_in, LocalsChange, GroupsChange}
 
 -- what is not there is nothing
 nothing_there : {A : Type 0} (o : Option A) → not (is_some o) ≡ true → o ≡ None
@@ -25,11 +26,11 @@ there_is_none None none = refl
 there_is_none (Some x) none = absurd (none-some x (sym none))
 
 -- the name of the first bind is not bound in the others
-first_is_alone : (c : Bind) (cs : List Bind) → bound_once (c ∷ cs) ≡ true → bound_in cs c.name ≡ None
+pub first_is_alone : (c : Bind) (cs : List Bind) → bound_once (c ∷ cs) ≡ true → bound_in cs c.name ≡ None
 first_is_alone c cs once = nothing_there (bound_in cs c.name)
     (first_of_both (not (is_some (bound_in cs c.name))) (bound_once cs) once)
 
-others_once : (c : Bind) (cs : List Bind) → bound_once (c ∷ cs) ≡ true → bound_once cs ≡ true
+pub others_once : (c : Bind) (cs : List Bind) → bound_once (c ∷ cs) ≡ true → bound_once cs ≡ true
 others_once c cs once = second_of_both (not (is_some (bound_in cs c.name))) (bound_once cs) once
 
 -- of two tests of which at most one holds either may be asked first
@@ -45,7 +46,7 @@ asked_twice true x y z = refl
 asked_twice false x y z = refl
 
 -- what stands at a place is bound
-named_is_bound : (bs : List Bind) (i x : ℕ) → NamedAt bs i x → bound_in bs x ≡ None → ⊥
+named_is_bound : (bs : List Bind) (i x : ℕ) → IsNamedAt bs i x → bound_in bs x ≡ None → ⊥
 named_is_bound [] i x at none = none-some x at
 named_is_bound (c ∷ cs) zero x at none = by_test (nat_eq c.name x) refl none
   where
@@ -61,18 +62,19 @@ named_is_bound (c ∷ cs) (suc i) x at none = named_is_bound cs i x at
     by_test false here = here
 
 -- a bind further on has another name than the first
-later_is_another : (c : Bind) (cs : List Bind) (i x : ℕ) → bound_once (c ∷ cs) ≡ true → NamedAt cs i x → c.name ≡ x → ⊥
+later_is_another : (c : Bind) (cs : List Bind) (i x : ℕ) → bound_once (c ∷ cs) ≡ true → IsNamedAt cs i x
+    → c.name ≡ x → ⊥
 later_is_another c cs i x once at same =
     named_is_bound cs i x at (ap (bound_in cs) (sym same) ∙ first_is_alone c cs once)
 
 -- of the first name and a later one a name is at most one
-not_both_names : (c : Bind) (cs : List Bind) (i x y : ℕ) → bound_once (c ∷ cs) ≡ true → NamedAt cs i x
+not_both_names : (c : Bind) (cs : List Bind) (i x y : ℕ) → bound_once (c ∷ cs) ≡ true → IsNamedAt cs i x
     → nat_eq c.name y ≡ true → nat_eq x y ≡ true → ⊥
 not_both_names c cs i x y once at p q =
     later_is_another c cs i x once at (eqb-true c.name y p ∙ sym (eqb-true x y q))
 
 -- what stands at a place is what is bound under its name
-pub bound_at_place : (bs : List Bind) (i x : ℕ) (b : Bind) → bound_once bs ≡ true → NamedAt bs i x
+pub bound_at_place : (bs : List Bind) (i x : ℕ) (b : Bind) → bound_once bs ≡ true → IsNamedAt bs i x
     → slice_get bs i ≡ Some b → Some b.bound ≡ bound_in bs x
 bound_at_place [] i x b once named at = absurd (none-some x named)
 bound_at_place (c ∷ cs) zero x b once named at = by_test (nat_eq c.name x) refl
@@ -86,45 +88,10 @@ bound_at_place (c ∷ cs) (suc i) x b once named at =
     ∙ ap (λ t. if t then Some c.bound else bound_in cs x)
     (sym (ne_eqb c.name x (later_is_another c cs i x once named)))
 
--- ---- a bind taken out
-
--- where a bind is taken out, nothing is bound under its name, and all else stays
-pub taken_out : (bs : List Bind) (i x y : ℕ) → bound_once bs ≡ true → NamedAt bs i x
-    → bound_in (remove bs i) y ≡ with x None (bound_in bs) y
-taken_out [] i x y once at = absurd (none-some x at)
-taken_out (c ∷ cs) zero x y once at = by_test (nat_eq x y) refl
-    ∙ sym (asked_twice (nat_eq x y) None (Some c.bound) (bound_in cs y))
-    ∙ ap (λ n. if nat_eq x y then None else (if nat_eq n y then Some c.bound else bound_in cs y)) (sym same)
-  where
-    same : c.name ≡ x
-    same = same_Some c.name x at
-
-    by_test : (t : Bool) → nat_eq x y ≡ t → bound_in cs y ≡ (if t then None else bound_in cs y)
-    by_test true q = ap (bound_in cs) (sym (same ∙ eqb-true x y q)) ∙ first_is_alone c cs once
-    by_test false q = refl
-taken_out (c ∷ cs) (suc i) x y once at =
-    ap (λ z. if nat_eq c.name y then Some c.bound else z) (taken_out cs i x y (others_once c cs once) at)
-    ∙ either_first (nat_eq c.name y) (nat_eq x y) (Some c.bound) None (bound_in cs y)
-    (not_both_names c cs i x y once at)
-
-none_either : {A : Type 0} (t : Bool) (o : Option A) → o ≡ None → (if t then None else o) ≡ None
-none_either true o none = refl
-none_either false o none = none
-
--- where a bind is taken out no name is bound twice
-pub once_without : (bs : List Bind) (i x : ℕ) → bound_once bs ≡ true → NamedAt bs i x → bound_once (remove bs i) ≡ true
-once_without [] i x once at = absurd (none-some x at)
-once_without (c ∷ cs) zero x once at = others_once c cs once
-once_without (c ∷ cs) (suc i) x once at = and_from (not (is_some (bound_in (remove cs i) c.name)))
-    (bound_once (remove cs i))
-    (there_is_none (bound_in (remove cs i) c.name) (taken_out cs i x c.name (others_once c cs once) at
-    ∙ none_either (nat_eq x c.name) (bound_in cs c.name) (first_is_alone c cs once)))
-    (once_without cs i x (others_once c cs once) at)
-
 -- ---- a bind changed
 
 -- where a bind is changed, its name is bound to the new thing, and all else stays
-pub bound_anew : (bs : List Bind) (i : ℕ) (n : Bind) (y : ℕ) → bound_once bs ≡ true → NamedAt bs i n.name
+pub bound_anew : (bs : List Bind) (i : ℕ) (n : Bind) (y : ℕ) → bound_once bs ≡ true → IsNamedAt bs i n.name
     → bound_in (slice_set bs i n) y ≡ with n.name (Some n.bound) (bound_in bs) y
 bound_anew [] i n y once at = absurd (none-some n.name at)
 bound_anew (c ∷ cs) zero n y once at = sym (asked_twice (nat_eq n.name y) (Some n.bound) (Some c.bound) (bound_in cs y))
@@ -136,7 +103,7 @@ bound_anew (c ∷ cs) (suc i) n y once at =
     (not_both_names c cs i n.name y once at)
 
 -- where a bind is changed no name is bound twice
-pub once_anew : (bs : List Bind) (i : ℕ) (n : Bind) → bound_once bs ≡ true → NamedAt bs i n.name
+pub once_anew : (bs : List Bind) (i : ℕ) (n : Bind) → bound_once bs ≡ true → IsNamedAt bs i n.name
     → bound_once (slice_set bs i n) ≡ true
 once_anew [] i n once at = absurd (none-some n.name at)
 once_anew (c ∷ cs) zero n once at = and_from (not (is_some (bound_in cs n.name))) (bound_once cs)
@@ -189,6 +156,225 @@ once_besides (c ∷ cs) n once none =
     ∙ first_is_alone c cs once))
     (once_besides cs n (others_once c cs once) (not_in_others c cs n.name none))
 
+-- ---- the binds of the running call among all
+
+-- what stands at a place behind others
+get_behind : {A : Type 0} (xs : List A) (n i : ℕ) → slice_get (drop n xs) i ≡ slice_get xs (n + i)
+get_behind xs zero i = let e : i ≡ 0 + i = omega arith in ap (slice_get xs) e
+get_behind [] (suc n) i = refl
+get_behind (x ∷ xs) (suc n) i =
+    let e : suc (n + i) ≡ suc n + i = omega arith in get_behind xs n i ∙ ap (slice_get (x ∷ xs)) e
+
+-- a place from the base on, counted from there
+at_from_base : {A : Type 0} (xs : List A) (base at : ℕ) → base ≤ at
+    → slice_get (drop base xs) (at - base) ≡ slice_get xs at
+at_from_base xs base at behind =
+    let e : base + (at - base) ≡ at = omega arith in get_behind xs base (at - base) ∙ ap (slice_get xs) e
+
+named_from_base : (bs : List Bind) (base at x : ℕ) → base ≤ at → IsNamedAt bs at x
+    → IsNamedAt (drop base bs) (at - base) x
+named_from_base bs base at x behind named =
+    ap (option_map (λ (b : Bind). b.name)) (at_from_base bs base at behind) ∙ named
+
+set_from_base : {A : Type 0} (xs : List A) (base at : ℕ) (x : A) → base ≤ at
+    → drop base (slice_set xs at x) ≡ slice_set (drop base xs) (at - base) x
+set_from_base xs base at x behind =
+    let e : at ≡ base + (at - base) = omega arith in
+    ap (λ k. drop base (slice_set xs k x)) e ∙ drop-set-add base xs (at - base) x
+
+-- what stands at a place of the running call is what is bound there under its name
+pub bound_at_found : (bs : List Bind) (base at x : ℕ) (b : Bind) → bound_once (drop base bs) ≡ true → base ≤ at
+    → IsNamedAt bs at x → slice_get bs at ≡ Some b → Some b.bound ≡ bound_in (drop base bs) x
+bound_at_found bs base at x b once behind named found = bound_at_place (drop base bs) (at - base) x b once
+    (named_from_base bs base at x behind named) (at_from_base bs base at behind ∙ found)
+
+name_at_found : (bs : List Bind) (at x : ℕ) (b : Bind) → IsNamedAt bs at x → slice_get bs at ≡ Some b → b.name ≡ x
+name_at_found bs at x b named found = same_Some b.name x
+    (ap (option_map (λ (c : Bind). c.name)) (sym found) ∙ named)
+
+-- where another thing is bound at a place of the running call, the name there has it, and all else stays
+pub names_exchanged : (bs : List Bind) (base at x : ℕ) (c : Bind) (b : Bound) → bound_once (drop base bs) ≡ true
+    → base ≤ at → IsNamedAt bs at x → slice_get bs at ≡ Some c
+    → bound_in (drop base (slice_set bs at (record c { bound = b }))) ≡ with x (Some b) (bound_in (drop base bs))
+names_exchanged bs base at x c b once behind named found =
+    ap bound_in (set_from_base bs base at (record c { bound = b }) behind)
+    ∙ functions_agree _ (with c.name (Some b) (bound_in (drop base bs)))
+    (λ y. bound_anew (drop base bs) (at - base) (record c { bound = b }) y once
+    (named_from_base bs base at c.name behind (ap (option_map (λ (d : Bind). d.name)) found)))
+    ∙ ap (λ n. with n (Some b) (bound_in (drop base bs))) (name_at_found bs at x c named found)
+
+pub once_exchanged : (bs : List Bind) (base at : ℕ) (c : Bind) (b : Bound) → bound_once (drop base bs) ≡ true
+    → base ≤ at → slice_get bs at ≡ Some c
+    → bound_once (drop base (slice_set bs at (record c { bound = b }))) ≡ true
+once_exchanged bs base at c b once behind found =
+    ap bound_once (set_from_base bs base at (record c { bound = b }) behind)
+    ∙ once_anew (drop base bs) (at - base) (record c { bound = b }) once
+    (named_from_base bs base at c.name behind (ap (option_map (λ (d : Bind). d.name)) found))
+
+heads_with : (bs : List Bind) (i : ℕ) (c : Bind) (b : Bound) → slice_get bs i ≡ Some c
+    → heads (slice_set bs i (record c { bound = b })) ≡ heads bs
+heads_with [] i c b found = refl
+heads_with (d ∷ ds) zero c b found = ap (λ (e : Bind). (e.name, e.declared) ∷ heads ds) (sym (same_Some d c found))
+heads_with (d ∷ ds) (suc i) c b found = ap (λ hs. (d.name, d.declared) ∷ hs) (heads_with ds i c b found)
+
+-- the names and the permissions with which they were declared stay
+pub heads_exchanged : (bs : List Bind) (base at : ℕ) (c : Bind) (b : Bound) → base ≤ at → slice_get bs at ≡ Some c
+    → heads (drop base (slice_set bs at (record c { bound = b }))) ≡ heads (drop base bs)
+heads_exchanged bs base at c b behind found =
+    ap heads (set_from_base bs base at (record c { bound = b }) behind)
+    ∙ heads_with (drop base bs) (at - base) c b (at_from_base bs base at behind ∙ found)
+
+-- what has a name is there
+pub named_within : (bs : List Bind) (i x : ℕ) → IsNamedAt bs i x → i < length bs
+named_within [] i x at = absurd (none-some x at)
+named_within (b ∷ bs) zero x at = omega arith
+named_within (b ∷ bs) (suc i) x at = let h = named_within bs i x at in omega arith
+
+-- where a bind with a new name is added behind all, that name is bound to it in the running call, and all else stays
+pub names_besides : (bs : List Bind) (base : ℕ) (n : Bind) → base ≤ length bs
+    → bound_in (drop base bs) n.name ≡ None
+    → bound_in (drop base (bs ++ n ∷ [])) ≡ with n.name (Some n.bound) (bound_in (drop base bs))
+names_besides bs base n within none = ap bound_in (drop-append-le base bs (n ∷ []) within)
+    ∙ functions_agree _ (with n.name (Some n.bound) (bound_in (drop base bs)))
+    (λ y. bound_besides (drop base bs) n y none)
+
+pub once_added : (bs : List Bind) (base : ℕ) (n : Bind) → base ≤ length bs → bound_once (drop base bs) ≡ true
+    → bound_in (drop base bs) n.name ≡ None → bound_once (drop base (bs ++ n ∷ [])) ≡ true
+once_added bs base n within once none = ap bound_once (drop-append-le base bs (n ∷ []) within)
+    ∙ once_besides (drop base bs) n once none
+
+-- the name at a place stays
+pub named_with : (bs : List Bind) (i x : ℕ) (c : Bind) (b : Bound) → slice_get bs i ≡ Some c → IsNamedAt bs i x
+    → IsNamedAt (slice_set bs i (record c { bound = b })) i x
+named_with [] i x c b found named = named
+named_with (d ∷ ds) zero x c b found named = ap (λ (e : Bind). Some e.name) (sym (same_Some d c found)) ∙ named
+named_with (d ∷ ds) (suc i) x c b found named = named_with ds i x c b found named
+
+declared_at_place : (bs : List Bind) (i x : ℕ) (b : Bind) → bound_once bs ≡ true → IsNamedAt bs i x
+    → slice_get bs i ≡ Some b → declared_as (heads bs) x ≡ Some b.declared
+declared_at_place [] i x b once named at = absurd (none-some x named)
+declared_at_place (c ∷ cs) zero x b once named at = by_test (nat_eq c.name x) refl
+  where
+    by_test : (t : Bool) → nat_eq c.name x ≡ t
+        → (if t then Some c.declared else declared_as (heads cs) x) ≡ Some b.declared
+    by_test true q = ap (λ (d : Bind). Some d.declared) (same_Some c b at)
+    by_test false q = absurd (both_ways (nat_eq c.name x) q
+        (ap (λ y. nat_eq c.name y) (sym (same_Some c.name x named)) ∙ number_is_itself c.name))
+declared_at_place (c ∷ cs) (suc i) x b once named at =
+    ap (λ t. if t then Some c.declared else declared_as (heads cs) x)
+    (ne_eqb c.name x (later_is_another c cs i x once named))
+    ∙ declared_at_place cs i x b (others_once c cs once) named at
+
+-- the permission with which the name at a place of the running call was declared is the one that stands there
+pub declared_at_found : (bs : List Bind) (base at x : ℕ) (b : Bind) → bound_once (drop base bs) ≡ true → base ≤ at
+    → IsNamedAt bs at x → slice_get bs at ≡ Some b → declared_as (heads (drop base bs)) x ≡ Some b.declared
+declared_at_found bs base at x b once behind named found = declared_at_place (drop base bs) (at - base) x b once
+    (named_from_base bs base at x behind named) (at_from_base bs base at behind ∙ found)
+
+-- a name that is not bound is not declared
+pub none_declared : (bs : List Bind) (x : ℕ) → bound_in bs x ≡ None → declared_as (heads bs) x ≡ None
+none_declared [] x none = refl
+none_declared (b ∷ bs) x none = by_test (nat_eq b.name x) none (none_declared bs x)
+  where
+    by_test : (t : Bool) → (if t then Some b.bound else bound_in bs x) ≡ None
+        → (bound_in bs x ≡ None → declared_as (heads bs) x ≡ None)
+        → (if t then Some b.declared else declared_as (heads bs) x) ≡ None
+    by_test true some others = absurd (none-some b.bound (sym some))
+    by_test false others_none others = others others_none
+
+-- ---- names that end
+
+-- the first so many binds
+pub names_kept : (bs : List Bind) (n x : ℕ)
+    → bound_in (take n bs) x ≡ given (declared_as (take n (heads bs)) x) None (λ q. bound_in bs x)
+names_kept bs zero x = refl
+names_kept [] (suc n) x = refl
+names_kept (b ∷ bs) (suc n) x = by_test (names_kept bs n x) (nat_eq b.name x)
+  where
+    by_test : bound_in (take n bs) x ≡ given (declared_as (take n (heads bs)) x) None (λ q. bound_in bs x)
+        → (t : Bool) → (if t then Some b.bound else bound_in (take n bs) x)
+        ≡ given (if t then Some b.declared else declared_as (take n (heads bs)) x) None
+        (λ q. if t then Some b.bound else bound_in bs x)
+    by_test others true = refl
+    by_test others false = others
+
+some_are_once : (bs : List Bind) (n x : ℕ) → bound_in bs x ≡ None → bound_in (take n bs) x ≡ None
+some_are_once bs n x none = names_kept bs n x ∙ either (declared_as (take n (heads bs)) x)
+  where
+    either : (o : Option Perm) → given o None (λ q. bound_in bs x) ≡ None
+    either None = refl
+    either (Some q) = none
+
+-- of binds of which no name is bound twice the first so many are such
+pub once_kept : (bs : List Bind) (n : ℕ) → bound_once bs ≡ true → bound_once (take n bs) ≡ true
+once_kept bs zero once = refl
+once_kept [] (suc n) once = refl
+once_kept (b ∷ bs) (suc n) once = and_from (not (is_some (bound_in (take n bs) b.name))) (bound_once (take n bs))
+    (there_is_none (bound_in (take n bs) b.name) (some_are_once bs n b.name (first_is_alone b bs once)))
+    (once_kept bs n (others_once b bs once))
+
+-- ---- one name, changed twice and not at all
+
+pub with_twice : {A : Type 0} (x : ℕ) (a b : A) (f : ℕ → A) → with x b (with x a f) ≡ with x b f
+with_twice x a b f = functions_agree (with x b (with x a f)) (with x b f) (λ y. asked_twice (nat_eq x y) b a (f y))
+
+pub with_itself : {A : Type 0} (x : ℕ) (v : A) (f : ℕ → A) → f x ≡ v → with x v f ≡ f
+with_itself {A} x v f same = functions_agree (with x v f) f (λ y. by_test y (nat_eq x y) refl)
+  where
+    by_test : (y : ℕ) (t : Bool) → nat_eq x y ≡ t → (if t then v else f y) ≡ f y
+    by_test y true q = sym same ∙ ap f (eqb-true x y q)
+    by_test y false q = refl
+
+with_at : {A : Type 0} (x : ℕ) (v : A) (f : ℕ → A) → with x v f x ≡ v
+with_at x v f = ap (λ t. if t then v else f x) (number_is_itself x)
+
+-- where what is bound gives way, and then what it is changed to is bound, it is changed
+pub changed_by : (x : ℕ) (f g h : ℕ → Option Bound) (b a r : Bound) (change : Bound → Bound) → f x ≡ Some b
+    → g ≡ with x (Some a) f → h ≡ with x (Some r) g → r ≡ change b → h ≡ with x (option_map change (f x)) f
+changed_by x f g h b a r change at first second is =
+    second
+    ∙ ap (with x (Some r)) first
+    ∙ with_twice x (Some a) (Some r) f
+    ∙ ap (λ o. with x o f) (ap Some is ∙ sym (ap (option_map change) at))
+
+-- the same, where each is bound if something was
+pub changed_there : (x : ℕ) (f g h : ℕ → Option Bound) (b a r : Bound) (change : Bound → Bound) → f x ≡ Some b
+    → g ≡ with x (option_map (λ _. a) (f x)) f → h ≡ with x (option_map (λ _. r) (g x)) g → r ≡ change b
+    → h ≡ with x (option_map change (f x)) f
+changed_there x f g h b a r change at first second is = changed_by x f g h b a r change at
+    (first ∙ ap (λ o. with x (option_map (λ _. a) o) f) at)
+    (second ∙ ap (λ o. with x (option_map (λ _. r) o) g)
+    (ap (λ k. k x) first ∙ with_at x (option_map (λ _. a) (f x)) f ∙ ap (option_map (λ _. a)) at))
+    is
+
+-- where nothing was bound, and nothing is bound in its place, no change is seen
+pub changed_nothing : (x : ℕ) (f g : ℕ → Option Bound) (a : Bound) (change : Bound → Bound) → f x ≡ None
+    → g ≡ with x (option_map (λ _. a) (f x)) f → g ≡ with x (option_map change (f x)) f
+changed_nothing x f g a change none same = same
+    ∙ ap (λ o. with x (option_map (λ _. a) o) f) none
+    ∙ ap (λ o. with x (option_map change o) f) (sym none)
+
+-- what is changed into itself stays
+pub changed_to_itself : (x : ℕ) (f : ℕ → Option Bound) → with x (option_map (λ b. b) (f x)) f ≡ f
+changed_to_itself x f = with_itself x (option_map (λ b. b) (f x)) f (by_cases (f x))
+  where
+    by_cases : (o : Option Bound) → o ≡ option_map (λ b. b) o
+    by_cases None = refl
+    by_cases (Some b) = refl
+
+-- where what is bound gives way, and another thing is put there, that is bound
+pub put_back : (x : ℕ) (f g h : ℕ → Option Bound) (b a r : Bound) → f x ≡ Some b
+    → g ≡ with x (option_map (λ _. a) (f x)) f → h ≡ with x (option_map (λ _. r) (g x)) g → h ≡ with x (Some r) f
+put_back x f g h b a r at first second = changed_there x f g h b a r (λ _. r) at first second refl
+    ∙ ap (λ o. with x (option_map (λ _. r) o) f) at
+
+-- where nothing was bound, and nothing is bound in its place, all stays
+pub nothing_put : (x : ℕ) (f g : ℕ → Option Bound) (a : Bound) → f x ≡ None
+    → g ≡ with x (option_map (λ _. a) (f x)) f → g ≡ f
+nothing_put x f g a none same = same
+    ∙ ap (λ o. with x (option_map (λ _. a) o) f) none
+    ∙ with_itself x None f none
+
 -- ---- as the meaning sees it
 
 -- what is shown of a function with one name changed is what is shown of it, with that name changed
@@ -208,3 +394,29 @@ one_name_changes n b binds = record {
   locals = shown_with local_bound n b binds;
   groups = λ cells. shown_with (group_bound cells) n b binds;
 }
+
+abbrev state_of : (ℕ → CellName) → Option meant_value.Val → (ℕ → Option Bound) → State
+state_of cells r binds = record { locals = locals_in binds; groups = groups_in cells binds; result = r }
+
+-- a local changes
+pub locals_change : LocalsChange
+locals_change cells r e f x b same before after =
+    ap (λ (binds : ℕ → Option Bound). state_of cells r binds) same
+    ∙ ap (λ ls. record { locals = ls; groups = groups_in cells (with x b (bound_under e)); result = r })
+    (shown_with local_bound x b (bound_under e))
+    ∙ ap (λ gs. record { locals = with x (given b None local_bound) (locals_in (bound_under e)); groups = gs; result = r })
+    (shown_with (group_bound cells) x b (bound_under e)
+    ∙ ap (λ c. with x c (groups_in cells (bound_under e))) after
+    ∙ with_itself x None (groups_in cells (bound_under e)) before)
+
+-- a group changes
+pub groups_change : GroupsChange
+groups_change cells r e f g b same before after =
+    let x = name_of (state_in cells r e) g in
+    ap (λ (binds : ℕ → Option Bound). state_of cells r binds) same
+    ∙ ap (λ ls. record { locals = ls; groups = groups_in cells (with x b (bound_under e)); result = r })
+    (shown_with local_bound x b (bound_under e)
+    ∙ ap (λ c. with x c (locals_in (bound_under e))) after
+    ∙ with_itself x None (locals_in (bound_under e)) before)
+    ∙ ap (λ gs. record { locals = locals_in (bound_under e); groups = gs; result = r })
+    (shown_with (group_bound cells) x b (bound_under e))

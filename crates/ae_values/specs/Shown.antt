@@ -1,6 +1,9 @@
 -- The values and trees that the code holds, as plain data, and whether the heights that they store are right.
 use Rattle.std.specs.Prelude.{◌≡◌, ℕ, ◌+◌, nat_eq, ℤ, Bool, true, ◌&&◌, List, [], ◌∷◌, map}
 use Rattle.std.specs.List.{list_all}
+use Rattle.std.specs.declared.boxed.Box.{Box}
+use Rattle.std.specs.declared.vec.Vec.{Vec}
+use Rattle.std.specs.declared.alloc.Global.{Global}
 use Rattle.std.proofs.Common.{refl, sym, ◌∙◌, ap}
 use Rattle.ae_semantics.specs.Values as meant
 use Rattle.ae_semantics.specs.Values.{OfInt, OfBool, Null, Owned, Member, Tree, Array, Values, NoValue, AndValue}
@@ -25,20 +28,25 @@ pub record ShownTree : Type 0 where
 abbrev values_of_fields : List ShownValue → Values
 values_of_fields xs = values (map (λ (x : ShownValue). x.value) xs)
 
--- An object is measured where its height is that of its tree, and its fields are measured.
-abbrev object_layer : oo.Object-F ShownTree ShownValue → ShownTree
-object_layer (oo.Rec c xs h) = record {
+-- An object with fields is measured where its height is that of its tree, and its fields are measured.
+abbrev pub record_shown : ℕ → List ShownValue → ℕ → ShownTree
+record_shown c xs h = record {
   tree = meant.Object c (values_of_fields xs);
-  measured = nat_eq h (tree_height (meant.Object c (values_of_fields xs))) && list_all (λ (x : ShownValue). x.measured) xs;
+  measured = nat_eq h (tree_height (meant.Object c (values_of_fields xs))) && list_all (λ
+      (x : ShownValue). x.measured) xs;
 }
-object_layer (oo.Ints ns) = record { tree = Array ns; measured = true }
+
+-- an array has no height to store
+abbrev object_layer : oo.Object-F ShownTree ShownValue → ShownTree
+object_layer (oo.Rec c xs h) = record_shown c xs.items h
+object_layer (oo.Ints ns) = record { tree = Array ns.items; measured = true }
 
 -- A value is measured where its object is, if it has one.
 abbrev value_layer : oo.Val-F ShownTree ShownValue → ShownValue
 value_layer (oo.Int n) = record { value = OfInt n; measured = true }
 value_layer (oo.Bool b) = record { value = OfBool b; measured = true }
 value_layer oo.Null = record { value = Null; measured = true }
-value_layer (oo.Object x) = record { value = Owned x.tree; measured = x.measured }
+value_layer (oo.Object x) = record { value = Owned x.value.tree; measured = x.value.measured }
 value_layer (oo.Ref n) = record { value = Member n; measured = true }
 
 -- what a value is, and whether it is measured
@@ -89,8 +97,8 @@ unfolding value_shown tree_shown
 shown-Null = ap value_shown (sym v.rolls-Null)
     ∙ fold-roll-Val ShownTree ShownValue object_layer value_layer oo.Null
 
-pub shown-Object : (x : Object)
-    → value_shown (v.Object x) ≡ record { value = Owned (shown_tree x); measured = (tree_shown x).measured }
+pub shown-Object : (x : Box Object Global)
+    → value_shown (v.Object x) ≡ record { value = Owned (shown_tree x.value); measured = (tree_shown x.value).measured }
 unfolding value_shown tree_shown
 shown-Object x = ap value_shown (sym (v.rolls-Object x))
     ∙ fold-roll-Val ShownTree ShownValue object_layer value_layer (oo.Object x)
@@ -108,24 +116,29 @@ all_of_folds : (xs : List Val) → list_all (λ (x : ShownValue). x.measured) (m
 all_of_folds [] = refl
 all_of_folds (x ∷ xs) = ap (λ b. (value_shown x).measured && b) (all_of_folds xs)
 
-pub shown-Rec : (c : ℕ) (xs : List Val) (h : ℕ) → tree_shown (o.Rec c xs h) ≡ record {
-  tree = meant.Object c (fields_shown xs);
-  measured = nat_eq h (highest (fields_shown xs) + 1) && all_measured xs;
-}
+-- an object with fields is known by what its fields show
+pub record_by_fields : (c : ℕ) (xs : Vec Val Global) (h : ℕ)
+    → tree_shown (o.Rec c xs h) ≡ record_shown c (map value_shown xs.items) h
 unfolding value_shown tree_shown
-shown-Rec c xs h = ap tree_shown (sym (o.rolls-Rec c xs h))
+record_by_fields c xs h = ap tree_shown (sym (o.rolls-Rec c xs h))
     ∙ fold-roll-Object ShownTree ShownValue object_layer value_layer (oo.Rec c xs h)
+
+pub shown-Rec : (c : ℕ) (xs : Vec Val Global) (h : ℕ) → tree_shown (o.Rec c xs h) ≡ record {
+  tree = meant.Object c (fields_shown xs.items);
+  measured = nat_eq h (highest (fields_shown xs.items) + 1) && all_measured xs.items;
+}
+shown-Rec c xs h = record_by_fields c xs h
     ∙ ap (λ (fs : Values). record {
       tree = meant.Object c fs;
       measured = nat_eq h (highest fs + 1)
-          && list_all (λ (x : ShownValue). x.measured) (map value_shown xs);
-    }) (values_of_folds xs)
+          && list_all (λ (x : ShownValue). x.measured) (map value_shown xs.items);
+    }) (values_of_folds xs.items)
     ∙ ap (λ (all : Bool). record {
-      tree = meant.Object c (fields_shown xs);
-      measured = nat_eq h (highest (fields_shown xs) + 1) && all;
-    }) (all_of_folds xs)
+      tree = meant.Object c (fields_shown xs.items);
+      measured = nat_eq h (highest (fields_shown xs.items) + 1) && all;
+    }) (all_of_folds xs.items)
 
-pub shown-Ints : (ns : List ℤ) → tree_shown (o.Ints ns) ≡ record { tree = Array ns; measured = true }
+pub shown-Ints : (ns : Vec ℤ Global) → tree_shown (o.Ints ns) ≡ record { tree = Array ns.items; measured = true }
 unfolding value_shown tree_shown
 shown-Ints ns = ap tree_shown (sym (o.rolls-Ints ns))
     ∙ fold-roll-Object ShownTree ShownValue object_layer value_layer (oo.Ints ns)

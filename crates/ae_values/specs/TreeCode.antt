@@ -1,54 +1,103 @@
--- How a tree is told from others: by an object of the code that shows it.
-use Rattle.std.specs.Prelude.{◌≡◌, List, [], ◌∷◌}
-use Rattle.std.proofs.Common.{refl, ap, ◌∙◌}
+-- How a tree is told from others: by a tree of numbers, from which it is read back.
+use Rattle.std.specs.Prelude.{◌≡◌, zero, suc, ℤ, Bool, true, false, List, [], ◌∷◌}
+use Rattle.std.proofs.Common.{refl, ap, ◌∙◌, pos, negsuc}
 use Rattle.std.specs.Coded.{Coded, code_by}
-use Rattle.ae_semantics.specs.Values as meant
-use Rattle.ae_semantics.specs.Values.{OfInt, OfBool, Null, Owned, Member, Tree, Array, Values, NoValue, AndValue}
-use Rattle.ae_values.specs.declared.value.Object.{Object}
-use Rattle.ae_values.specs.declared.value.Object.TheVariants as o
-use Rattle.ae_values.specs.declared.value.Val.{Val}
-use Rattle.ae_values.specs.declared.value.Val.TheVariants as v
-use Rattle.ae_values.specs.contracts.value.Object as contract
-use Rattle.ae_values.specs.Shown.{shown, shown_tree, fields_shown, shown-Int, shown-Bool, shown-Null}
-use Rattle.ae_values.specs.Shown.{shown-Object, shown-Ref, shown-Rec, shown-Ints, ShownValue, ShownTree}
+use base.Stored.{Gv, gnil, gnum, gcons}
+use denote.Struct.Codes.{itself}
+use Rattle.ae_semantics.specs.Values.{Val, OfInt, OfBool, Null, Owned, Member, Tree, Object, Array}
+use Rattle.ae_semantics.specs.Values.{Values, NoValue, AndValue}
+
+abbrev code_of_integer : ℤ → Gv
+code_of_integer (pos n) = gcons gnil (gnum n)
+code_of_integer (negsuc n) = gnum n
+
+abbrev integer_of : Gv → ℤ
+integer_of (gcons g (gnum n)) = pos n
+integer_of (gnum n) = negsuc n
+integer_of g = pos 0
+
+abbrev code_of_integers : List ℤ → Gv
+code_of_integers [] = gnil
+code_of_integers (n ∷ ns) = gcons (code_of_integer n) (code_of_integers ns)
+
+abbrev integers_of : Gv → List ℤ
+integers_of (gcons g gs) = integer_of g ∷ integers_of gs
+integers_of g = []
+
+abbrev code_of_truth : Bool → Gv
+code_of_truth true = gnil
+code_of_truth false = gnum 0
+
+abbrev coded_truth : Gv → Bool
+coded_truth gnil = true
+coded_truth g = false
 
 abbrev mutual
-  -- a value of the code that shows this one
-  coded_value : meant.Val → Val
-  coded_value (OfInt n) = v.Int n
-  coded_value (OfBool b) = v.Bool b
-  coded_value Null = v.Null
-  coded_value (Owned t) = v.Object (coded_tree t)
-  coded_value (Member n) = v.Ref n
+  code_of_value : Val → Gv
+  code_of_value (OfInt n) = gcons (gnum 0) (code_of_integer n)
+  code_of_value (OfBool b) = gcons (gnum 1) (code_of_truth b)
+  code_of_value (Owned t) = gcons (gnum 2) (code_of_tree t)
+  code_of_value (Member n) = gnum n
+  code_of_value Null = gnil
 
-  -- an object of the code that shows this tree
-  pub coded_tree : Tree → Object
-  coded_tree (meant.Object c xs) = o.Rec c (coded_fields xs) 0
-  coded_tree (Array ns) = o.Ints ns
+  -- the tree of numbers by which a tree is told
+  pub code_of_tree : Tree → Gv
+  code_of_tree (Object c xs) = gcons (gnum c) (code_of_values xs)
+  code_of_tree (Array ns) = gcons gnil (code_of_integers ns)
 
-  coded_fields : Values → List Val
-  coded_fields NoValue = []
-  coded_fields (AndValue x xs) = coded_value x ∷ coded_fields xs
+  code_of_values : Values → Gv
+  code_of_values NoValue = gnil
+  code_of_values (AndValue x xs) = gcons (code_of_value x) (code_of_values xs)
+
+abbrev mutual
+  value_of : Gv → Val
+  value_of (gcons (gnum zero) g) = OfInt (integer_of g)
+  value_of (gcons (gnum (suc zero)) g) = OfBool (coded_truth g)
+  value_of (gcons (gnum (suc (suc n))) g) = Owned (tree_of g)
+  value_of (gnum n) = Member n
+  value_of g = Null
+
+  -- the tree that is read back
+  pub tree_of : Gv → Tree
+  tree_of (gcons (gnum c) g) = Object c (values_of g)
+  tree_of (gcons gnil g) = Array (integers_of g)
+  tree_of g = Array []
+
+  values_of : Gv → Values
+  values_of (gcons g gs) = AndValue (value_of g) (values_of gs)
+  values_of g = NoValue
+
+integer_is_back : (n : ℤ) → integer_of (code_of_integer n) ≡ n
+integer_is_back (pos n) = refl
+integer_is_back (negsuc n) = refl
+
+integers_are_back : (ns : List ℤ) → integers_of (code_of_integers ns) ≡ ns
+integers_are_back [] = refl
+integers_are_back (n ∷ ns) = ap (λ m. m ∷ integers_of (code_of_integers ns)) (integer_is_back n)
+    ∙ ap (λ ms. n ∷ ms) (integers_are_back ns)
+
+truth_is_back : (b : Bool) → coded_truth (code_of_truth b) ≡ b
+truth_is_back true = refl
+truth_is_back false = refl
 
 mutual
-  value_is_back : (x : meant.Val) → shown (coded_value x) ≡ x
-  value_is_back (OfInt n) = ap (λ (y : ShownValue). y.value) (shown-Int n)
-  value_is_back (OfBool b) = ap (λ (y : ShownValue). y.value) (shown-Bool b)
-  value_is_back Null = ap (λ (y : ShownValue). y.value) shown-Null
-  value_is_back (Owned t) = ap (λ (y : ShownValue). y.value) (shown-Object (coded_tree t)) ∙ ap Owned (tree_is_back t)
-  value_is_back (Member n) = ap (λ (y : ShownValue). y.value) (shown-Ref n)
+  value_is_back : (x : Val) → value_of (code_of_value x) ≡ x
+  value_is_back (OfInt n) = ap OfInt (integer_is_back n)
+  value_is_back (OfBool b) = ap OfBool (truth_is_back b)
+  value_is_back Null = refl
+  value_is_back (Owned t) = ap Owned (tree_is_back t)
+  value_is_back (Member n) = refl
 
-  -- the tree is shown again
-  pub tree_is_back : (t : Tree) → shown_tree (coded_tree t) ≡ t
-  tree_is_back (meant.Object c xs) = ap (λ (y : ShownTree). y.tree) (shown-Rec c (coded_fields xs) 0)
-      ∙ ap (meant.Object c) (values_are_back xs)
-  tree_is_back (Array ns) = ap (λ (y : ShownTree). y.tree) (shown-Ints ns)
+  -- the tree is read back
+  pub tree_is_back : (t : Tree) → tree_of (code_of_tree t) ≡ t
+  tree_is_back (Object c xs) = ap (Object c) (values_are_back xs)
+  tree_is_back (Array ns) = ap Array (integers_are_back ns)
 
-  values_are_back : (xs : Values) → fields_shown (coded_fields xs) ≡ xs
+  values_are_back : (xs : Values) → values_of (code_of_values xs) ≡ xs
   values_are_back NoValue = refl
-  values_are_back (AndValue x xs) = ap (λ y. AndValue y (fields_shown (coded_fields xs))) (value_is_back x)
+  values_are_back (AndValue x xs) = ap (λ y. AndValue y (values_of (code_of_values xs))) (value_is_back x)
       ∙ ap (AndValue x) (values_are_back xs)
 
--- a tree is stored as an object that shows it
+-- a tree is stored by the tree of numbers that tells it
 abbrev pub tree_code : Coded Tree
-tree_code = code_by Object contract.the_row.coded coded_tree shown_tree tree_is_back
+tree_code = code_by Gv itself code_of_tree tree_of tree_is_back

@@ -3,12 +3,13 @@
 
 mod env;
 mod laws;
+mod places;
 mod store;
 #[cfg(test)]
 mod tests;
 mod value;
 
-pub use env::{Bind, Bound, Env, Image};
-pub use laws::binds_change_one_name;
+pub use env::{Bind, Bound, Env, Image, with_perm};
+pub use laws::{binds_change_one_name, groups_change, locals_change};
 pub use store::Store;
 pub use value::{Object, Val};

@@ -5,5 +5,6 @@ use Rattle.ae_values.proofs.value.highest_of.Given as goal
 
 abbrev pub invariant-loop-field : goal.invariant-loop-field
 invariant-loop-field l =
-    (all_measured (drop l.field-index l.fields) ≡ true)
-    × (max l.most (highest (fields_shown (drop l.field-index l.fields))) ≡ highest (fields_shown l.fields))
+    (all_measured l.fields ≡ true → all_measured (drop l.field-index l.fields) ≡ true)
+    × (all_measured l.fields ≡ true → max l.most (highest (fields_shown (drop l.field-index l.fields)))
+    ≡ highest (fields_shown l.fields))

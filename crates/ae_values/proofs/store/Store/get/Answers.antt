@@ -1,13 +1,7 @@
-use Rattle.std.proofs.Common.{rules}
-use Rattle.std.proofs.lemmas.Option.{slice_get-map}
-use Rattle.ae_values.specs.Shown.{tree_shown}
-use Rattle.ae_values.proofs.ValueLemmas.{passes_at_place}
+use Rattle.std.proofs.Common.{ap, ◌∙◌, slice_get}
+use Rattle.ae_values.proofs.ValueLemmas.{found_member_is_measured}
 use Rattle.ae_values.proofs.store.Store.get.Goals as goal
 
-pub returns-in-Some-clause-measured : goal.returns-in-Some-clause-measured
-returns-in-Some-clause-measured c =
-    passes_at_place (λ x. (tree_shown x).measured) c.self.inside.members c.args.number
-    c.get-in-Some.result.now c.self.invariant (search rules)
-
-pub returns-in-None-clause-tree : goal.returns-in-None-clause-tree
-returns-in-None-clause-tree c = search (rules, slice_get-map)
+pub returns-clause-measured : goal.returns-clause-measured
+returns-clause-measured c = found_member_is_measured c.at.result c.self.inside.members.items c.args.number
+    c.self.invariant (c.at.ensures ∙ ap (λ xs. slice_get xs c.args.number) c.as_slice.ensures.value)

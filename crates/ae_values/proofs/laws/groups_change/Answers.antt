@@ -1,0 +1,5 @@
+use Rattle.ae_values.proofs.BindLemmas as lemma
+use Rattle.ae_values.proofs.laws.groups_change.Goals as goal
+
+pub returns : goal.returns
+returns c = lemma.groups_change
