@@ -27,7 +27,7 @@ use Rattle.ae_values.specs.declared.env.Bind.{Bind}
 use Rattle.ae_values.specs.declared.env.Bound.{Bound}
 use Rattle.ae_values.specs.Binding.{bound_in}
 use Rattle.ae_values.specs.Shapes.{NameShape, OfLocal, OfGroup, shapes, shape_in}
-use Rattle.ae_names.specs.Known.{local_form, form_in, AreKnown, names_declared, NamesAreKnown, DeclaredAreFree}
+use Rattle.ae_names.specs.Known.{local_form, is_of_group, form_in, AreKnown, names_declared, NamesAreKnown, DeclaredAreFree}
 use Rattle.ae_names.proofs.KnownLemmas.{HasShape, has_shape}
 use Rattle.ae_names.proofs.from_rules.PathLemmas.{first_holds}
 use Rattle.ae_names.proofs.from_rules.SeenLemmas.{required}
@@ -117,14 +117,14 @@ known_still law p m at a c d names e h k = record {
 -- ---- names that are declared
 
 no_shape : (s : Option NameShape) (l : Option Local) (test : Bool)
-    → given s None local_form ≡ option_map (λ (y : Local). y.form) l → (s ≡ Some OfGroup → test ≡ true)
+    → given s None local_form ≡ option_map (λ (y : Local). y.form) l → (is_of_group s ≡ true → test ≡ true)
     → is_some l || test ≡ false → s ≡ None
 no_shape None l test e g v = refl
 no_shape (Some (OfLocal t)) None test e g v = absurd (cc)
 no_shape (Some (OfLocal t)) (Some l) test e g v = absurd (cc)
-no_shape (Some OfGroup) (Some l) test e g v = absurd (cc)
-no_shape (Some OfGroup) None true e g v = absurd (cc)
-no_shape (Some OfGroup) None false e g v = absurd (cc (g refl))
+no_shape (Some (OfGroup other)) (Some l) test e g v = absurd (cc)
+no_shape (Some (OfGroup other)) None true e g v = absurd (cc)
+no_shape (Some (OfGroup other)) None false e g v = absurd (cc (g refl))
 
 -- a name that is not visible has no shape
 not_named : (c : Context) (names : List (ℕ × NameShape)) (x : ℕ) → AreKnown c names → is_visible c x ≡ false
@@ -180,7 +180,7 @@ let_is_new p c t x e d h =
 
 -- a group in the names with a local more was there before
 group_before : (test : Bool) (t : Form) (s : Option NameShape)
-    → or_else_shape s (if test then Some (OfLocal t) else None) ≡ Some OfGroup → s ≡ Some OfGroup
+    → is_of_group (or_else_shape s (if test then Some (OfLocal t) else None)) ≡ true → is_of_group s ≡ true
 group_before true t None e = absurd (cc)
 group_before false t None e = absurd (cc)
 group_before test t (Some s) e = e
@@ -198,7 +198,7 @@ known_with_let law p m at t x e c d names h k =
           ∙ sym (forms_after law p m at (Declares t x e) c d h y);
       group = λ y i. subst (λ (gs : GroupsKnown). known gs y ≡ true) groups (k.group y
           (group_before (nat_eq x.name y) (form t) (shape_in names y)
-          (sym (shape_in_both names (x.name, OfLocal (form t)) y) ∙ i)));
+          (sym (ap is_of_group (shape_in_both names (x.name, OfLocal (form t)) y)) ∙ i)));
     }
 
 -- ---- groups that are declared
@@ -223,14 +223,15 @@ group_is_new c g d h =
     (ap (λ (z : Bool). z || known c.group g.name) l ∙ k, ap (λ (v : Verdict Context). group_in v c) (sym b.2) ∙ same)
 
 group_by_name : (test : Bool) (s : Option NameShape) → (test ≡ true → s ≡ None)
-    → given (or_else_shape s (if test then Some OfGroup else None)) None local_form ≡ given s None local_form
+    → given (or_else_shape s (if test then Some (OfGroup None) else None)) None local_form ≡ given s None local_form
 group_by_name true None n = refl
 group_by_name true (Some s) n = absurd (cc (n refl))
 group_by_name false None n = refl
 group_by_name false (Some s) n = refl
 
 group_or_new : (test : Bool) (s : Option NameShape) (o : Option GroupPerm)
-    → or_else_shape s (if test then Some OfGroup else None) ≡ Some OfGroup → (s ≡ Some OfGroup → is_some o ≡ true)
+    → is_of_group (or_else_shape s (if test then Some (OfGroup None) else None)) ≡ true
+    → (is_of_group s ≡ true → is_some o ≡ true)
     → is_some (if test then Some group.Exclusive else o) ≡ true
 group_or_new true s o e h = refl
 group_or_new false None o e h = absurd (cc)
@@ -239,19 +240,19 @@ group_or_new false (Some s) o e h = h e
 -- after a group was declared its name is known, too
 pub known_with_group : LinesDeclare → (p : Code) (m : Definition) (at : Spot) (g : NameAt) (c d : Context)
     (names : List (ℕ × NameShape)) → judge_statement p m at (Groups g) c ≡ Holds d → AreKnown c names
-    → AreKnown d (names ++ ((g.name, OfGroup) ∷ []))
+    → AreKnown d (names ++ ((g.name, OfGroup None) ∷ []))
 known_with_group law p m at g c d names h k =
     let is = group_is_new c g d h in
     let new : shape_in names g.name ≡ None = not_named c names g.name k is.0 in
     record {
-      local = λ y. ap (λ (o : Option NameShape). given o None local_form) (shape_in_both names (g.name, OfGroup) y)
+      local = λ y. ap (λ (o : Option NameShape). given o None local_form) (shape_in_both names (g.name, OfGroup None) y)
           ∙ group_by_name (nat_eq g.name y) (shape_in names y)
           (λ i. subst (λ z. shape_in names z ≡ None) (eqb-true g.name y i) new)
           ∙ k.local y
           ∙ sym (forms_after law p m at (Groups g) c d h y ∙ forms_of_shapes (c.local y));
       group = λ y i. subst (λ (gs : GroupsKnown). known gs y ≡ true) (sym is.1)
           (group_or_new (nat_eq g.name y) (shape_in names y) (c.group y)
-          (sym (shape_in_both names (g.name, OfGroup) y) ∙ i) (k.group y));
+          (sym (ap is_of_group (shape_in_both names (g.name, OfGroup None) y)) ∙ i) (k.group y));
     }
 
 -- ---- each statement
@@ -287,7 +288,8 @@ unbound None None h e = refl
 unbound None (Some b) h e = absurd h
 unbound (Some s) o h e = absurd (cc)
 
-nothing_bound : (bs : List Bind) (x : ℕ) → shape_in (shapes bs) x ≡ None → bound_in bs x ≡ None
+-- where a name has no shape nothing is bound under it
+pub nothing_bound : (bs : List Bind) (x : ℕ) → shape_in (shapes bs) x ≡ None → bound_in bs x ≡ None
 nothing_bound bs x e = unbound (shape_in (shapes bs) x) (bound_in bs x) (has_shape bs x) e
 
 -- the first of these names
@@ -305,7 +307,7 @@ pub declared_are_free : DeclaredAreFree
 declared_are_free p m at (Declares t x e) c d bs h k y s i =
     (declared_free) c bs (x.name, OfLocal (form t)) y s k (let_is_new p c t x e d h) i
 declared_are_free p m at (Groups g) c d bs h k y s i =
-    (declared_free) c bs (g.name, OfGroup) y s k ((group_is_new c g d h).0) i
+    (declared_free) c bs (g.name, OfGroup None) y s k ((group_is_new c g d h).0) i
 declared_are_free p m at (Assigns z e) c d bs h k y s i = absurd (cc)
 declared_are_free p m at (Stores path e) c d bs h k y s i = absurd (cc)
 declared_are_free p m at (StoresAt path j e) c d bs h k y s i = absurd (cc)

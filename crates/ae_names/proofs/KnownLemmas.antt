@@ -17,8 +17,8 @@ use Rattle.ae_values.specs.declared.env.Bound.{Bound}
 use Rattle.ae_values.specs.declared.env.Bound.TheVariants as bound
 use Rattle.ae_values.specs.Binding.{bound_in}
 use Rattle.ae_values.specs.Environments.{local_bound, group_bound, locals_in, groups_in}
-use Rattle.ae_values.specs.Shapes.{NameShape, OfGroup, name_shape, shapes, shape_in}
-use Rattle.ae_names.specs.Known.{local_form, AreKnown, AreNew, state_of, NamesEnd}
+use Rattle.ae_values.specs.Shapes.{NameShape, name_shape, shapes, shape_in}
+use Rattle.ae_names.specs.Known.{local_form, is_of_group, AreKnown, AreNew, state_of, NamesEnd}
 
 -- what is bound to a name has the shape of the name
 abbrev pub HasShape : Option NameShape → Option Bound → Type 0
@@ -79,7 +79,8 @@ local_kept (Some s) (Some b) r l h e = local_stays h.0 b l (sym e ∙ ap local_f
 
 -- ---- groups
 
-group_stays : (cells : ℕ → CellName) (q : Perm) (b : Bound) (test : Bool) → (name_shape q b ≡ OfGroup → test ≡ true)
+group_stays : (cells : ℕ → CellName) (q : Perm) (b : Bound) (test : Bool)
+    → (is_of_group (Some (name_shape q b)) ≡ true → test ≡ true)
     → group_bound cells b ≡ (if test then group_bound cells b else None)
 group_stays cells q b true h = refl
 group_stays cells q (bound.Value form v) false h = refl
@@ -89,7 +90,8 @@ group_stays cells q (bound.Other g) false h = absurd (cc (h refl))
 group_stays cells q (bound.Cell n) false h = absurd (cc (h refl))
 group_stays cells q (bound.Pieces ps) false h = refl
 
-group_ends : (cells : ℕ → CellName) (q : Perm) (b : Bound) (test : Bool) → (name_shape q b ≡ OfGroup → test ≡ false)
+group_ends : (cells : ℕ → CellName) (q : Perm) (b : Bound) (test : Bool)
+    → (is_of_group (Some (name_shape q b)) ≡ true → test ≡ false)
     → None ≡ (if test then group_bound cells b else None)
 group_ends cells q b false h = refl
 group_ends cells q (bound.Value form v) true h = refl
@@ -104,15 +106,16 @@ nothing_there true o e = refl
 nothing_there false o e = e
 
 group_kept : (cells : ℕ → CellName) (s t : Option NameShape) (o r : Option Bound) (test : Bool) → HasShape s o
-    → HasShape t r → (s ≡ Some OfGroup → test ≡ true) → (t ≡ Some OfGroup → test ≡ false)
+    → HasShape t r → (is_of_group s ≡ true → test ≡ true) → (is_of_group t ≡ true → test ≡ false)
     → given o None (group_bound cells) ≡ (if test then given (or_else o r) None (group_bound cells) else None)
 group_kept cells None t (Some b) r test h k f g = absurd h
 group_kept cells (Some s) t None r test h k f g = absurd h
-group_kept cells (Some s) t (Some b) r test h k f g = group_stays cells h.0 b test (λ e. f (ap Some (h.1 ∙ e)))
+group_kept cells (Some s) t (Some b) r test h k f g = group_stays cells h.0 b test (λ e. f (ap (λ z. is_of_group (Some z)) h.1 ∙ e))
 group_kept cells None None None None test h k f g = nothing_there test None refl
 group_kept cells None None None (Some b) test h k f g = absurd k
 group_kept cells None (Some t) None None test h k f g = absurd k
-group_kept cells None (Some t) None (Some b) test h k f g = group_ends cells k.0 b test (λ e. g (ap Some (k.1 ∙ e)))
+group_kept cells None (Some t) None (Some b) test h k f g =
+    (group_ends) cells k.0 b test (λ e. g (ap (λ z. is_of_group (Some z)) k.1 ∙ e))
 
 -- ---- the end of a block
 

@@ -1,4 +1,4 @@
 -- The lemmas of the rules that this crate goes by, and its own.
 pub use Rattle.ae_rules.proofs as from_rules
 mod KnownLemmas
-mod AfterLemmas
+pub mod AfterLemmas

@@ -1,5 +1,5 @@
 -- The names that a call has, against what is known at a statement.
-use Rattle.std.specs.Prelude.{◌≡◌, ℕ, true, false, List, [], ◌∷◌, ◌++◌, take, drop, Option, None, Some, option_map}
+use Rattle.std.specs.Prelude.{◌≡◌, ℕ, Bool, true, false, List, [], ◌∷◌, ◌++◌, take, drop, Option, None, Some, option_map}
 use Rattle.ae_tree.specs.declared.form.Form.{Form}
 use Rattle.ae_tree.specs.Form.{form}
 use Rattle.ae_text.specs.declared.refusal.Spot.{Spot}
@@ -19,7 +19,13 @@ use Rattle.ae_values.specs.Shapes.{NameShape, OfLocal, OfGroup, shapes, shape_in
 -- the form of what is a local
 abbrev pub local_form : NameShape → Option Form
 local_form (OfLocal form) = Some form
-local_form OfGroup = None
+local_form (OfGroup other) = None
+
+-- the name is that of a group
+abbrev pub is_of_group : Option NameShape → Bool
+is_of_group None = false
+is_of_group (Some (OfLocal form)) = false
+is_of_group (Some (OfGroup other)) = true
 
 -- the form with which a local of this name was declared
 abbrev pub form_in : List (ℕ × NameShape) → ℕ → Option Form
@@ -28,16 +34,16 @@ form_in names x = given (shape_in names x) None local_form
 -- the names are those of the visible locals, each with its form, and of groups that are known
 pub record AreKnown (c : Context) (names : List (ℕ × NameShape)) : Type 0 where
   pub local : (x : ℕ) → form_in names x ≡ option_map (λ (l : Local). l.form) (c.local x)
-  pub group : (x : ℕ) → shape_in names x ≡ Some OfGroup → known c.group x ≡ true
+  pub group : (x : ℕ) → is_of_group (shape_in names x) ≡ true → known c.group x ≡ true
 
 -- of these names none is a known group
 abbrev pub AreNew : Context → List (ℕ × NameShape) → Type 0
-AreNew c names = (x : ℕ) → shape_in names x ≡ Some OfGroup → known c.group x ≡ false
+AreNew c names = (x : ℕ) → is_of_group (shape_in names x) ≡ true → known c.group x ≡ false
 
 -- the names that a statement declares
 abbrev pub names_declared : Action → List (ℕ × NameShape)
 names_declared (Declares t x e) = (x.name, OfLocal (form t)) ∷ []
-names_declared (Groups g) = (g.name, OfGroup) ∷ []
+names_declared (Groups g) = (g.name, OfGroup None) ∷ []
 names_declared _ = []
 
 -- the state in which names stand, where cells with these numbers have these names, and this was returned

@@ -114,7 +114,8 @@ shapes_same e f stay same = shapes_alike (running_binds e) (running_binds f) e.o
 
 -- ---- changes that keep the shape
 
-perm_twice : (p q : Perm) (form : Form) → with_perm p (with_perm q form) ≡ with_perm p form
+-- a permission in place of another one
+pub perm_twice : (p q : Perm) (form : Form) → with_perm p (with_perm q form) ≡ with_perm p form
 perm_twice p q of_form.Int = refl
 perm_twice p q of_form.Bool = refl
 perm_twice p q (of_form.Object r k) = refl
