@@ -1,0 +1,4 @@
+pub mod Changes
+pub mod Stand
+pub mod Targets
+pub mod Parts

@@ -1,0 +1,16 @@
+//! Writes to fields and items, and a field's value taken out, in a run that is under way.
+#![tactic(auto)]
+
+mod emptying;
+mod fields;
+mod items;
+mod moving;
+mod places;
+mod reaching;
+mod slots;
+mod taking;
+
+pub use fields::store;
+pub use items::store_at;
+pub use places::{TOO_HIGH, stays_low, write};
+pub use taking::take_field;
