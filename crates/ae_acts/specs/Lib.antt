@@ -1,0 +1,4 @@
+pub mod Acts
+pub mod Law
+pub mod Doing
+pub mod Made
