@@ -1,0 +1,10 @@
+pub mod Entries
+pub mod Givens
+pub mod Bounds
+pub mod Granting
+pub mod Kept
+pub mod Shown
+pub mod Entering
+pub mod Returns
+pub mod Awaiting
+pub mod Leaving

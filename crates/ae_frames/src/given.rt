@@ -1,0 +1,29 @@
+// What a call hands over, and the parameters that take it.
+ghost use Rattle.ae_values.specs.Shown.{IsMeasured};
+
+use ae_calls::ParamSlot;
+use ae_reads::Base;
+use ae_tree::Name;
+use ae_values::Val;
+
+/// The place from which a value was read: the tree, and the numbers of the fields that lead to the place in it.
+#[derive(Drop)]
+pub struct Origin {
+    pub base: Base,
+    pub fields: Vec<u32>,
+}
+
+/// An argument's value, and where it was read from where it is that of a path.
+#[derive(Drop)]
+pub struct Arg {
+    pub value: Val,
+    pub from: Option<Origin>,
+    pub ghost measured: { IsMeasured value },
+}
+
+/// A parameter, or the receiver: its name, its form in the method, and whether the caller gets nothing back.
+#[derive(Drop)]
+pub struct Parameter {
+    pub name: Name,
+    pub slot: ParamSlot,
+}
