@@ -1,0 +1,14 @@
+-- The lemmas of the crates below that this one goes by, and its own.
+pub use Rattle.ae_rules.proofs as from_rules
+pub use Rattle.ae_soundness.proofs as from_soundness
+mod MoveLemmas
+mod NewLemmas
+mod BlockLemmas
+mod BeginLemmas
+mod OpenLemmas
+mod FaultLemmas
+mod LoopLemmas
+mod ActLemmas
+mod CallLemmas
+mod LeaveLemmas
+mod CostLemmas

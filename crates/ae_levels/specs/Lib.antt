@@ -1,0 +1,11 @@
+pub mod Callers
+pub mod Levels
+pub mod Going
+pub mod Halting
+pub mod Receiving
+pub mod Laws
+pub mod StatementLaws
+pub mod BranchLaws
+pub mod LoopLaws
+pub mod CallLaws
+pub mod CostLaws
