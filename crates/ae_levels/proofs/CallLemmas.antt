@@ -27,7 +27,6 @@ use Rattle.ae_values.specs.declared.env.Bind.{Bind}
 use Rattle.ae_names.specs.Known.{AreKnown}
 use Rattle.ae_steps.specs.Steps.{Left, Comes, block_left, body_left, call_left, left_given, resumed, StacksAreDoneBy}
 use Rattle.ae_reads.specs.declared.stop.Stop.{Stop}
-use Rattle.ae_reads.specs.declared.stop.Stop.TheVariants as stop
 use Rattle.ae_reads.specs.Answers.{FaultsAs}
 use Rattle.ae_frames.specs.Entries.{EnteredCall, entered, frame_of, CallsEnterAlike}
 use Rattle.ae_levels.specs.Callers.{LeadsBack, names_behind, waiting_behind}
@@ -36,6 +35,7 @@ use Rattle.ae_levels.specs.Levels.{NamesInOrder, Aim, Nowhere, ToNew, ToOld, Lev
 use Rattle.ae_levels.specs.Levels.{IsDeclared, OpenCall, StandFor}
 use Rattle.ae_levels.specs.Going.{IsSound, Going, Begun, CallBegun, ComesTo}
 use Rattle.ae_levels.specs.Halting.{halt_at, HaltsAs}
+use Rattle.ae_levels.proofs.from_reads.WalkLemmas.{faults_go_on}
 use Rattle.ae_levels.proofs.MoveLemmas.{SourceNotes, comes_to}
 use Rattle.ae_levels.proofs.BlockLemmas.{stands_opened}
 use Rattle.ae_levels.proofs.FaultLemmas.{faulted}
@@ -142,11 +142,6 @@ abbrev entering : ℕ → Where → Spot → Invocation → Option ResultPlace �
 entering fuel here at i place s n f =
     if nat_lt here.depth 1000 then body_left fuel at i f place s n else Comes (Ends (Trap 6 at) n)
 
-fault_goes_on : {A B : Type 0} (o : Outcome A) (next : A → Outcome B) (e : Stop) → FaultsAs o e → FaultsAs (o >>= next) e
-fault_goes_on o next (stop.Trap code) h = ap (λ (y : Outcome _). y >>= next) h
-fault_goes_on o next stop.Lack h = ap (λ (y : Outcome _). y >>= next) h
-fault_goes_on o next stop.Memory h = tt
-
 -- A fault where a call is entered is the end.
 pub call_faults : CallsEnterAlike → (p : Code) (whole : Run (List Seen)) (names : NamesInOrder) (waiting : List Bind) (s : State)
     (out : List ℕ) (fuel depth : ℕ) (at : Spot) (i : Invocation) (to : Aim) (ls : List Level) (e : Stop)
@@ -155,7 +150,7 @@ pub call_faults : CallsEnterAlike → (p : Code) (whole : Run (List Seen)) (name
 call_faults law p whole names waiting s out fuel depth at i to ls e g f =
     faulted p whole g.stack (enter p g.here i s) at g.notes out (entering fuel g.here at i g.place s g.notes) e g.comes
     g.printed (subst (λ (o : Outcome CallFrame). FaultsAs o e) (sym (law p g.here i s))
-    (fault_goes_on (entered p i s) (λ (x : EnteredCall). Fine (frame_of p g.here x)) e f))
+    (faults_go_on (entered p i s) (λ (x : EnteredCall). Fine (frame_of p g.here x)) e f))
 
 -- a call is entered where it stands
 enters_here : CallsEnterAlike → (p : Code) (here : Where) (i : Invocation) (s : State) (x : EnteredCall)

@@ -1,6 +1,7 @@
 -- The lemmas of the crates below that this one goes by, and its own.
 pub use Rattle.ae_rules.proofs as from_rules
 pub use Rattle.ae_soundness.proofs as from_soundness
+pub use Rattle.ae_reads.proofs as from_reads
 mod MoveLemmas
 mod NewLemmas
 mod BlockLemmas
@@ -12,3 +13,4 @@ mod ActLemmas
 mod CallLemmas
 mod LeaveLemmas
 mod CostLemmas
+mod MeaningLemmas

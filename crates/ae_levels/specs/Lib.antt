@@ -9,3 +9,5 @@ pub mod BranchLaws
 pub mod LoopLaws
 pub mod CallLaws
 pub mod CostLaws
+pub mod Meanings
+pub mod EndLaws

@@ -4,8 +4,10 @@ ghost use Rattle.ae_levels.specs.BranchLaws.{BlocksOpenAndEnd};
 ghost use Rattle.ae_levels.specs.LoopLaws.{LoopsTurn};
 ghost use Rattle.ae_levels.specs.CallLaws.{CallsComeBack};
 ghost use Rattle.ae_levels.specs.CostLaws.{LevelsCostLess};
+ghost use Rattle.ae_levels.specs.EndLaws.{RunsMeanSo};
 
 use crate::ground::runs_go_by_laws;
+use ae_soundness::accepted_meanings_end;
 
 /// A statement of a block begins, and what it does without blocks and calls.
 pub fn statements_go_on()
@@ -39,3 +41,11 @@ pub fn calls_come_back()
 pub fn levels_cost_less()
     ensures { LevelsCostLess }
 {}
+
+/// A run with no level left is done, what the whole run comes to is the meaning, and that has an ending in an accepted
+/// program in which nothing is split.
+pub fn runs_mean_so()
+    ensures { RunsMeanSo }
+{
+    accepted_meanings_end();
+}

@@ -7,5 +7,6 @@ mod laws;
 
 pub use halt::{Halt, stopped_at};
 pub use laws::{
-    blocks_open_and_end, calls_come_back, levels_cost_less, loops_turn, statements_go_on,
+    blocks_open_and_end, calls_come_back, levels_cost_less, loops_turn, runs_mean_so,
+    statements_go_on,
 };
