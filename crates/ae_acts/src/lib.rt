@@ -10,5 +10,6 @@ mod prints;
 mod statement;
 mod values;
 
+pub use changes::{assign, declare};
 pub use laws::acts_are_the_meaning;
 pub use statement::act;
