@@ -76,11 +76,12 @@ pub record IsBegun (groups : ℕ → ℕ) (i : Invocation) (f : ℕ → Option B
 -- what was begun was entered
 begun_is_entered : (p : Code) (i : Invocation) (f : ℕ → Option Bound) (r : Option Val) (k : Callee)
     (ts : List Parameter) (xs : List Arg) (x : Entered) (run : Running) → names_apart k.method ≡ true
-    → takers_of ts ≡ takers p k.method → run.result ≡ None → k.method ≡ definition x.method.now → k.number ≡ x.number
+    → takers_of ts ≡ takers p k.method → run.result ≡ None → option_map shown x.left.result ≡ r
+    → k.method ≡ definition x.method.now → k.number ≡ x.number
     → IsBegun (group_given (state_bound f r) k i) i f k.method.needs ts xs x run
     → IsEntered (entered_call p (state_bound f r) k (group_given (state_bound f r) k i) (arguments_of xs)) i
     (state_bound f r) x run
-begun_is_entered p i f r k ts xs x run apart taken_is none method number b =
+begun_is_entered p i f r k ts xs x run apart taken_is none kept method number b =
     let s : State = state_bound f r in
     let groups : ℕ → ℕ = group_given s k i in
     let ns : List GroupNeed = k.method.needs in
@@ -105,7 +106,7 @@ begun_is_entered p i f r k ts xs x run apart taken_is none method number b =
             (λ y has. holders_are_no_locals groups f [] ns y (subst (λ zs. is_holder zs y ≡ true) b.lent has));
         groups = λ y other. ap (λ (h : ℕ → Option Bound). groups_in one_name h y) b.waits
             ∙ placed_keeps_others (lents_of x.left.waiting.lent.items) f y other;
-        result = refl;
+        result = kept;
       };
       names = b.shaped
           ∙ ap (λ (zs : List (ℕ × NameShape)). zs ++ map got_shape (all_got groups s.groups [] ns))
@@ -118,12 +119,13 @@ begun_is_entered p i f r k ts xs x run apart taken_is none method number b =
 pub call_is_entered : (p : Code) (i : Invocation) (f : ℕ → Option Bound) (r : Option Val) (k : Callee) (new : GroupsIn)
     (ns : List GroupNeed) (ts : List Parameter) (xs : List Arg) (x : Entered) (run : Running)
     → names_apart k.method ≡ true → takers_of ts ≡ takers p k.method → run.result ≡ None
-    → k.method ≡ definition x.method.now → k.number ≡ x.number → new_in new ≡ group_in k i.groups → ns ≡ k.method.needs
+    → option_map shown x.left.result ≡ r → k.method ≡ definition x.method.now → k.number ≡ x.number
+    → new_in new ≡ group_in k i.groups → ns ≡ k.method.needs
     → IsBegun (holder_by (groups_in one_name f) new) i f ns ts xs x run
     → IsEntered (entered_call p (state_bound f r) k (group_given (state_bound f r) k i) (arguments_of xs)) i
     (state_bound f r) x run
-call_is_entered p i f r k new ns ts xs x run apart taken_is none method number new_is same b =
+call_is_entered p i f r k new ns ts xs x run apart taken_is none kept method number new_is same b =
     let cs : ℕ → Option Group = groups_in one_name f in
-    (begun_is_entered) p i f r k ts xs x run apart taken_is none method number
+    (begun_is_entered) p i f r k ts xs x run apart taken_is none kept method number
     (subst (λ zs. IsBegun (group_given (state_bound f r) k i) i f zs ts xs x run) same
     (subst (λ (h : ℕ → ℕ). IsBegun (λ g. other_name (h g) (cs (h g))) i f ns ts xs x run) new_is b))

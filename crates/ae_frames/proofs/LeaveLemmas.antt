@@ -15,7 +15,7 @@ use Rattle.ae_reads.specs.Answers.{one_name}
 use Rattle.ae_running.specs.Results.{result_measured}
 use Rattle.ae_running.specs.Seen.{seen}
 use Rattle.ae_running.specs.declared.running.Running.{Running}
-use Rattle.ae_frames.specs.declared.entering.Left.{Left}
+use Rattle.ae_frames.specs.declared.left.Left.{Left}
 use Rattle.ae_frames.specs.declared.opening.Waiting.{Waiting}
 use Rattle.ae_frames.specs.declared.returned.Came.{Came}
 use Rattle.ae_frames.specs.declared.returned.Returned.{Returned}
@@ -29,13 +29,17 @@ use Rattle.ae_frames.specs.Shown.{backs_of, lents_of}
 use Rattle.ae_frames.proofs.ComeLemmas.{comes_as_taken}
 use Rattle.ae_frames.proofs.ReturnLemmas.{holders_are}
 
--- the state of these binds, where nothing was returned
-abbrev state_of : List Bind → State
-state_of bs = record { locals = locals_in (bound_in bs); groups = groups_in one_name (bound_in bs); result = None }
+-- the state of these binds, where this was returned
+abbrev state_of : Option Val → List Bind → State
+state_of r bs = record {
+  locals = locals_in (bound_in bs);
+  groups = groups_in one_name (bound_in bs);
+  result = option_map shown r;
+}
 
 -- what is left of a caller comes back as it was taken out of its callee
 pub left_as_taken : (left : Left) (old : Running) (f : Env) (cs : List Came) (rs : List Returned)
-    (groups : ℕ → Option Group) (w : List Bind) (r : Option Val) → r ≡ None
+    (groups : ℕ → Option Group) (w : List Bind) (r : Option Val) → r ≡ left.result
     → cames_of cs ≡ values_from (locals_in (bound_under old.env)) (backs_of left.waiting.back.items)
     → returneds_of rs ≡ groups_from groups (lents_of left.waiting.lent.items) → groups ≡ groups_seen old.env
     → running_binds f ≡ drop left.waiting.base w → w ≡ waiting_binds old.env
@@ -44,14 +48,14 @@ pub left_as_taken : (left : Left) (old : Running) (f : Env) (cs : List Came) (rs
     (state_in one_name (option_map shown r) f)))
 left_as_taken left old f cs rs groups w r none came returned same runs waits =
     comes_as_taken (backs_of left.waiting.back.items) (lents_of left.waiting.lent.items) left.gone.items (seen old)
-    (waiting_state left.waiting.base old.env)
+    (waiting_state left.waiting.base left.result old.env)
     ∙ ap (λ zs. all_written zs (groups_put (groups_from (groups_seen old.env) (lents_of left.waiting.lent.items))
-    (without_moved left.gone.items (waiting_state left.waiting.base old.env)))) (sym came)
+    (without_moved left.gone.items (waiting_state left.waiting.base left.result old.env)))) (sym came)
     ∙ ap (λ zs. all_written (cames_of cs) (groups_put zs
-    (without_moved left.gone.items (waiting_state left.waiting.base old.env))))
+    (without_moved left.gone.items (waiting_state left.waiting.base left.result old.env))))
     (ap (λ g. groups_from g (lents_of left.waiting.lent.items)) (sym same) ∙ sym returned)
     ∙ ap (λ s. all_written (cames_of cs) (groups_put (returneds_of rs) (without_moved left.gone.items s)))
-    (ap state_of (sym (runs ∙ ap (drop left.waiting.base) waits))
+    (ap (state_of left.result) (sym (runs ∙ ap (drop left.waiting.base) waits))
     ∙ ap (λ (o : Option Val). state_in one_name (option_map shown o) f) (sym none))
 
 -- the names from which groups were lent stand in the caller that runs again

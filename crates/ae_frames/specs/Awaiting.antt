@@ -11,7 +11,7 @@ use Rattle.ae_reads.specs.Answers.{FaultsAs}
 use Rattle.ae_running.specs.declared.running.Running.{Running}
 use Rattle.ae_running.specs.Seen.{seen}
 use Rattle.ae_frames.specs.declared.opening.Waiting.{Waiting}
-use Rattle.ae_frames.specs.declared.entering.Left.{Left}
+use Rattle.ae_frames.specs.declared.left.Left.{Left}
 use Rattle.ae_frames.specs.Entries.{all_differ}
 use Rattle.ae_frames.specs.Entering.{waiting_state}
 use Rattle.ae_frames.specs.Kept.{brought_back}
@@ -31,7 +31,7 @@ pub record Awaits (w : Waiting) (names : List (ℕ × NameShape)) (waiting : Lis
 -- what a call that ends in this state leaves of its caller, by what was kept
 abbrev pub left_as_kept : Left → Running → Outcome State
 left_as_kept left run = brought_back (backs_of left.waiting.back.items) (lents_of left.waiting.lent.items) left.gone.items
-    (seen run) (waiting_state left.waiting.base run.env)
+    (seen run) (waiting_state left.waiting.base left.result run.env)
 
 -- The answer is the outcome: the run has its state, and the method's result is handed out; or there is its fault.
 abbrev pub LeavesAs : Outcome State → Result (Option Val) Stop → Running → Running → Type 0

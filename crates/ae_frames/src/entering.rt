@@ -17,22 +17,16 @@ use crate::arguments::arguments;
 use crate::callees::callee;
 use crate::given::Arg;
 use crate::gone::all_given_away;
-use crate::opening::{Waiting, open};
+use crate::left::Left;
+use crate::opening::open;
 use crate::takers::takers;
 use ae_calls::{Callee, groups_in};
 use ae_judge::Tabled;
 use ae_reads::Stop;
 use ae_running::Running;
 use ae_text::Memory;
-use ae_tree::{Call, Method, Name};
-
-/// What is kept of a caller while the method that it called runs: from where on its names wait, which parameters come
-/// back where to, which groups were lent, and which names were given away.
-#[derive(Drop)]
-pub struct Left {
-    pub waiting: Waiting,
-    pub gone: Vec<Name>,
-}
+use ae_tree::{Call, Method};
+use std::mem::replace;
 
 /// A method that was entered, with its number, and what is kept of its caller.
 #[derive(Drop)]
@@ -75,13 +69,17 @@ fn begin<'a>(
         Ok(new) => new,
         Err(_) => return Err(Memory),
     };
-    run.result = None;
+    let result = replace(&mut run.result, None);
     let needs = callee.method.needs.as_slice();
     match open(tabled.alloc, &mut run.env, &new, needs, takers, args) {
         Ok(waiting) => Ok(Entered {
             number: callee.number,
             method: callee.method,
-            left: Left { waiting, gone },
+            left: Left {
+                waiting,
+                gone,
+                result,
+            },
         }),
         Err(memory) => Err(memory),
     }

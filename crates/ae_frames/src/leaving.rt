@@ -9,7 +9,7 @@ ghost use Rattle.ae_stores.specs.Changes.{KeepsRest};
 ghost use Rattle.ae_frames.specs.Awaiting.{Awaits, LeavesAs, left_as_kept};
 ghost use Rattle.ae_frames.specs.Returns.{all_written, cames_of, groups_put, returneds_of, holders_of, AreGroups};
 
-use crate::entering::Left;
+use crate::left::Left;
 use crate::opening::Waiting;
 use crate::restoring::{bring_all, lose_all, put_groups};
 use crate::returned::{Came, Returned};
@@ -41,7 +41,7 @@ fn restore(
 
 /// A call is left: what its method left of the groups that were lent and of the unique objects that were given comes
 /// back to the places from where the caller gave them, names that were given away have no value, and the caller's names
-/// run again. The answer is what the method returned, if it returned anything; of the caller nothing was returned. A
+/// run again. The answer is what the method returned, if it returned anything; what the caller had returned stands. A
 /// value that comes back and is not there is a lack, and trap 8 is where a local or a member of the caller would become
 /// too high. Takes memory for what comes back. After a fault the run is at its end: of its names nothing is promised,
 /// and what it printed stays.
@@ -54,7 +54,11 @@ pub fn leave(tabled: &Tabled, left: Left, run: &mut Running) -> Result<Option<Va
         ≡ take left.waiting.base (waiting_binds run.old.env)) }
     ensures out { run.new.out ≡ run.old.out }
 {
-    let Left { waiting, gone } = left;
+    let Left {
+        waiting,
+        gone,
+        result: kept,
+    } = left;
     let Waiting { base, back, lent } = waiting;
     let came = match take_values(tabled.alloc, &mut run.env, back) {
         Ok(came) => came,
@@ -64,7 +68,7 @@ pub fn leave(tabled: &Tabled, left: Left, run: &mut Running) -> Result<Option<Va
         Ok(returned) => returned,
         Err(_) => return Err(Stop::Memory),
     };
-    let result = replace(&mut run.result, None);
+    let result = replace(&mut run.result, kept);
     run.env.leave(base);
     match restore(run, gone, returned, came) {
         Ok(()) => Ok(result),

@@ -10,6 +10,7 @@ mod gone;
 mod granted;
 mod laws;
 mod leaving;
+mod left;
 mod lending;
 mod opening;
 mod restoring;
@@ -17,6 +18,7 @@ mod returned;
 mod takers;
 mod taking;
 
-pub use entering::{Entered, Left, enter};
+pub use entering::{Entered, enter};
 pub use laws::{calls_are_entered, calls_are_left, needed_groups_stay};
 pub use leaving::leave;
+pub use left::Left;

@@ -30,7 +30,7 @@ use Rattle.ae_reads.specs.declared.stop.Stop.{Stop}
 use Rattle.ae_reads.specs.Answers.{FaultsAs}
 use Rattle.ae_frames.specs.Entries.{EnteredCall, entered, frame_of, CallsEnterAlike}
 use Rattle.ae_levels.specs.Callers.{LeadsBack, names_behind, waiting_behind}
-use Rattle.ae_frames.specs.declared.entering.Left as kept
+use Rattle.ae_frames.specs.declared.left.Left as kept
 use Rattle.ae_levels.specs.Levels.{NamesInOrder, Aim, Nowhere, ToNew, ToOld, Level, InBlock, InCall, names_aimed, IsPlace}
 use Rattle.ae_levels.specs.Levels.{IsDeclared, OpenCall, StandFor}
 use Rattle.ae_levels.specs.Going.{IsSound, Going, Begun, CallBegun, ComesTo}

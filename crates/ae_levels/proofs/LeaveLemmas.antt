@@ -17,7 +17,7 @@ use Rattle.ae_reads.specs.declared.stop.Stop.TheVariants as stop
 use Rattle.ae_reads.specs.Answers.{FaultsAs}
 use Rattle.ae_frames.specs.Entries.{frame_of}
 use Rattle.ae_levels.specs.Callers.{names_behind, waiting_behind}
-use Rattle.ae_frames.specs.declared.entering.Left as kept
+use Rattle.ae_frames.specs.declared.left.Left as kept
 use Rattle.ae_levels.specs.Receiving.{received, back_received}
 use Rattle.ae_levels.specs.Levels.{NamesInOrder, Aim, Level, InCall, names_aimed, OpenCall}
 use Rattle.ae_levels.specs.Going.{Going}

@@ -1,6 +1,6 @@
 -- What becomes of calls.
 use Rattle.ae_frames.specs.Entries.{EnteredCall, entered}
-use Rattle.ae_frames.specs.declared.entering.Left as kept
+use Rattle.ae_frames.specs.declared.left.Left as kept
 use Rattle.ae_levels.specs.Callers.{LeadsBack, names_behind, waiting_behind}
 use Rattle.ae_levels.specs.Going.{Begun, CallBegun, ComesTo, Going, IsSound}
 use Rattle.ae_levels.specs.Halting.{HaltsAs, halt_at}

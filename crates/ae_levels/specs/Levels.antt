@@ -18,7 +18,7 @@ use Rattle.ae_values.specs.declared.env.Bind.{Bind}
 use Rattle.ae_values.specs.Shapes.{NameShape, OfLocal}
 use Rattle.ae_names.specs.Known.{form_in, AreKnown, AreNew, names_declared}
 use Rattle.ae_steps.specs.Costs.{costs, block_cost}
-use Rattle.ae_frames.specs.declared.entering.Left.{Left}
+use Rattle.ae_frames.specs.declared.left.Left.{Left}
 use Rattle.ae_frames.specs.Entries.{EnteredCall, frame_of}
 use Rattle.ae_levels.specs.Callers.{LeadsBack, names_behind, waiting_behind}
 

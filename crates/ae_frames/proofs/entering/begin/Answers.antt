@@ -27,7 +27,7 @@ returns-in-Ok-open-clause-entered c =
     (option_map shown c.args.run.now.result) (callee_shown c.args.callee) c.in-Ok-groups_in.new
     c.as_slice-needs.result.now c.in-Ok.takers.items c.args.args.items _ _
     (c.requires.apart c.args.callee.number (definition c.args.callee.method.now) c.requires.number)
-    c.in-Ok.ensures refl refl refl
+    c.in-Ok.ensures c.replace-result.ensures.after (ap (option_map shown) c.replace-result.ensures.value) refl refl
     (c.in-Ok-groups_in.ensures ∙ ap (group_in (callee_shown c.args.callee)) c.as_slice-2.ensures)
     c.as_slice-needs.ensures
     (record {
