@@ -2,6 +2,7 @@
 pub use Rattle.ae_rules.proofs as from_rules
 pub use Rattle.ae_soundness.proofs as from_soundness
 pub use Rattle.ae_reads.proofs as from_reads
+pub use Rattle.ae_steps.proofs as from_steps
 mod MoveLemmas
 mod NewLemmas
 mod BlockLemmas
@@ -14,3 +15,4 @@ mod CallLemmas
 mod LeaveLemmas
 mod CostLemmas
 mod MeaningLemmas
+mod StartLemmas

@@ -42,8 +42,8 @@ pub fn levels_cost_less()
     ensures { LevelsCostLess }
 {}
 
-/// A run with no level left is done, what the whole run comes to is the meaning, and that has an ending in an accepted
-/// program in which nothing is split.
+/// A run begins with the body of `main`, one with no level left is done, what the whole run comes to is the meaning, and
+/// that has an ending in an accepted program in which nothing is split.
 pub fn runs_mean_so()
     ensures { RunsMeanSo }
 {

@@ -53,7 +53,7 @@ either_below p c true x y h k = h
 either_below p c false x y h k = k
 
 -- one body costs at most what all do
-one_body : (c : Costs) (ms : List Definition) (i : ℕ) (m : Definition) → slice_get ms i ≡ Some m
+pub one_body : (c : Costs) (ms : List Definition) (i : ℕ) (m : Definition) → slice_get ms i ≡ Some m
     → block_cost c m.body ≤ bodies_cost c ms
 one_body c [] i m e = absurd (cc)
 one_body c (y ∷ ys) zero m e =
@@ -79,7 +79,7 @@ callee_in_outcome k (Traps code) = k
 callee_in_outcome k Lacks = k
 
 -- the method stands in the program
-abbrev IsOf : Code → Callee → Type 0
+abbrev pub IsOf : Code → Callee → Type 0
 IsOf p k = (n : ℕ) × (method_at p n ≡ Some k.method)
 
 by_number : (p : Code) (names groups : List ℕ) (o : Option ℕ) (k : Callee)
@@ -105,7 +105,7 @@ on_is_of p s (Some path) x k e =
     (callee_is_of) p r.0.form x k (fine_there (callee_of p r.0.form x) k r.2)
 
 -- the method of a call that is entered stands in the program
-entered_is_of : (p : Code) (here : Where) (i : Invocation) (s : State) (f : CallFrame) → enter p here i s ≡ Fine f
+pub entered_is_of : (p : Code) (here : Where) (i : Invocation) (s : State) (f : CallFrame) → enter p here i s ≡ Fine f
     → IsOf p f.callee
 entered_is_of p here i s f e =
     let r = fine_first (called_method p s i)
@@ -135,7 +135,8 @@ turn_below : {W : Type 0} (p : Code) (fuel : ℕ) (here : Where) (t : ℕ) (at :
 turn_below p zero here t at e b s n = tt
 turn_below p (suc fuel) here t at e b s n = omega arith
 
-none_below : (p : Code) (fuel : ℕ) (b : Lines) → 0 < (costs p fuel).turns b
+-- a loop costs something
+pub none_below : (p : Code) (fuel : ℕ) (b : Lines) → 0 < (costs p fuel).turns b
 none_below p zero b = omega arith
 none_below p (suc fuel) b = omega arith
 

@@ -1,3 +1,3 @@
 pub use Rattle.ae_rules.proofs as from_rules
 mod StepLemmas
-mod CostLemmas
+pub mod CostLemmas
