@@ -4,3 +4,5 @@ pub use Rattle.ae_rules.proofs as from_rules
 pub use Rattle.ae_soundness.proofs as from_soundness
 pub use Rattle.ae_frames.proofs as from_frames
 mod ApartLemmas
+mod TakenLemmas
+mod MainLemmas
