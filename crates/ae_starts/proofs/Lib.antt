@@ -6,3 +6,5 @@ pub use Rattle.ae_frames.proofs as from_frames
 mod ApartLemmas
 mod TakenLemmas
 mod MainLemmas
+mod CalleeLemmas
+mod EnteredLemmas

@@ -3,4 +3,4 @@
 
 mod laws;
 
-pub use laws::{main_begins, names_stand_apart};
+pub use laws::{entered_names_are_known, main_begins, names_stand_apart};
