@@ -21,3 +21,8 @@ pub leads_when_ok : {B : Type 0} (whole : Run (List Seen)) (out : List ℕ) (so 
     → LeadsTo whole out (so ls) r
 leads_when_ok whole out so (Ok x) ls l h k g = subst so (sym h) g
 leads_when_ok whole out so (Err e) ls l h k g = subst (λ (y : Halt). HaltsAs whole out y) (sym k) tt
+
+-- what follows of an answer that is none but for a refusal
+pub then_ok : {A E : Type 0} {P Q : Type 0} (r : Result A E) → (P → Q) → OnOk r P → OnOk r Q
+then_ok (Ok x) f h = f h
+then_ok (Err e) f h = tt

@@ -1,2 +1,4 @@
 pub mod Frames
 pub mod Tasks
+pub mod Results
+pub mod Calling

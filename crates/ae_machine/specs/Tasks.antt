@@ -1,5 +1,5 @@
 -- A run that is under way in the code, against the whole run that it is to be.
-use Rattle.std.specs.Prelude.{◌<◌, ◌+◌, ℕ, suc, List, []}
+use Rattle.std.specs.Prelude.{◌≡◌, ◌<◌, ◌+◌, ℕ, suc, List, [], None}
 use Rattle.ae_text.specs.declared.refusal.Spot.{Spot}
 use Rattle.ae_tree.specs.Plain.{Action, Code}
 use Rattle.ae_tree.specs.Shown.{definition}
@@ -45,3 +45,10 @@ IsPast task run ls cost = IsAt task run ls × (levels_cost (code_in task) ls < c
 -- how much there is to do of a statement and of what is behind it
 abbrev pub cost_at : Task → Rest → Action → List Level → ℕ
 cost_at task rest a ls = suc (statement_cost (costs (code_in task) rest.fuel) a) + levels_cost (code_in task) ls
+
+-- nothing is bound, nothing was returned, and nothing is printed
+pub record IsUntouched (run : Running) : Type 0 where
+  pub running : running_binds run.env ≡ []
+  pub waiting : waiting_binds run.env ≡ []
+  pub returned : run.result ≡ None
+  pub printed : run.out.items ≡ []

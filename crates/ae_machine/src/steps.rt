@@ -1,4 +1,4 @@
-// The steps of a run: statements that begin, and what they open.
+// What statements with blocks open, and how levels are added.
 ghost use Rattle.std.specs.Prelude.{◌≡◌, ◌<◌, ◌∷◌, IfErr, OnOk, length};
 ghost use Rattle.ae_tree.specs.Plain.{Chooses, ChoosesElse, Repeats, Next};
 ghost use Rattle.ae_tree.specs.Shown.{action, braced, definition, expression, lines_from};
@@ -14,10 +14,10 @@ use crate::task::Task;
 use ae_levels::{Halt, blocks_open_and_end, loops_turn, stopped_at};
 use ae_running::{Running, truth_of};
 use ae_text::Spot;
-use ae_tree::{Block, Expr};
+use ae_tree::{Block, Expr, Method};
 
 // One frame more, the innermost.
-fn push<'a>(frames: &mut Vec<Frame<'a>>, frame: Frame<'a>) -> Result<(), Halt>
+pub(crate) fn push<'a>(frames: &mut Vec<Frame<'a>>, frame: Frame<'a>) -> Result<(), Halt>
     ensures pushed { OnOk result (levels frames.new.items ≡ level frame.entry ∷ levels frames.old.items) }
     ensures refused { IfErr result (λ e. e ≡ halt.Memory) }
 {
@@ -27,31 +27,33 @@ fn push<'a>(frames: &mut Vec<Frame<'a>>, frame: Frame<'a>) -> Result<(), Halt>
     }
 }
 
-// A block of this method begins.
-fn open<'a>(
-    rest: Rest<'a>,
+// A block of this method begins, with this fuel, so deep in calls.
+pub(crate) fn open<'a>(
+    method: &'a Method,
+    fuel: u32,
+    depth: u32,
     block: &'a Block,
     run: &Running,
     frames: &mut Vec<Frame<'a>>,
 ) -> Result<(), Halt>
-    ensures opened { OnOk result (levels frames.new.items ≡ InBlock rest.entry.fuel rest.entry.depth
-        (definition rest.entry.method.now) (braced block.now).lines (length (names_in run.now)) ∷ levels frames.old.items) }
+    ensures opened { OnOk result (levels frames.new.items ≡ InBlock fuel depth (definition method.now)
+        (braced block.now).lines (length (names_in run.now)) ∷ levels frames.old.items) }
     ensures refused { IfErr result (λ e. e ≡ halt.Memory) }
 {
     push(
         frames,
         Frame::Rest(Rest {
-            method: rest.method,
+            method,
             stmts: block.stmts.as_slice(),
-            fuel: rest.fuel,
-            depth: rest.depth,
+            fuel,
+            depth,
             mark: run.env.mark(),
         }),
     )
 }
 
 /// An `if` without an `else`: its block begins, where the test is true.
-pub fn begin_if<'a>(
+pub(crate) fn begin_if<'a>(
     task: &Task<'a>,
     rest: Rest<'a>,
     at: Spot,
@@ -70,7 +72,7 @@ pub fn begin_if<'a>(
     match truth_of(&task.tabled, run, test) {
         Ok(holds) => {
             if holds {
-                open(rest, body, run, frames)
+                open(rest.method, rest.fuel, rest.depth, body, run, frames)
             } else {
                 Ok(())
             }
@@ -80,7 +82,7 @@ pub fn begin_if<'a>(
 }
 
 /// An `if` with an `else`: the block that the test says begins.
-pub fn begin_if_else<'a>(
+pub(crate) fn begin_if_else<'a>(
     task: &Task<'a>,
     rest: Rest<'a>,
     at: Spot,
@@ -100,9 +102,9 @@ pub fn begin_if_else<'a>(
     match truth_of(&task.tabled, run, test) {
         Ok(holds) => {
             if holds {
-                open(rest, body, run, frames)
+                open(rest.method, rest.fuel, rest.depth, body, run, frames)
             } else {
-                open(rest, other, run, frames)
+                open(rest.method, rest.fuel, rest.depth, other, run, frames)
             }
         }
         Err(stop) => Err(stopped_at(stop, at)),
@@ -110,7 +112,7 @@ pub fn begin_if_else<'a>(
 }
 
 /// A loop: its first turn begins.
-pub fn begin_while<'a>(
+pub(crate) fn begin_while<'a>(
     task: &Task<'a>,
     rest: Rest<'a>,
     at: Spot,

@@ -14,8 +14,8 @@ returns-clause-opened c =
     lines-out c.args.block.now ∙ ap lines_from (sym c.as_slice.ensures) in
     let k : length (names_in c.args.run.now) ≡ c.mark.result =
     length-map (running_binds c.args.run.now.env) _ ∙ sym c.mark.ensures in
-    subst (λ (l : Lines). OnOk c.push.result (levels c.push.new.frames.items ≡ InBlock c.args.rest.fuel c.args.rest.depth
-    (definition c.args.rest.method.now) l (length (names_in c.args.run.now)) ∷ levels c.args.frames.now.items)) (sym o)
-    (subst (λ (n : ℕ). OnOk c.push.result (levels c.push.new.frames.items ≡ InBlock c.args.rest.fuel c.args.rest.depth
-    (definition c.args.rest.method.now) (lines_from c.as_slice.result.now) n ∷ levels c.args.frames.now.items)) (sym k)
+    subst (λ (l : Lines). OnOk c.push.result (levels c.push.new.frames.items ≡ InBlock c.args.fuel c.args.depth
+    (definition c.args.method.now) l (length (names_in c.args.run.now)) ∷ levels c.args.frames.now.items)) (sym o)
+    (subst (λ (n : ℕ). OnOk c.push.result (levels c.push.new.frames.items ≡ InBlock c.args.fuel c.args.depth
+    (definition c.args.method.now) (lines_from c.as_slice.result.now) n ∷ levels c.args.frames.now.items)) (sym k)
     c.push.ensures.pushed)
