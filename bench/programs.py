@@ -7,7 +7,6 @@ import tempfile
 import time
 
 ROUNDS = 5
-NOT_YET = "refused U1 NotBuilt at 1:1\n"
 NAMES = range(1023)
 
 LOOP = ("""method void main() with exclusive io {
@@ -289,7 +288,7 @@ EMPTY = ("method void main() { }\n", "", "")
 
 
 def seconds(words, text, where, mode):
-    """The least time of some rounds, and what was printed; no time where `run` does not have the program's forms yet."""
+    """The least time of some rounds, and what was printed."""
     least, said = None, None
     for _ in range(ROUNDS):
         with open(where, "w+") as file:
@@ -299,8 +298,6 @@ def seconds(words, text, where, mode):
             begun = time.perf_counter()
             done = subprocess.run(words + ([where] if mode == "file" else []), stdin=file, capture_output=True, text=True)
             took = time.perf_counter() - begun
-        if done.stdout == NOT_YET:
-            return None, done.stdout
         if done.returncode:
             sys.exit(f"{words}: status {done.returncode}: {done.stderr or done.stdout}")
         least, said = took if least is None else min(least, took), done.stdout
@@ -313,17 +310,13 @@ def main():
         at = os.path.join(folder, "source")
         ways = [("aem", ["./aem", "run"], "stdin"), ("CPython", [sys.executable, "-S"], "file")]
         ways += [("Lua", [lua], "file")] if lua else []
-        empty = {way: seconds(words, EMPTY[i], at, mode)[0] or 0 for i, (way, words, mode) in enumerate(ways)}
+        empty = {way: seconds(words, EMPTY[i], at, mode)[0] for i, (way, words, mode) in enumerate(ways)}
         for name, texts in PROGRAMS.items():
             took, said = {}, {}
             for i, (way, words, mode) in enumerate(ways):
                 if texts[i] is not None:
                     time_of, said[way] = seconds(words, texts[i], at, mode)
-                    if time_of is not None:
-                        took[way] = max(time_of - empty[way], 1e-6)
-            if said["aem"] == NOT_YET:
-                print(f"{name}: aem not yet, " + ", ".join(f"{way} {took[way]:.4f} s" for way in took))
-                continue
+                    took[way] = max(time_of - empty[way], 1e-6)
             if any(said["aem"] != text + "== done\n" for way, text in said.items() if way != "aem"):
                 sys.exit(f"{name}: {said}")
             others = ", ".join(f"{way} {took[way]:.4f} s, ratio {took['aem'] / took[way]:.2f}" for way in took if way != "aem")

@@ -8,6 +8,7 @@ import time
 
 MOST = 1048576
 MAIN = "method void main() { }\n"
+SPLIT = "method void main() { group g; split g { } }\n"
 CLASSES = """class Box { int v; unique Ints items; }
 class Pair { unique Box first; unique Box second; immutable Ints shape; }
 """
@@ -15,7 +16,7 @@ LETTERS = "abcdefghijklmnop"
 
 
 def filled(head, part):
-    out, size = [head], len(head) + len(MAIN)
+    out, size = [head], len(head) + len(SPLIT)
     while True:
         text = part(len(out) - 1)
         if size + len(text) > MOST:
@@ -72,6 +73,11 @@ SOURCES = {
     "deep blocks": filled(CLASSES, deep),
     "calls": filled(CLASSES + called(), calls),
 }
+
+
+def with_split(text):
+    """A source of these with a `split` in its `main`: `aem run` reads all of it, and refuses it as not built."""
+    return text.removesuffix(MAIN) + SPLIT
 
 
 class Run:

@@ -1,4 +1,4 @@
--- The forms that run today, part by part.
+-- The forms that run by the graph, part by part.
 use Rattle.std.proofs.Common.{◌≡◌, ℕ, Bool, true, false, nat_eq, MatchBool, refl, ap, sym, ◌∙◌, subst}
 use borrow.Author.Tests.{eqb-true}
 use Rattle.ae_text.specs.declared.refusal.Spot.{Spot}

@@ -17,13 +17,10 @@ use Rattle.ae_parser.specs.Laws.{IsOneRefusal, NoProgramIsRefused}
 use Rattle.ae_parser.specs.Laws.{IsOneProgram}
 use Rattle.ae_rules.specs.Judges.{Accepts}
 use Rattle.ae_rules.specs.Laws.{NeverAcceptedAndBroken, FirstIsOne}
-use Rattle.ae_meaning.specs.declared.report.RunReport.{RunReport}
-use Rattle.ae_meaning.specs.declared.report.Ending.{Ending}
-use Rattle.ae_meaning.specs.declared.report.Ending.TheVariants as e
-use Rattle.ae_semantics.specs.Means.{seq}
-use Rattle.ae_semantics.specs.declared.report.Ending as whole_ending
-use Rattle.ae_semantics.specs.declared.report.Ending.TheVariants as ends_whole
-use Rattle.ae_cases.specs.Laws.{as_whole}
+use Rattle.ae_semantics.specs.Means.{mean}
+use Rattle.ae_semantics.specs.declared.report.Ending.{Ending}
+use Rattle.ae_semantics.specs.declared.report.Ending.TheVariants.{Done}
+use Rattle.aem.specs.declared.answer.Report.{Report}
 use Rattle.aem.specs.declared.answer.What.{What}
 use Rattle.aem.specs.declared.answer.What.TheVariants as w
 use Rattle.aem.specs.declared.answer.Command.{Command}
@@ -142,35 +139,25 @@ unbroken laws command text p r at s built a short (inr b) = uncaused laws comman
 
 -- ---- reports
 
--- an ending of the whole language as one of today
-abbrev today_of : whole_ending.Ending → Ending
-today_of ends_whole.Done = e.Done
-today_of (ends_whole.Trap code at) = e.Trap code at
-today_of (ends_whole.Fuel at) = e.Fuel at
-
-today_as_whole : (x : Ending) → today_of (as_whole x) ≡ x
-today_as_whole e.Done = refl
-today_as_whole (e.Trap code at) = refl
-today_as_whole (e.Fuel at) = refl
-
 -- the ending that is there
-abbrev ending_or : Option whole_ending.Ending → whole_ending.Ending
+abbrev ending_or : Option Ending → Ending
 ending_or (Some x) = x
-ending_or None = ends_whole.Done
+ending_or None = Done
 
--- endings that are one in the whole language are one
-same_ending : (x y : Ending) (o : Option whole_ending.Ending) → Some (as_whole x) ≡ o → Some (as_whole y) ≡ o → x ≡ y
-same_ending x y o a b = sym (today_as_whole x) ∙ ap (λ z. today_of (ending_or z)) (a ∙ sym b) ∙ today_as_whole y
+-- a meaning has one ending
+same_ending : (x y : Ending) (o : Option Ending) → o ≡ Some x → o ≡ Some y → x ≡ y
+same_ending x y o a b = ap ending_or (sym a ∙ b)
 
-abbrev report : Ending → List ℕ → RunReport
+abbrev report : Ending → List ℕ → Report
 report ending out = record { ending = ending; out = out }
 
-same_report : (x y : RunReport) → x.ending ≡ y.ending → x.out ≡ y.out → x ≡ y
+same_report : (x y : Report) → x.ending ≡ y.ending → x.out ≡ y.out → x ≡ y
 same_report x y a b = ap (λ z. report z x.out) a ∙ ap (report y.ending) b
 
 -- two reports of one meaning are one
-two_reports : (x y : RunReport) (p : Code) → IsMeant x p → IsMeant y p → x ≡ y
-two_reports x y p a b = same_report x y (same_ending x.ending y.ending (seq p [] 100000).ending a.0 b.0) (a.1 ∙ sym b.1)
+two_reports : (x y : Report) (p : Code) → IsMeant x p → IsMeant y p → x ≡ y
+two_reports x y p a b =
+    same_report x y (same_ending x.ending y.ending (mean p [] 100000 []).ending a.0 b.0) (sym a.1 ∙ b.1)
 
 abbrev refusal : Rule → Spot → Refusal
 refusal rule at = record { rule = rule; at = at }

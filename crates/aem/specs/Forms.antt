@@ -1,4 +1,4 @@
--- What the parts of a program that runs today are.
+-- What the parts of a program that runs by its graph are.
 use Rattle.std.specs.Prelude.{◌≡◌, ◌≢◌, List, [], ◌∷◌, None}
 use Rattle.ae_text.specs.declared.refusal.Spot.{Spot}
 use Rattle.ae_tree.specs.declared.tree.Path.{Path}
@@ -25,6 +25,6 @@ abbrev pub IsBare : Definition → Type 0
 IsBare m = (m.class ≡ None) × (m.result ≡ None) × (m.name.name ≡ main) × (m.groups ≡ []) × (m.me ≡ None)
     × (m.params ≡ []) × (m.no ≡ 0)
 
--- a method `main` all of whose statements run today
+-- a method `main` all of whose statements run by the graph
 abbrev pub IsBuiltMethod : Definition → Type 0
 IsBuiltMethod m = IsMain m × AreBuilt m.body

@@ -2,7 +2,7 @@
 use Rattle.std.specs.Prelude.{ℕ, zero, suc, Bool, List, [], ◌∷◌, ◌++◌, codes, if◌then◌else◌}
 use Rattle.std.specs.Fmt.{decimal}
 use Rattle.ae_text.specs.declared.refusal.Spot.{Spot}
-use Rattle.ae_meaning.specs.declared.report.Ending.{Ending}
+use Rattle.ae_semantics.specs.declared.report.Ending.{Ending}
 use Rattle.aem.specs.Texts.{feed_after, last_byte, ending_text}
 use Rattle.ae_graph.specs.GraphText.{spaced}
 

@@ -4,9 +4,9 @@ use Rattle.std.specs.Prelude.{if◌then◌else◌}
 use Rattle.std.specs.Fmt.{decimal}
 use Rattle.ae_text.specs.declared.refusal.Refusal.{Refusal}
 use Rattle.ae_text.specs.Rules.{rule_text}
-use Rattle.ae_meaning.specs.declared.report.Ending.{Ending}
-use Rattle.ae_meaning.specs.declared.report.Ending.TheVariants.{Done, Trap, Fuel}
-use Rattle.ae_meaning.specs.declared.report.RunReport.{RunReport}
+use Rattle.ae_semantics.specs.declared.report.Ending.{Ending}
+use Rattle.ae_semantics.specs.declared.report.Ending.TheVariants.{Done, Trap, Fuel}
+use Rattle.aem.specs.declared.answer.Report.{Report}
 use Rattle.aem.specs.declared.answer.What.{What}
 use Rattle.aem.specs.declared.answer.What.TheVariants as w
 
@@ -33,7 +33,7 @@ abbrev pub last_byte : List ℕ → Option ℕ
 last_byte bytes = slice_get bytes (length bytes - 1)
 
 -- the bytes printed, with a line feed at their end, and the ending
-abbrev pub report_text : RunReport → List ℕ
+abbrev pub report_text : Report → List ℕ
 report_text r = r.out ++ feed_after (last_byte r.out) ++ ending_text r.ending
 
 -- what is written for an accepted program that is checked alone

@@ -10,14 +10,13 @@ use Rattle.ae_text.specs.declared.refusal.Deny.{Deny}
 use Rattle.ae_text.specs.declared.refusal.Deny.TheVariants as d
 use Rattle.ae_tree.specs.Plain.{Code}
 use Rattle.ae_tree.specs.Refused.{IsRefused}
-use Rattle.ae_tree.specs.Built.{Built}
+use Rattle.ae_soundness.specs.Whole.{IsUnsplit}
 use Rattle.ae_rules.specs.OfLanguage.{IsOfLanguage}
 use Rattle.ae_rules.specs.Judges.{Accepts, FirstBroken}
 use Rattle.ae_code.specs.declared.checked.Checked.{Checked}
 use Rattle.ae_tree.specs.Shown.{code as plain}
-use Rattle.ae_meaning.specs.declared.report.RunReport.{RunReport}
-use Rattle.ae_semantics.specs.Means.{seq, bytes}
-use Rattle.ae_cases.specs.Laws.{as_whole}
+use Rattle.ae_levels.specs.Meanings.{MeansSo}
+use Rattle.aem.specs.declared.answer.Report.{Report}
 use Rattle.aem.specs.declared.answer.What.{What}
 use Rattle.aem.specs.declared.answer.What.TheVariants as w
 use Rattle.ae_text.specs.declared.token.Token.{Token}
@@ -41,11 +40,11 @@ IsFaultAt rule at text = (offset : ℕ) × LexFault text rule offset × (at ≡ 
 abbrev pub IsTokenAt : Rule → Spot → List ℕ → Type 0
 IsTokenAt rule at text = (tokens : List Token) × Lexes text tokens × IsRefused tokens rule at
 
--- the program has only forms that this mode has today: `check` and `graph` have all
+-- the program has only forms that this mode has today: `check` and `graph` have all, and `run` all but `split` and `atomic`
 abbrev pub IsOfMode : Command → Code → Type 0
 IsOfMode Check program = Unit {0}
 IsOfMode Graph program = Unit {0}
-IsOfMode Run program = Built program
+IsOfMode Run program = IsUnsplit program
 
 -- this rule of the language is the first that the program breaks
 abbrev pub IsBrokenFirst : Rule → Spot → Code → Type 0
@@ -77,11 +76,9 @@ abbrev pub IsUnread : List ℕ → Deny → Type 0
 IsUnread text (d.Refused r) = (command : Command) → IsBroken command r.rule r.at text
 IsUnread text d.Memory = Unit {0}
 
--- The report has the ending and the bytes of the program's meaning, with no integers and a fuel of 100,000.
--- No form that runs today splits `io`, so no pieces of a cell come behind the log.
-abbrev pub IsMeant : RunReport → Code → Type 0
-IsMeant report program = (Some (as_whole report.ending) ≡ (seq program [] 100000).ending)
-    × (report.out ≡ bytes (seq program [] 100000) [])
+-- the report has the ending and the bytes of the program's meaning, with no integers and a fuel of 100,000
+abbrev pub IsMeant : Report → Code → Type 0
+IsMeant report program = MeansSo program [] 100000 report.ending report.out
 
 -- what an accepted program comes to: that it is accepted, the text of its graphs, or the report of its run
 abbrev pub IsDoneFor : Command → Code → What → Type 0

@@ -1,5 +1,5 @@
 // What the top call answers.
-use ae_meaning::RunReport;
+use ae_semantics::Ending;
 use ae_text::{Items, Refusal};
 
 /// What the words ask for.
@@ -21,6 +21,13 @@ pub enum UsageKind {
     Words,
 }
 
+/// What is told of a run: how it ended, and the bytes printed up to there.
+#[derive(Debug, Drop)]
+pub struct Report {
+    pub ending: Ending,
+    pub out: Items<u8>,
+}
+
 /// What was done.
 #[derive(Debug, Drop)]
 pub enum What {
@@ -29,7 +36,7 @@ pub enum What {
     Refused(Refusal),
     Checked,
     Graph(Items<u8>),
-    Ran(RunReport),
+    Ran(Report),
     Memory,
 }
 

@@ -1,4 +1,4 @@
-// Whether a program has only forms that run today.
+// Whether a program has only forms that run by the graph.
 ghost use Rattle.std.specs.Prelude.{◌≡◌, ◌≢◌, ◌≤◌, ◌∷◌, [], MatchBool};
 ghost use Rattle.ae_text.specs.declared.refusal.Spot.{Spot};
 ghost use Rattle.ae_tree.specs.Shown.{expression, right_side, action, lines_from, definition, code};
@@ -135,7 +135,7 @@ fn is_built_method(method: &Method) -> bool
     is_main(method) && are_built(method.body.stmts.as_slice())
 }
 
-/// Whether a program is one method `main` all of whose statements run today.
+/// Whether a program is one method `main` all of whose statements run by the graph.
 pub fn is_built(program: &Program) -> bool
     ensures { MatchBool result (Built (code program.now)) (Built (code program.now) → ⊥) }
 {

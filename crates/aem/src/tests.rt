@@ -41,7 +41,7 @@ fn source_of(
     Ok(MemSource::new(bytes, most, Items::from_slice(alloc, fail)?))
 }
 
-const CASES: [Case; 65] = [
+const CASES: [Case; 71] = [
     Case {
         words: &["check"],
         source: SUM,
@@ -213,110 +213,146 @@ const CASES: [Case; 65] = [
     Case {
         words: &["run"],
         source: "",
-        text: "refused U1 NotBuilt at 1:1\n",
+        text: "refused N7 NoMain at 1:1\n",
         status: 2,
     },
     Case {
         words: &["run"],
         source: "method void main() { }",
-        text: "refused U1 NotBuilt at 1:1\n",
-        status: 2,
+        text: "== done\n",
+        status: 0,
     },
     Case {
         words: &["run"],
         source: "method void other() with exclusive io { }",
-        text: "refused U1 NotBuilt at 1:1\n",
+        text: "refused N7 NoMain at 1:1\n",
         status: 2,
     },
     Case {
         words: &["run"],
         source: "method void main(int a) with exclusive io { }",
-        text: "refused U1 NotBuilt at 1:1\n",
+        text: "refused N7 NoMain at 1:13\n",
         status: 2,
     },
     Case {
         words: &["run"],
         source: "method void main() with shared io { }",
-        text: "refused U1 NotBuilt at 1:1\n",
+        text: "refused N7 NoMain at 1:13\n",
         status: 2,
     },
     Case {
         words: &["run"],
         source: "method void main() with exclusive io, exclusive io { }",
-        text: "refused U1 NotBuilt at 1:1\n",
+        text: "refused G6 GroupTwice at 1:49\n",
         status: 2,
     },
     Case {
         words: &["run"],
         source: "class main { } method void main() with exclusive io { }",
-        text: "refused U1 NotBuilt at 1:1\n",
-        status: 2,
+        text: "== done\n",
+        status: 0,
     },
     Case {
         words: &["run"],
         source: "method void main() with exclusive io { } method void other() { }",
-        text: "refused U1 NotBuilt at 1:1\n",
-        status: 2,
+        text: "== done\n",
+        status: 0,
     },
     Case {
         words: &["run"],
         source: "method void main() with exclusive io { print true; }",
-        text: "refused U1 NotBuilt at 1:1\n",
-        status: 2,
+        text: "true\n== done\n",
+        status: 0,
     },
     Case {
         words: &["run"],
         source: "method void main() with exclusive io { print 1 < 2; }",
-        text: "refused U1 NotBuilt at 1:1\n",
-        status: 2,
+        text: "true\n== done\n",
+        status: 0,
     },
     Case {
         words: &["run"],
         source: "method void main() with exclusive io { print !b; }",
-        text: "refused U1 NotBuilt at 1:1\n",
+        text: "refused N5 UnknownName at 1:47\n",
         status: 2,
     },
     Case {
         words: &["run"],
         source: "method void main() with exclusive io { print b; print \"a\"; }",
-        text: "refused U1 NotBuilt at 1:1\n",
+        text: "refused N5 UnknownName at 1:46\n",
         status: 2,
     },
     Case {
         words: &["run"],
         source: "method void main() with exclusive io { print a.b; }",
-        text: "refused U1 NotBuilt at 1:1\n",
+        text: "refused N5 UnknownName at 1:46\n",
         status: 2,
     },
     Case {
         words: &["run"],
         source: "method void main() with exclusive io { print this; }",
-        text: "refused U1 NotBuilt at 1:1\n",
+        text: "refused N5 UnknownName at 1:46\n",
         status: 2,
     },
     Case {
         words: &["run"],
         source: "method void main() with exclusive io { let bool a = 1; }",
-        text: "refused U1 NotBuilt at 1:1\n",
+        text: "refused N9 TypeMismatch at 1:53\n",
         status: 2,
     },
     Case {
         words: &["run"],
         source: "method void main() with exclusive io { let int a = f(1); }",
-        text: "refused U1 NotBuilt at 1:1\n",
+        text: "refused N4 UnknownMethod at 1:52\n",
         status: 2,
     },
     Case {
         words: &["run"],
         source: "method void main() with exclusive io { if 1 { } }",
-        text: "refused U1 NotBuilt at 1:1\n",
+        text: "refused N9 TypeMismatch at 1:43\n",
         status: 2,
     },
     Case {
         words: &["run"],
         source: "method void main() with exclusive io { return 1; }",
+        text: "refused N9 TypeMismatch at 1:40\n",
+        status: 2,
+    },
+    Case {
+        words: &["run"],
+        source: "method void main() { group g; split g { } }",
         text: "refused U1 NotBuilt at 1:1\n",
         status: 2,
+    },
+    Case {
+        words: &["run"],
+        source: "method void main() { a = 1; } method void f<g>() with shared g { if true { } else { atomic g { } } }",
+        text: "refused U1 NotBuilt at 1:1\n",
+        status: 2,
+    },
+    Case {
+        words: &["run"],
+        source: "class Box { int v; } method void main() with exclusive io { let unique Box b = new Box(1); b.v = b.v + 1; print b.v; print b == null; print \"end\"; }",
+        text: "2\nfalse\nend\n== done\n",
+        status: 0,
+    },
+    Case {
+        words: &["run"],
+        source: "method int fib(int n) { let int r = n; if n > 1 { let int a = fib(n - 1); let int b = fib(n - 2); r = a + b; } return r; } method void main() with exclusive io { let int r = fib(10); print r; }",
+        text: "55\n== done\n",
+        status: 0,
+    },
+    Case {
+        words: &["run"],
+        source: "method void main() with exclusive io { let unique Ints a = new Ints(3); let int i = 0; while i < len a { a[i] = i * i; i = i + 1; } print a[2]; print a[3]; }",
+        text: "4\n== trap 4 at 1:145\n",
+        status: 1,
+    },
+    Case {
+        words: &["run"],
+        source: "method void main() with exclusive io { print 1; while true { } }",
+        text: "1\n== fuel at 1:49\n",
+        status: 1,
     },
     Case {
         words: &["run"],
@@ -531,7 +567,7 @@ fn long_texts(rt: HostRuntime) -> Result<(), Fail> {
     let words = words_of(alloc, &["run"])?;
     for (len, text) in [
         (1_048_577, "refused K1 TooLong at 1:1\n"),
-        (1_048_576, "refused U1 NotBuilt at 1:1\n"),
+        (1_048_576, "refused N7 NoMain at 1:1\n"),
     ] {
         let spaces = vec![in alloc; b' '; len]?;
         let mut source = source_of(alloc, spaces.as_slice(), 1_048_576, &[])?;

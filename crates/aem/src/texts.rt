@@ -5,8 +5,8 @@ ghost use Rattle.ae_text.specs.Rules.{rule_text};
 ghost use Rattle.aem.specs.Texts.{refusal_text, ending_text, report_text, feed_after, last_byte, output};
 ghost use Rattle.aem.specs.Texts.{ending_status, whole_status, usage_text};
 
-use crate::answer::What;
-use ae_meaning::{Ending, RunReport};
+use crate::answer::{Report, What};
+use ae_semantics::Ending;
 use ae_text::{Items, Refusal};
 use std::alloc::{AllocError, Global};
 
@@ -68,7 +68,7 @@ fn missing_feed(out: &[u8]) -> &'static [u8]
     }
 }
 
-fn run_text(alloc: Global, report: &RunReport) -> Result<Items<u8>, AllocError>
+fn run_text(alloc: Global, report: &Report) -> Result<Items<u8>, AllocError>
     ensures { IfOk result (λ t. t ≡ report_text report.now) }
 {
     let line = ending_line(alloc, report.ending)?;
