@@ -1,4 +1,4 @@
--- The forms that run today. A program with another form is refused as not built.
+-- The forms that run by their graph: an accepted program of these alone runs in an order that its graph allows.
 use Rattle.std.specs.Prelude.{◌≡◌, ◌≢◌, ◌≤◌, [], ◌∷◌, None}
 use Rattle.ae_text.specs.declared.refusal.Spot.{Spot}
 use Rattle.ae_tree.specs.declared.tree.Ty.{Ty}
