@@ -20,7 +20,7 @@ abbrev pub gone_at : Parameter → Option Expression → Option ℕ
 gone_at t o = given o None (λ e. given_away (taker_of t, e))
 
 -- what there is from a place on
-from_there_on : (es : List Expression) (i : ℕ) → drop i es ≡ cons_option (slice_get es i) (drop (suc i) es)
+pub from_there_on : (es : List Expression) (i : ℕ) → drop i es ≡ cons_option (slice_get es i) (drop (suc i) es)
 from_there_on [] zero = refl
 from_there_on [] (suc i) = refl
 from_there_on (e ∷ es) zero = refl
@@ -36,7 +36,7 @@ one_gone t ts None es more = ap (gone_with (t ∷ ts)) (more refl) ∙ sym (ap (
     no_more (u ∷ us) = refl
 one_gone t ts (Some e) es more = refl
 
-nothing_further : (es : List Expression) (i : ℕ) → slice_get es i ≡ None → drop (suc i) es ≡ []
+pub nothing_further : (es : List Expression) (i : ℕ) → slice_get es i ≡ None → drop (suc i) es ≡ []
 nothing_further [] zero h = refl
 nothing_further [] (suc i) h = refl
 nothing_further (e ∷ es) zero h = absurd (cc)

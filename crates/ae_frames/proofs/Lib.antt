@@ -6,6 +6,8 @@ pub use Rattle.ae_values.proofs as from_values
 pub use Rattle.ae_reads.proofs as from_reads
 pub use Rattle.ae_stores.proofs as from_stores
 pub mod ArgumentLemmas
+pub mod AskedLemmas
+pub mod CollectLemmas
 pub mod TakerLemmas
 pub mod NeedLemmas
 pub mod LendLemmas
@@ -18,6 +20,8 @@ pub mod NeedLists
 pub mod EnterLemmas
 pub mod EnteredLemmas
 pub mod BackLemmas
+pub mod TakenLemmas
+pub mod SparedLemmas
 pub mod LeftLemmas
 pub mod StayLemmas
 pub mod GroupLemmas

@@ -34,7 +34,7 @@ pub record IsEntered (x : EnteredCall) (i : Invocation) (before : State) (e : En
   pub number : x.callee.number ≡ e.number
   pub state : x.state ≡ seen run
   pub kept : IsKept x i (backs_of e.left.waiting.back.items) (lents_of e.left.waiting.lent.items) e.left.gone.items
-  pub left : IsLeftOf (lents_of e.left.waiting.lent.items) before
+  pub left : IsLeftOf (backs_of e.left.waiting.back.items) (lents_of e.left.waiting.lent.items) e.left.gone.items before
       (waiting_state e.left.waiting.base e.left.result run.env)
   pub names : shapes (running_binds run.env) ≡ names_entered x
 

@@ -1,10 +1,13 @@
 -- What is kept of a caller while its method runs, and how all comes back from it.
-use Rattle.std.specs.Prelude.{◌≡◌, ℕ, Bool, false, if◌then◌else◌, List, [], ◌∷◌, zip, filter_map, Option, None, Some}
+use Rattle.std.specs.Prelude.{◌≡◌, ℕ, Bool, true, false, if◌then◌else◌, List, [], ◌∷◌, zip, filter_map, Option, None}
+use Rattle.std.specs.Prelude.{Some, option_map}
 use Rattle.ae_tree.specs.declared.tree.GroupNeed.{GroupNeed}
 use Rattle.ae_tree.specs.Plain.{Invocation}
+use Rattle.ae_rules.specs.Lookups.{has_name}
 use Rattle.ae_rules.specs.Calls.{givens}
-use Rattle.ae_semantics.specs.Places.{Outcome, Fine, ◌>>=◌, there, State, Address, write, with}
+use Rattle.ae_semantics.specs.Places.{Outcome, Fine, ◌>>=◌, there, State, Bound, Address, write, with}
 use Rattle.ae_semantics.specs.Calls.{Argument, Taker, value_comes_back, without_moved, given_away}
+use Rattle.ae_stores.specs.Stand.{is_local, nulled}
 use Rattle.ae_frames.specs.Entries.{EnteredCall}
 use Rattle.ae_frames.specs.Granting.{LentGroup, lent_from, is_holder}
 
@@ -41,9 +44,23 @@ groups_come_back (l ∷ ls) after s = groups_come_back ls after
 abbrev pub brought_back : List ComesBack → List LentGroup → List ℕ → State → State → Outcome State
 brought_back back lent gone after s = values_brought_back back after (groups_come_back lent after (without_moved gone s))
 
--- what is left of the caller, where these groups are lent: all else is as it was
-pub record IsLeftOf (lent : List LentGroup) (before s : State) : Type 0 where
-  pub locals : s.locals ≡ before.locals
+-- the places in a local to which values come back
+abbrev pub backs_to : ℕ → List ComesBack → List (List ℕ)
+backs_to y [] = []
+backs_to y (x ∷ xs) = if is_local y x.at.base then x.at.fields ∷ backs_to y xs else backs_to y xs
+
+-- What is left of a local of the caller: it is as it was, or it is given away, or the one value that comes back to it
+-- was taken out of its place.
+pub data IsLocalLeft (back : List ComesBack) (gone : List ℕ) (y : ℕ) (before now : Option Bound) : Type 0 where
+  AsItWas : now ≡ before → IsLocalLeft back gone y before now
+  GivenAway : has_name gone y ≡ true → IsLocalLeft back gone y before now
+  TakenOut : (fields : List ℕ) → backs_to y back ≡ fields ∷ [] → now ≡ option_map (nulled fields) before
+      → IsLocalLeft back gone y before now
+
+-- what is left of the caller, where these values come back, these groups are lent and these names are given away: all
+-- else is as it was
+pub record IsLeftOf (back : List ComesBack) (lent : List LentGroup) (gone : List ℕ) (before s : State) : Type 0 where
+  pub locals : (y : ℕ) → IsLocalLeft back gone y (before.locals y) (s.locals y)
   pub groups : (y : ℕ) → is_holder lent y ≡ false → s.groups y ≡ before.groups y
   pub result : s.result ≡ before.result
 

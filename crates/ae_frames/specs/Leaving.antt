@@ -38,7 +38,7 @@ GroupsStay x after = (g : ℕ) → has_name (need_names x.callee.method.needs) g
 abbrev pub CallsLeaveAlike : Type 0
 CallsLeaveAlike = (p : Code) (here : Where) (i : Invocation) (before after s : State) (x : EnteredCall) (back : List ComesBack)
     (lent : List LentGroup) (gone : List ℕ) → entered p i before ≡ Fine x → IsKept x i back lent gone
-    → IsLeftOf lent before s → GroupsStay x after
+    → IsLeftOf back lent gone before s → GroupsStay x after
     → brought_back back lent gone after s ≡ leave (frame_of p here x) i before after
 
 -- Where the names of a body have at its end the shapes with which it began, the groups that were needed stay.

@@ -1,5 +1,6 @@
 pub mod Entries
 pub mod Givens
+pub mod Asking
 pub mod Bounds
 pub mod Granting
 pub mod Kept

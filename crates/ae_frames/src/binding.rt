@@ -8,28 +8,18 @@ ghost use Rattle.ae_values.specs.declared.env.Bound.TheVariants as bound;
 ghost use Rattle.ae_values.specs.Environments.{bound_under, running_binds, waiting_binds};
 ghost use Rattle.ae_values.specs.Shapes.{shapes, OfLocal};
 ghost use Rattle.ae_frames.specs.Entries.{all_differ};
-ghost use Rattle.ae_semantics.specs.Calls.{value_comes_back};
-ghost use Rattle.ae_calls.specs.Param.{slot_of};
 ghost use Rattle.ae_frames.specs.Givens.{origin_of, argument_of, arguments_of, taker_of, takers_of, names_bound_by};
 ghost use Rattle.ae_frames.specs.Bounds.{bound_by, shapes_by};
 ghost use Rattle.ae_frames.specs.Kept.{returning, back_from};
 ghost use Rattle.ae_frames.specs.Shown.{backs_of, bound_to, shapes_to, group_names_of};
 
+use crate::arguments::comes_back;
 use crate::given::{Arg, Origin, Parameter};
 use crate::granted::{Back, Granted};
-use ae_calls::ParamSlot;
-use ae_judge::is_unique;
 use ae_text::Memory;
 use ae_tree::Name;
 use ae_values::Env;
 use std::alloc::Global;
-
-// Whether what a parameter of this slot holds comes back.
-fn comes_back(slot: &ParamSlot) -> bool
-    ensures { result ≡ value_comes_back (slot_of slot.now) }
-{
-    is_unique(&slot.form) && !slot.away
-}
 
 // Notes that what a parameter holds comes back, where it does.
 fn note_back(

@@ -27,3 +27,18 @@ pub struct Parameter {
     pub name: Name,
     pub slot: ParamSlot,
 }
+
+/// A value that stands in a local, at the place to which these fields lead.
+#[derive(Drop)]
+pub struct Standing {
+    pub name: Name,
+    pub fields: Vec<u32>,
+}
+
+/// What an argument comes to before the call begins: a value of its own, or one that stands in a local of the caller
+/// and that is not the caller's while the method runs, so that it needs no copy.
+#[derive(Drop)]
+pub enum Asked {
+    Read(Arg),
+    Stands(Standing),
+}

@@ -1,40 +1,32 @@
 // The names that are given away with the arguments of a call.
 ghost use Rattle.std.specs.Prelude.{◌≡◌, None, IfOk, zip, filter_map, slice_get};
 ghost use Rattle.ae_rules.specs.Verdict.{given};
-ghost use Rattle.ae_tree.specs.Plain.{Read};
-ghost use Rattle.ae_tree.specs.Shown.{expression, invocation};
+ghost use Rattle.ae_tree.specs.Shown.{invocation};
 ghost use Rattle.ae_rules.specs.Calls.{givens};
 ghost use Rattle.ae_semantics.specs.Calls as spec;
+ghost use Rattle.ae_frames.specs.Asking as view;
 ghost use Rattle.ae_frames.specs.Givens.{taker_of, takers_of};
 
 use crate::given::Parameter;
+use crate::handed::{Handed, handed_at};
 use ae_judge::{moves, name_into};
 use ae_text::Memory;
-use ae_tree::{Call, Expr, Form, Name, Path};
+use ae_tree::{Call, Form, Name};
 use std::alloc::Global;
 
-// The name that goes away with an expression that a parameter is given.
-fn given_away(taker: &Parameter, expr: &Expr) -> Option<Name>
-    ensures { result ≡ spec.given_away (taker_of taker.now, expression expr.now) }
+/// The name that goes away with what a parameter is given. Takes no memory.
+pub(crate) fn given_away(taker: &Parameter, handed: Handed) -> Option<Name>
+    ensures { result ≡ spec.given_away (taker_of taker.now, view.handed handed) }
 {
-    if taker.slot.away {
-        name_into(&taker.slot.form, expr)
-    } else {
-        None
+    if !taker.slot.away {
+        return None;
     }
-}
-
-// The same of the receiver's path.
-fn path_given_away(taker: &Parameter, path: &Path) -> Option<Name>
-    ensures { result ≡ spec.given_away (taker_of taker.now, Read path.now) }
-{
-    if taker.slot.away {
-        match &taker.slot.form {
+    match handed {
+        Handed::Receiver(path) => match &taker.slot.form {
             Form::Int | Form::Bool => None,
             Form::Object(perm, _) => moves(*perm, path),
-        }
-    } else {
-        None
+        },
+        Handed::Written(expr) => name_into(&taker.slot.form, expr),
     }
 }
 
@@ -46,20 +38,9 @@ fn given_away_at(taker: &Parameter, call: &Call, at: usize) -> Option<Name>
       e,
     )) }
 {
-    match &call.on {
-        Some(path) => {
-            if at == 0 {
-                return path_given_away(taker, path);
-            }
-            match call.args.get(at - 1) {
-                Some(expr) => given_away(taker, expr),
-                None => None,
-            }
-        }
-        None => match call.args.get(at) {
-            Some(expr) => given_away(taker, expr),
-            None => None,
-        },
+    match handed_at(call, at) {
+        Some(handed) => given_away(taker, handed),
+        None => None,
     }
 }
 

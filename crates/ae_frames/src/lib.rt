@@ -4,10 +4,12 @@
 mod arguments;
 mod binding;
 mod callees;
+mod collecting;
 mod entering;
 mod given;
 mod gone;
 mod granted;
+mod handed;
 mod laws;
 mod leaving;
 mod left;

@@ -28,6 +28,6 @@ pub record LeadsBack (p : Code) (left : Left) (x : EnteredCall) (i : Invocation)
   pub was_entered : entered p i before ≡ Fine x
   pub awaits : Awaits left.waiting names waiting
   pub kept : IsKept x i (backs_of left.waiting.back.items) (lents_of left.waiting.lent.items) left.gone.items
-  pub caller : IsLeftOf (lents_of left.waiting.lent.items) before
+  pub caller : IsLeftOf (backs_of left.waiting.back.items) (lents_of left.waiting.lent.items) left.gone.items before
       (state_of one_name (option_map shown left.result) (drop left.waiting.base waiting))
   pub names_are : names ≡ names_entered x

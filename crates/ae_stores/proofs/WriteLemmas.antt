@@ -1,5 +1,5 @@
 -- Facts on writes: they go through where the whole value stays low, and are trap 8 where it would not.
-use Rattle.std.proofs.Common.{◌≡◌, refl, ap, ◌∙◌, ℕ, Bool, true, false, if◌then◌else◌, List, [], ◌∷◌, ◌++◌}
+use Rattle.std.proofs.Common.{◌≡◌, refl, ap, ◌∙◌, ℕ, Bool, true, if◌then◌else◌, List, [], ◌∷◌, ◌++◌}
 use Rattle.std.proofs.Common.{Option, Some, slice_get}
 use Rattle.std.specs.Prelude as prelude
 use Rattle.ae_semantics.specs.Values.{Val, Owned, Tree, Object, Array, Store, put_at, with_changed, is_low}

@@ -4,7 +4,7 @@ use Rattle.std.specs.Prelude.{slice_get, slice_set}
 use Rattle.ae_rules.specs.Verdict.{given}
 use Rattle.ae_semantics.specs.Values.{Val, Null, Owned, Tree, Array, put_at}
 use Rattle.ae_semantics.specs.Places.{Outcome, ◌>>=◌, there, Bound, State, Base, InLocal, InGroup, members, group_of}
-use Rattle.ae_semantics.specs.Places.{Fine, with_bound, write_in}
+use Rattle.ae_semantics.specs.Places.{Fine, with, with_bound, write_in}
 use Rattle.ae_values.specs.Inside.{value_inside, array_inside}
 
 -- the whole value in which the places of a base lie: that of a local, or a member
@@ -25,6 +25,18 @@ abbrev pub taken_at : State → Base → List ℕ → Outcome (Val × State)
 taken_at s base fields = there (value_standing s base fields)
     >>= λ v. write_in s base fields Null
     >>= λ t. Fine (v, t)
+
+-- what stands at a place in a local, or else null
+abbrev pub standing_or_null : State → ℕ → List ℕ → Val
+standing_or_null s x fields = given (value_standing s (InLocal x) fields) Null (λ v. v)
+
+-- a local with null at a place in it
+abbrev pub nulled : List ℕ → Bound → Bound
+nulled fields b = record { form = b.form; value = put_at fields Null b.value }
+
+-- null stands at a place in a local
+abbrev pub nulled_in : ℕ → List ℕ → State → State
+nulled_in x fields s = record s { locals = with x (option_map (nulled fields) (s.locals x)) s.locals }
 
 -- the items of the array that stands there, if there is one
 abbrev pub array_at : State → Base → List ℕ → Option (List ℤ)

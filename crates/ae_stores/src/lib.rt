@@ -10,6 +10,7 @@ mod reaching;
 mod slots;
 mod taking;
 
+pub use emptying::{copy_standing, take_standing};
 pub use fields::store;
 pub use items::store_at;
 pub use places::{TOO_HIGH, stays_low, write};

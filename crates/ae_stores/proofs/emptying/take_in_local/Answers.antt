@@ -1,4 +1,4 @@
-use Rattle.std.proofs.Common.{◌≡◌, Some, sym, ◌∙◌, subst, refl}
+use Rattle.std.proofs.Common.{◌≡◌, None, Some, sym, ◌∙◌, subst, refl}
 use Rattle.std.proofs.lemmas.Option.{none-some, same_Some}
 use Rattle.ae_semantics.specs.Values as meant
 use Rattle.ae_semantics.specs.Values.{put_at}
@@ -8,6 +8,8 @@ use Rattle.ae_values.specs.Environments.{bound_under}
 use Rattle.ae_stores.proofs.from_values.BindLemmas.{put_back, nothing_put}
 use Rattle.ae_stores.proofs.from_values.ChangeLemmas.{local_as_meant}
 use Rattle.ae_stores.proofs.from_values.ShapeLemmas.{shapes_put, shapes_same, changed_shape}
+use Rattle.ae_stores.proofs.EmptyLemmas.{IsNulled, nulled_is_seen, nothing_is_nulled, written_is_nulled}
+use Rattle.ae_stores.proofs.EmptyLemmas.{null_is_shown, stands_in_bound, nothing_stands}
 use Rattle.ae_stores.proofs.emptying.take_in_local.Goals as goal
 
 pub returns-in-Some-clause-meant : goal.returns-in-Some-clause-meant
@@ -53,3 +55,32 @@ pub returns-in-None-clause-shapes : goal.returns-in-None-clause-shapes
 returns-in-None-clause-shapes c = shapes_same c.args.env.now c.replace.new.self c.replace.ensures.stays.heads_stay
     (nothing_put c.args.name (bound_under c.args.env.now) (bound_under c.replace.new.self) (bound.Cell 0)
     (sym c.replace.ensures.was ∙ c.in-None.is) c.replace.ensures.bound)
+
+pub returns-in-Some-clause-nulled : goal.returns-in-Some-clause-nulled
+returns-in-Some-clause-nulled c = λ cells r.
+    let f = bound_under c.args.env.now in
+    let there : f c.args.name ≡ Some c.in-Some.bound = sym c.replace.ensures.was ∙ c.in-Some.is in
+    nulled_is_seen cells r c.args.env.now c.replace-in-Some.new.self c.args.name c.args.fields.now
+    (Some c.emptied-bound.result.0)
+    (put_back c.args.name f (bound_under c.replace.new.self) (bound_under c.replace-in-Some.new.self) c.in-Some.bound
+    (bound.Cell 0) c.emptied-bound.result.0 there c.replace.ensures.bound c.replace-in-Some.ensures.bound)
+    (subst (λ o. IsNulled cells c.args.fields.now o (Some c.emptied-bound.result.0)) (sym there)
+    (written_is_nulled cells c.args.fields.now c.in-Some.bound c.emptied-bound.result.0 c.emptied-bound.ensures.written))
+
+pub returns-in-Some-clause-standing : goal.returns-in-Some-clause-standing
+returns-in-Some-clause-standing c = λ cells r.
+    c.emptied-bound.ensures.standing
+    ∙ stands_in_bound c.args.fields.now (bound_under c.args.env.now c.args.name) c.in-Some.bound
+    (sym c.replace.ensures.was ∙ c.in-Some.is)
+
+pub returns-in-None-clause-nulled : goal.returns-in-None-clause-nulled
+returns-in-None-clause-nulled c = λ cells r.
+    let none : bound_under c.args.env.now c.args.name ≡ None = sym c.replace.ensures.was ∙ c.in-None.is in
+    nothing_is_nulled cells r c.args.env.now c.replace.new.self c.args.name c.args.fields.now
+    (nothing_put c.args.name (bound_under c.args.env.now) (bound_under c.replace.new.self) (bound.Cell 0)
+    none c.replace.ensures.bound) none
+
+pub returns-in-None-clause-standing : goal.returns-in-None-clause-standing
+returns-in-None-clause-standing c = λ cells r.
+    null_is_shown
+    ∙ nothing_stands c.args.fields.now (bound_under c.args.env.now c.args.name) (sym c.replace.ensures.was ∙ c.in-None.is)
