@@ -1,24 +1,13 @@
 -- Facts on the values of arguments, one after another.
-use Rattle.std.proofs.Common.{◌≡◌, ◌∙◌, ℕ, ◌+◌, ◌<◌, ap, List, [], ◌∷◌, ◌++◌, length, drop, get_or, subst, sym, refl}
-use Rattle.std.proofs.Common.{map}
-use Rattle.std.proofs.Common.{append_assoc, append-nil, false, Option, None, Some, option_map}
-use Rattle.std.proofs.Math.Seq.{drop-length}
-use Rattle.std.proofs.lemmas.List.{drop_more}
-use Rattle.ae_tree.specs.declared.tree.Expr.{Expr}
-use Rattle.ae_tree.specs.declared.tree.Path.{Path}
+use Rattle.std.proofs.Common.{◌≡◌, ◌∙◌, ap, List, [], ◌∷◌, ◌++◌, sym, refl}
+use Rattle.std.proofs.Common.{append_assoc, false, None}
 use Rattle.ae_tree.specs.Plain.{Code, Expression, Number, Truth, Nothing, Read, Item, Length, Grouped, Negated, Minus}
 use Rattle.ae_tree.specs.Plain.{Binary}
-use Rattle.ae_rules.specs.Calls.{if_some}
-use Rattle.ae_tree.specs.Shown.{expression}
 use Rattle.ae_semantics.specs.Places as places
 use Rattle.ae_semantics.specs.Places.{Outcome, Fine, ◌>>=◌, State}
 use Rattle.ae_semantics.specs.Expressions.{value}
 use Rattle.ae_semantics.specs.Calls.{Argument, argument, each_argument}
-use Rattle.ae_reads.specs.declared.stop.Stop.{Stop}
-use Rattle.ae_reads.specs.declared.stop.Stop.TheVariants as stop
-use Rattle.ae_reads.specs.Answers.{FaultsAs}
-use Rattle.ae_frames.specs.Givens.{is_path, receivers}
-use Rattle.ae_frames.proofs.from_reads.WalkLemmas.{faults_go_on, faults_equal}
+use Rattle.ae_frames.specs.Givens.{is_path}
 
 -- what is fine is one thing
 same_fine : {A : Type 0} (x y : A) → Fine x ≡ Fine y → x ≡ y

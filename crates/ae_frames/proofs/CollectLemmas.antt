@@ -1,5 +1,5 @@
 -- Facts on arguments that are collected, and on the locals that are left.
-use Rattle.std.proofs.Common.{◌≡◌, ◌⊎◌, inl, inr, refl, sym, ap, ◌∙◌, subst, ℕ, zero, suc, nat_eq, Bool, true, false}
+use Rattle.std.proofs.Common.{◌≡◌, refl, sym, ap, ◌∙◌, subst, ℕ, nat_eq, Bool, true, false}
 use Rattle.std.proofs.Common.{not, ◌||◌, if◌then◌else◌, List, [], ◌∷◌, ◌++◌, map, append-nil, append_assoc, Option, None}
 use Rattle.std.proofs.Common.{Some, option_map, is_some}
 use Rattle.std.proofs.lemmas.List.{map-append}
@@ -11,7 +11,7 @@ use Rattle.ae_semantics.specs.Values.{Val, Null}
 use Rattle.ae_semantics.specs.Places.{State, Bound, with}
 use Rattle.ae_semantics.specs.Calls.{Argument}
 use Rattle.ae_values.specs.Inside.{value_inside}
-use Rattle.ae_stores.specs.Stand.{nulled, standing_or_null}
+use Rattle.ae_stores.specs.Stand.{nulled}
 use Rattle.ae_frames.specs.declared.given.Arg.{Arg}
 use Rattle.ae_frames.specs.declared.given.Asked.{Asked}
 use Rattle.ae_frames.specs.declared.given.Asked.TheVariants as asked
@@ -26,12 +26,16 @@ use Rattle.ae_frames.proofs.from_text.Basics.{functions_agree, number_is_itself}
 named_has_place : (y : ℕ) (xs : List Asked) → has_name (names_standing xs) y ≡ not (is_empty (stands_in y xs))
 named_has_place y [] = refl
 named_has_place y (asked.Read a ∷ xs) = named_has_place y xs
-named_has_place y (asked.Stands x ∷ xs) = by_test (nat_eq x.name y)
+named_has_place y (asked.Stands x ∷ xs) = by_test (named_has_place y xs) (nat_eq x.name y)
   where
-    by_test : (t : Bool) → (t || has_name (names_standing xs) y)
+    by_test : has_name (names_standing xs) y ≡ not (is_empty (stands_in y xs)) → (t : Bool) → (t || has_name (names_standing xs) y)
         ≡ not (is_empty (if t then x.fields.items ∷ stands_in y xs else stands_in y xs))
-    by_test true = refl
-    by_test false = named_has_place y xs
+    by_test further true = refl
+    by_test further false = further
+
+-- whether a name stands once, where it was found already, or not yet
+abbrev pub once_from : Bool → ℕ → List ℕ → Bool
+once_from found x xs = if found then not (has_name xs x) else is_once x xs
 
 only_of_more : (f : List ℕ) (fs : List (List ℕ)) → not (not (is_empty fs)) ≡ is_some (only (f ∷ fs))
 only_of_more f [] = refl
@@ -40,22 +44,22 @@ only_of_more f (g ∷ gs) = refl
 once_is_only : (y : ℕ) (xs : List Asked) → is_once y (names_standing xs) ≡ is_some (only (stands_in y xs))
 once_is_only y [] = refl
 once_is_only y (asked.Read a ∷ xs) = once_is_only y xs
-once_is_only y (asked.Stands x ∷ xs) = by_test (nat_eq x.name y)
+once_is_only y (asked.Stands x ∷ xs) = by_test (once_is_only y xs) (nat_eq x.name y)
   where
-    by_test : (t : Bool) → (if t then not (has_name (names_standing xs) y) else is_once y (names_standing xs))
+    by_test : is_once y (names_standing xs) ≡ is_some (only (stands_in y xs)) → (t : Bool) → (if t then not (has_name (names_standing xs) y) else is_once y (names_standing xs))
         ≡ is_some (only (if t then x.fields.items ∷ stands_in y xs else stands_in y xs))
-    by_test true = ap not (named_has_place y xs) ∙ only_of_more x.fields.items (stands_in y xs)
-    by_test false = once_is_only y xs
+    by_test further true = ap not (named_has_place y xs) ∙ only_of_more x.fields.items (stands_in y xs)
+    by_test further false = further
 
 stands_in_both : (y : ℕ) (xs zs : List Asked) → stands_in y (xs ++ zs) ≡ stands_in y xs ++ stands_in y zs
 stands_in_both y [] zs = refl
 stands_in_both y (asked.Read a ∷ xs) zs = stands_in_both y xs zs
-stands_in_both y (asked.Stands x ∷ xs) zs = by_test (nat_eq x.name y)
+stands_in_both y (asked.Stands x ∷ xs) zs = by_test (stands_in_both y xs zs) (nat_eq x.name y)
   where
-    by_test : (t : Bool) → (if t then x.fields.items ∷ stands_in y (xs ++ zs) else stands_in y (xs ++ zs))
+    by_test : stands_in y (xs ++ zs) ≡ stands_in y xs ++ stands_in y zs → (t : Bool) → (if t then x.fields.items ∷ stands_in y (xs ++ zs) else stands_in y (xs ++ zs))
         ≡ (if t then x.fields.items ∷ stands_in y xs else stands_in y xs) ++ stands_in y zs
-    by_test true = ap (λ ws. x.fields.items ∷ ws) (stands_in_both y xs zs)
-    by_test false = stands_in_both y xs zs
+    by_test further true = ap (λ ws. x.fields.items ∷ ws) further
+    by_test further false = further
 
 -- the only one of a list that has this one is this one, and no other follows
 abbrev pub IsAlone : List ℕ → List (List ℕ) → Option (List ℕ) → Type 0
@@ -206,7 +210,7 @@ one_more_collected all before rest xs ys x a s t h is left more = record {
       ∙ ap (λ zs. zs ++ map (asked_in before) rest) (map-append argument_of xs (a ∷ []))
       ∙ append_assoc (arguments_of xs) (argument_of a ∷ []) (map (asked_in before) rest)
       ∙ ap (λ (v : Argument). arguments_of xs ++ v ∷ map (asked_in before) rest)
-          (is ∙ ap (λ (u : State). asked_in u x) h.left ∙ same_given all rest x before)
+      (is ∙ ap (λ (u : State). asked_in u x) h.left ∙ same_given all rest x before)
       ∙ h.given;
   left = left ∙ ap (left_by (names_standing all) x) h.left ∙ left_after all h.earlier rest x before h.are;
 }

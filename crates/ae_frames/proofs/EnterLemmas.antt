@@ -21,6 +21,7 @@ use Rattle.ae_reads.specs.Answers.{one_name}
 use Rattle.ae_running.specs.declared.running.Running.{Running}
 use Rattle.ae_frames.specs.declared.given.Arg.{Arg}
 use Rattle.ae_frames.specs.declared.given.Parameter.{Parameter}
+use Rattle.ae_frames.specs.declared.granted.Lent.{Lent}
 use Rattle.ae_frames.specs.declared.entering.Entered.{Entered}
 use Rattle.ae_frames.specs.Entries.{EnteredCall, entered_call, names_apart, all_differ, need_names, param_shape}
 use Rattle.ae_frames.specs.Givens.{arguments_of, takers_of}
@@ -77,12 +78,11 @@ pub record IsBegun (groups : ℕ → ℕ) (i : Invocation) (f : ℕ → Option B
   pub gone : x.left.gone.items ≡ filter_map given_away (zip (takers_of ts) (givens i))
 
 -- the locals of the caller wait as they were
-pub begun_keeps_locals : (groups : ℕ → ℕ) (i : Invocation) (f : ℕ → Option Bound) (ns : List GroupNeed)
-    (ts : List Parameter) (xs : List Arg) (x : Entered) (run : Running) → IsBegun groups i f ns ts xs x run
-    → locals_in (bound_in (drop x.left.waiting.base (waiting_binds run.env))) ≡ locals_in f
-begun_keeps_locals groups i f ns ts xs x run b = ap locals_in b.waits
-    ∙ placed_keeps_locals (lents_of x.left.waiting.lent.items) f
-    (λ y has. holders_are_no_locals groups f [] ns y (subst (λ zs. is_holder zs y ≡ true) b.lent has))
+pub begun_keeps_locals : (groups : ℕ → ℕ) (f : ℕ → Option Bound) (ns : List GroupNeed) (lent : List Lent)
+    (w : ℕ → Option Bound) → lents_of lent ≡ all_lent groups (groups_in one_name f) [] ns
+    → w ≡ with_placeholders (lents_of lent) f → locals_in w ≡ locals_in f
+begun_keeps_locals groups f ns lent w lent_is waits = ap locals_in waits ∙ placed_keeps_locals (lents_of lent) f
+    (λ y has. holders_are_no_locals groups f [] ns y (subst (λ zs. is_holder zs y ≡ true) lent_is has))
 
 -- what was begun was entered
 begun_is_entered : (p : Code) (i : Invocation) (f : ℕ → Option Bound) (r : Option Val) (k : Callee)
@@ -113,7 +113,8 @@ begun_is_entered p i f r k ts xs x run apart taken_is none kept method number b 
         gone = b.gone ∙ ap (λ zs. filter_map given_away (zip zs (givens i))) taken_is;
       };
       left = record {
-        locals = λ y. AsItWas (ap (λ (l : ℕ → Option meant.Bound). l y) (begun_keeps_locals groups i f ns ts xs x run b));
+        locals = λ y. AsItWas (ap (λ (l : ℕ → Option meant.Bound). l y) (begun_keeps_locals groups f ns
+            x.left.waiting.lent.items (bound_in (drop x.left.waiting.base (waiting_binds run.env))) b.lent b.waits));
         groups = λ y other. ap (λ (h : ℕ → Option Bound). groups_in one_name h y) b.waits
             ∙ placed_keeps_others (lents_of x.left.waiting.lent.items) f y other;
         result = kept;

@@ -1,5 +1,5 @@
 -- Facts on the locals of a caller out of which values were handed over: what is not there comes back, or is given away.
-use Rattle.std.proofs.Common.{◌≡◌, ◌⊎◌, inl, inr, refl, sym, ap, ◌∙◌, subst, ℕ, zero, suc, nat_eq, Bool, true, false}
+use Rattle.std.proofs.Common.{◌≡◌, ◌⊎◌, inl, inr, refl, sym, ap, ◌∙◌, subst, ℕ, nat_eq, Bool, true, false}
 use Rattle.std.proofs.Common.{not, ◌&&◌, ◌||◌, if◌then◌else◌, List, [], ◌∷◌, map, Option, None, Some, option_map}
 use Rattle.std.specs.Prelude.{zip, filter_map}
 use Rattle.std.specs.List.{cons_option}
@@ -7,17 +7,17 @@ use Rattle.std.proofs.lemmas.Bool.{eqb-true}
 use Rattle.ae_tree.specs.Plain.{Expression}
 use Rattle.ae_rules.specs.Lookups.{has_name}
 use Rattle.ae_rules.specs.Verdict.{given}
-use Rattle.ae_semantics.specs.Places.{State, Bound, Base, InLocal, InGroup, Address}
+use Rattle.ae_semantics.specs.Places.{State, Bound}
 use Rattle.ae_semantics.specs.Calls.{Taker, given_away, value_comes_back}
 use Rattle.ae_reads.specs.declared.found.Base as code
 use Rattle.ae_reads.specs.declared.found.Base.TheVariants as b
 use Rattle.ae_reads.specs.Views.{base_of}
-use Rattle.ae_stores.specs.Stand.{is_local, nulled}
+use Rattle.ae_stores.specs.Stand.{nulled}
 use Rattle.ae_frames.specs.declared.given.Origin.{Origin}
 use Rattle.ae_frames.specs.declared.given.Asked.{Asked}
 use Rattle.ae_frames.specs.declared.given.Asked.TheVariants as asked
 use Rattle.ae_frames.specs.declared.given.Standing.{Standing}
-use Rattle.ae_frames.specs.Asking.{asked_in, is_in_local, is_name, is_spared, AreSpared, locals_left, only, standing_at}
+use Rattle.ae_frames.specs.Asking.{asked_in, is_in_local, is_name, AreSpared, locals_left, only, standing_at}
 use Rattle.ae_frames.specs.Asking.{stands_in}
 use Rattle.ae_frames.specs.Givens.{origin_of}
 use Rattle.ae_frames.specs.Kept.{ComesBack, IsLocalLeft, AsItWas, GivenAway, TakenOut, back_from, backs_to, returning}
@@ -79,20 +79,22 @@ nothing_comes y s (t ∷ ts) [] (asked.Read a ∷ xs) h none =
     own_elsewhere y t.0 (value_comes_back t.1) a.from (backs ts xs s) h.0 ∙ nothing_comes y s ts [] xs h.1 none
 nothing_comes y s (t ∷ ts) (e ∷ es) (asked.Read a ∷ xs) h none =
     own_elsewhere y t.0 (value_comes_back t.1) a.from (backs ts xs s) h.0 ∙ nothing_comes y s ts es xs h.1 none
-nothing_comes y s (t ∷ ts) [] (asked.Stands x ∷ xs) h none = by_test (nat_eq x.name y) refl none
+nothing_comes y s (t ∷ ts) [] (asked.Stands x ∷ xs) h none =
+    by_test (nothing_comes y s ts [] xs h.1) (nat_eq x.name y) refl none
   where
-    by_test : (u : Bool) → nat_eq x.name y ≡ u
+    by_test : (stands_in y xs ≡ [] → backs_to y (backs ts xs s) ≡ []) → (u : Bool) → nat_eq x.name y ≡ u
         → (if u then x.fields.items ∷ stands_in y xs else stands_in y xs) ≡ []
         → backs_to y (backs (t ∷ ts) (asked.Stands x ∷ xs) s) ≡ []
-    by_test true q k = absurd (no_more_places x.fields.items (stands_in y xs) k)
-    by_test false q k = elsewhere y t.0 (value_comes_back t.1) x (backs ts xs s) q ∙ nothing_comes y s ts [] xs h.1 k
-nothing_comes y s (t ∷ ts) (e ∷ es) (asked.Stands x ∷ xs) h none = by_test (nat_eq x.name y) refl none
+    by_test further true q k = absurd (no_more_places x.fields.items (stands_in y xs) k)
+    by_test further false q k = elsewhere y t.0 (value_comes_back t.1) x (backs ts xs s) q ∙ further k
+nothing_comes y s (t ∷ ts) (e ∷ es) (asked.Stands x ∷ xs) h none =
+    by_test (nothing_comes y s ts es xs h.1) (nat_eq x.name y) refl none
   where
-    by_test : (u : Bool) → nat_eq x.name y ≡ u
+    by_test : (stands_in y xs ≡ [] → backs_to y (backs ts xs s) ≡ []) → (u : Bool) → nat_eq x.name y ≡ u
         → (if u then x.fields.items ∷ stands_in y xs else stands_in y xs) ≡ []
         → backs_to y (backs (t ∷ ts) (asked.Stands x ∷ xs) s) ≡ []
-    by_test true q k = absurd (no_more_places x.fields.items (stands_in y xs) k)
-    by_test false q k = elsewhere y t.0 (value_comes_back t.1) x (backs ts xs s) q ∙ nothing_comes y s ts es xs h.1 k
+    by_test further true q k = absurd (no_more_places x.fields.items (stands_in y xs) k)
+    by_test further false q k = elsewhere y t.0 (value_comes_back t.1) x (backs ts xs s) q ∙ further k
 
 -- The one value comes back to the local, or the local is given away.
 abbrev pub IsOne : ℕ → List ℕ → List ComesBack → List ℕ → Type 0
@@ -141,27 +143,29 @@ one_comes y f s (t ∷ ts) [] (asked.Read a ∷ xs) h one = by_rest (one_comes y
 one_comes y f s (t ∷ ts) (e ∷ es) (asked.Read a ∷ xs) h one =
     gone_more y f (backs ts xs s) (backs (t ∷ ts) (asked.Read a ∷ xs) s) (given_away (t, e)) (goners ts es)
     (own_elsewhere y t.0 (value_comes_back t.1) a.from (backs ts xs s) h.0) (one_comes y f s ts es xs h.1 one)
-one_comes y f s (t ∷ ts) [] (asked.Stands x ∷ xs) h one = by_test (nat_eq x.name y) refl one
+one_comes y f s (t ∷ ts) [] (asked.Stands x ∷ xs) h one =
+    by_test (one_comes y f s ts [] xs h.1) (nat_eq x.name y) refl one
   where
-    by_test : (u : Bool) → nat_eq x.name y ≡ u
+    by_test : (stands_in y xs ≡ f ∷ [] → IsOne y f (backs ts xs s) (goners ts [])) → (u : Bool) → nat_eq x.name y ≡ u
         → (if u then x.fields.items ∷ stands_in y xs else stands_in y xs) ≡ f ∷ []
         → IsOne y f (backs (t ∷ ts) (asked.Stands x ∷ xs) s) []
-    by_test true q k = first_is_one y t.0 f (value_comes_back t.1) None x (backs ts xs s) [] q
+    by_test further true q k = first_is_one y t.0 f (value_comes_back t.1) None x (backs ts xs s) [] q
         (first_same x.fields.items f (stands_in y xs) [] k)
         (nothing_comes y s ts [] xs h.1 (rest_same x.fields.items f (stands_in y xs) [] k)) h.0
-    by_test false q k = gone_more y f (backs ts xs s) (backs (t ∷ ts) (asked.Stands x ∷ xs) s) None []
+    by_test further false q k = gone_more y f (backs ts xs s) (backs (t ∷ ts) (asked.Stands x ∷ xs) s) None []
         (elsewhere y t.0 (value_comes_back t.1) x (backs ts xs s) q)
-        (subst (λ gone. IsOne y f (backs ts xs s) gone) (none_given ts) (one_comes y f s ts [] xs h.1 k))
-one_comes y f s (t ∷ ts) (e ∷ es) (asked.Stands x ∷ xs) h one = by_test (nat_eq x.name y) refl one
+        (subst (λ gone. IsOne y f (backs ts xs s) gone) (none_given ts) (further k))
+one_comes y f s (t ∷ ts) (e ∷ es) (asked.Stands x ∷ xs) h one =
+    by_test (one_comes y f s ts es xs h.1) (nat_eq x.name y) refl one
   where
-    by_test : (u : Bool) → nat_eq x.name y ≡ u
+    by_test : (stands_in y xs ≡ f ∷ [] → IsOne y f (backs ts xs s) (goners ts es)) → (u : Bool) → nat_eq x.name y ≡ u
         → (if u then x.fields.items ∷ stands_in y xs else stands_in y xs) ≡ f ∷ []
         → IsOne y f (backs (t ∷ ts) (asked.Stands x ∷ xs) s) (goners (t ∷ ts) (e ∷ es))
-    by_test true q k = first_is_one y t.0 f (value_comes_back t.1) (given_away (t, e)) x (backs ts xs s) (goners ts es) q
+    by_test further true q k = first_is_one y t.0 f (value_comes_back t.1) (given_away (t, e)) x (backs ts xs s) (goners ts es) q
         (first_same x.fields.items f (stands_in y xs) [] k)
         (nothing_comes y s ts es xs h.1 (rest_same x.fields.items f (stands_in y xs) [] k)) h.0
-    by_test false q k = gone_more y f (backs ts xs s) (backs (t ∷ ts) (asked.Stands x ∷ xs) s) (given_away (t, e))
-        (goners ts es) (elsewhere y t.0 (value_comes_back t.1) x (backs ts xs s) q) (one_comes y f s ts es xs h.1 k)
+    by_test further false q k = gone_more y f (backs ts xs s) (backs (t ∷ ts) (asked.Stands x ∷ xs) s) (given_away (t, e))
+        (goners ts es) (elsewhere y t.0 (value_comes_back t.1) x (backs ts xs s) q) (further k)
 
 -- each local of the caller is left as it may be
 pub locals_are_left : (s : State) (ts : List Taker) (es : List Expression) (xs : List Asked) (l : ℕ → Option Bound)

@@ -2,8 +2,8 @@
 use Rattle.std.specs.Prelude as prelude
 use Rattle.std.proofs.Common.{◌≡◌, ◌⊎◌, inl, inr, refl, sym, ap, ◌∙◌, subst, ℕ, zero, suc, nat_eq, Bool, true, false}
 use Rattle.std.proofs.Common.{if◌then◌else◌, ◌||◌, List, [], ◌∷◌, Option, None, Some, option_map, slice_get}
+use Rattle.std.proofs.lemmas.Bool.{eqb-true, eq-eqb, ne_eqb}
 use Rattle.ae_rules.specs.Lookups.{has_name}
-use Rattle.ae_rules.specs.Verdict.{given}
 use Rattle.ae_tree.specs.declared.form.Form.{Form}
 use Rattle.ae_semantics.specs.Values.{Val, OfInt, OfBool, Null, Owned, Member, Tree, Object, Array, Values, NoValue}
 use Rattle.ae_semantics.specs.Values.{AndValue, Store, with_changed, put_at}
@@ -11,12 +11,12 @@ use Rattle.ae_semantics.specs.Places as places
 use Rattle.ae_semantics.specs.Places.{Outcome, Fine, ◌>>=◌, there, low, Group, State, Bound, Base, InLocal, InGroup}
 use Rattle.ae_semantics.specs.Places.{with, with_bound, with_member, rewrite_member, store_of, write_in, write}
 use Rattle.ae_semantics.specs.Calls.{without_moved}
-use Rattle.ae_stores.specs.Stand.{is_local, nulled}
+use Rattle.ae_stores.specs.Stand.{nulled}
 use Rattle.ae_frames.specs.Asking.{with_locals}
 use Rattle.ae_frames.specs.Granting.{LentGroup}
-use Rattle.ae_frames.specs.Kept.{ComesBack, IsLocalLeft, AsItWas, GivenAway, TakenOut, backs_to, comes_back}
+use Rattle.ae_frames.specs.Kept.{ComesBack, IsLocalLeft, AsItWas, GivenAway, TakenOut, backs_to}
 use Rattle.ae_frames.specs.Kept.{values_brought_back, groups_come_back, brought_back}
-use Rattle.ae_frames.proofs.from_text.Basics.{functions_agree, number_is_itself}
+use Rattle.ae_frames.proofs.from_text.Basics.{functions_agree, no_test_is_both, number_is_itself}
 
 -- ---- a place that is written twice
 
@@ -58,7 +58,7 @@ nothing_taken l m h y = by_case (h y)
   where
     by_case : IsAlike [] y (l y) (m y) → l y ≡ m y
     by_case (inl e) = e
-    by_case (inr w) = absurd (cc w.2.0)
+    by_case (inr w) = absurd (cc w.1)
 
 -- where a member is written
 member_alike : (xs : List ComesBack) (after s : State) (g n : ℕ) (fields : List ℕ) (new : Val) (l : ℕ → Option Bound)
@@ -98,10 +98,11 @@ member_alike xs after s g n fields new l further h = by_store (store_of s g)
 
 -- tests of two numbers are the same both ways
 pub swapped : (m n : ℕ) → nat_eq m n ≡ nat_eq n m
-swapped zero zero = refl
-swapped zero (suc n) = refl
-swapped (suc m) zero = refl
-swapped (suc m) (suc n) = swapped m n
+swapped m n = by_test (nat_eq m n) refl
+  where
+    by_test : (t : Bool) → nat_eq m n ≡ t → t ≡ nat_eq n m
+    by_test true e = sym (eq-eqb n m (sym (eqb-true m n e)))
+    by_test false e = sym (ne_eqb n m (λ (k : n ≡ m). no_test_is_both (nat_eq m n) (eq-eqb m n (sym k)) e))
 
 -- a value that comes back to a local
 abbrev pub to_local : ℕ → ℕ → List ℕ → ComesBack
@@ -182,20 +183,20 @@ local_alike name z fields xs after s new l further h = by_case (h z)
 come_alike : (back : List ComesBack) (after : State) → ComeAlike back after
 come_alike [] after l s h = ap (λ (m : ℕ → Option Bound). Fine (with_locals m s)) (functions_agree l s.locals
     (nothing_taken l s.locals h))
-come_alike (x ∷ xs) after l s h = by_value (after.locals x.name)
+come_alike (x ∷ xs) after l s h = by_value (come_alike xs after) (after.locals x.name)
   where
-    by_base : (new : Val) (base : Base)
+    by_base : ComeAlike xs after → (new : Val) (base : Base)
         → AreAlike (record { name = x.name; at = record { base = base; fields = x.at.fields } } ∷ xs) l s.locals
         → (write_in (with_locals l s) base x.at.fields new >>= values_brought_back xs after)
         ≡ (write_in s base x.at.fields new >>= values_brought_back xs after)
-    by_base new (InLocal z) k = local_alike x.name z x.at.fields xs after s new l (come_alike xs after) k
-    by_base new (InGroup g n) k = member_alike xs after s g n x.at.fields new l (come_alike xs after) k
+    by_base further new (InLocal z) k = local_alike x.name z x.at.fields xs after s new l further k
+    by_base further new (InGroup g n) k = member_alike xs after s g n x.at.fields new l further k
 
-    by_value : (o : Option Bound)
+    by_value : ComeAlike xs after → (o : Option Bound)
         → ((there o >>= λ b. write (with_locals l s) x.at b.value) >>= values_brought_back xs after)
         ≡ ((there o >>= λ b. write s x.at b.value) >>= values_brought_back xs after)
-    by_value None = refl
-    by_value (Some b) = by_base b.value x.at.base h
+    by_value further None = refl
+    by_value further (Some b) = by_base further b.value x.at.base h
 
 -- ---- the caller before values come back to it
 

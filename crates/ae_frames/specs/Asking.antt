@@ -1,6 +1,7 @@
 -- What the arguments of a call come to before it begins, and what is left of the caller's locals once it has begun.
 use Rattle.std.specs.Prelude.{◌≡◌, ℕ, nat_eq, Bool, true, false, not, ◌&&◌, ◌||◌, if◌then◌else◌, List, [], ◌∷◌, map}
 use Rattle.std.specs.Prelude.{Option, None, Some, option_map}
+use Rattle.std.specs.Borrow.{Bor}
 use Rattle.std.specs.declared.alloc.Global.{Global}
 use Rattle.std.specs.declared.vec.Vec.{Vec}
 use Rattle.ae_tree.specs.Plain.{Expression, Read}
@@ -16,12 +17,17 @@ use Rattle.ae_frames.specs.declared.given.Asked.TheVariants as asked
 use Rattle.ae_frames.specs.declared.given.Standing.{Standing}
 use Rattle.ae_frames.specs.declared.handed.Handed.{Handed}
 use Rattle.ae_frames.specs.declared.handed.Handed.TheVariants as hand
-use Rattle.ae_frames.specs.Givens.{argument_of}
+use Rattle.ae_frames.specs.declared.given.Parameter.{Parameter}
+use Rattle.ae_frames.specs.Givens.{argument_of, taker_of}
 
 -- what is handed over, as an expression
 abbrev pub handed : Handed → Expression
 handed (hand.Receiver path) = Read path.now
 handed (hand.Written expr) = expression expr.now
+
+-- a parameter that is looked at
+abbrev pub taker_seen : Bor Parameter → Taker
+taker_seen t = taker_of t.now
 
 -- the place of a value that stands in a local
 abbrev pub standing_at : Standing → Address

@@ -13,7 +13,7 @@ ghost use Rattle.ae_reads.specs.Answers.{ReadsAs};
 ghost use Rattle.ae_reads.specs.Views.{base_of};
 ghost use Rattle.ae_running.specs.Seen.{seen};
 ghost use Rattle.ae_frames.specs.Asking as view;
-ghost use Rattle.ae_frames.specs.Asking.{asked_in, all_asked, is_in_local, is_name, is_spared, AreSpared};
+ghost use Rattle.ae_frames.specs.Asking.{asked_in, all_asked, is_in_local, is_name, is_spared, taker_seen, AreSpared};
 ghost use Rattle.ae_frames.specs.Givens.{is_path, argument_of, taker_of, takers_of};
 
 use crate::given::{Arg, Asked, Origin, Parameter, Standing};
@@ -138,7 +138,7 @@ fn one_asked(
     comes: bool,
     gone: Option<Name>,
 ) -> Result<Asked, Stop>
-    ensures asked { ReadsAs (spec.argument (code_of tabled.now) (seen run.now) (view.handed handed))
+    ensures asked { ReadsAs (spec.argument (code_of tabled.now) (seen run.now) (view.handed handed.entry))
         (asked_in (seen run.now)) result }
     ensures spared { IfOk result (λ x. is_spared comes gone x ≡ true) }
 {
@@ -155,11 +155,11 @@ fn asked(
     taker: Option<&Parameter>,
     handed: Handed,
 ) -> Result<Asked, Stop>
-    ensures asked { ReadsAs (spec.argument (code_of tabled.now) (seen run.now) (view.handed handed))
+    ensures asked { ReadsAs (spec.argument (code_of tabled.now) (seen run.now) (view.handed handed.entry))
         (asked_in (seen run.now)) result }
     ensures spared { IfOk result (λ x. is_spared
-        (given (option_map (λ t. taker_of t.now) taker) false (λ t. value_comes_back t.1))
-        (given (option_map (λ t. taker_of t.now) taker) None (λ t. spec.given_away (t, view.handed handed))) x ≡ true) }
+        (given (option_map taker_seen taker.entry) false (λ t. value_comes_back t.1))
+        (given (option_map taker_seen taker.entry) None (λ t. spec.given_away (t, view.handed handed.entry))) x ≡ true) }
 {
     match taker {
         Some(taker) => {

@@ -72,12 +72,7 @@ fn value_of(
 }
 
 // One argument with its value.
-fn collected(
-    alloc: Global,
-    run: &mut Running,
-    asked: Asked,
-    locals: &[Name],
-) -> Result<Arg, Memory>
+fn collected(alloc: Global, run: &mut Running, asked: Asked, locals: &[Name]) -> Result<Arg, Memory>
     ensures given { IfOk result (λ x. argument_of x ≡ asked_in (seen run.old) asked) }
     ensures left { OnOk result (seen run.new ≡ left_by locals.now asked (seen run.old)) }
     ensures keeps { KeepsRest run.old run.new }

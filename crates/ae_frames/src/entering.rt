@@ -117,7 +117,10 @@ fn begin<'a>(
         Ok(args) => args,
         Err(memory) => return Err(memory),
     };
-    open_body(tabled, callee, takers, args, call, run)
+    match open_body(tabled, callee, takers, args, call, run) {
+        Ok(entered) => Ok(entered),
+        Err(memory) => Err(memory),
+    }
 }
 
 /// A call is entered: the method is found, the receiver and the arguments are evaluated from left to right, and then

@@ -16,7 +16,7 @@ use std::alloc::Global;
 
 /// The name that goes away with what a parameter is given. Takes no memory.
 pub(crate) fn given_away(taker: &Parameter, handed: Handed) -> Option<Name>
-    ensures { result ≡ spec.given_away (taker_of taker.now, view.handed handed) }
+    ensures { result ≡ spec.given_away (taker_of taker.now, view.handed handed.entry) }
 {
     if !taker.slot.away {
         return None;
