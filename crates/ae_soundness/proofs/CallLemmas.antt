@@ -179,7 +179,7 @@ class_names p w h (kind.Class x gs) c e =
     let a = given_some (class_number p x) (class_at p) c e in class_members p w h a.0 c a.2
 
 -- no name that the class of the method that is called has for a group is `io`
-judged_names : (p : Code) → WellShaped p → TableHolds p → (c : Context) (on : Option Path) (x : NameAt) (k : Callee)
+pub judged_names : (p : Code) → WellShaped p → TableHolds p → (c : Context) (on : Option Path) (x : NameAt) (k : Callee)
     → judge_callee p c on x ≡ Holds k → list_all has_members k.names ≡ true
 judged_names p w h c None x k e = ap (list_all has_members) (callee_names p [] [] (top_number p x.name) k
     (found_is (top_callee p x.name) rule.UnknownMethod x.at k e))
@@ -243,14 +243,14 @@ judged_call p c i k d h =
       needs = e.2;
     }
 
-all_of_both : (test : ℕ → Bool) (xs ys : List ℕ) → list_all test xs ≡ true → list_all test ys ≡ true
+pub all_of_both : (test : ℕ → Bool) (xs ys : List ℕ) → list_all test xs ≡ true → list_all test ys ≡ true
     → list_all test (xs ++ ys) ≡ true
 all_of_both test [] ys h k = k
 all_of_both test (x ∷ xs) ys h k = and_from (test x) (list_all test (xs ++ ys))
     (first_of_both (test x) (list_all test xs) h)
     (all_of_both test xs ys (second_of_both (test x) (list_all test xs) h) k)
 
-in_place_io : (xs ys : List ℕ) → list_all has_members xs ≡ true → in_place xs ys io ≡ io
+pub in_place_io : (xs ys : List ℕ) → list_all has_members xs ≡ true → in_place xs ys io ≡ io
 in_place_io [] ys h = refl
 in_place_io (x ∷ xs) [] h = refl
 in_place_io (x ∷ xs) (y ∷ ys) h = by_test (nat_eq x io) refl

@@ -91,7 +91,7 @@ was_read p s (Negated j y) x at h i = no_place p s (Negated j y) x at h i
 was_read p s (Minus j y) x at h i = no_place p s (Minus j y) x at h i
 was_read p s (Binary o a b) x at h i = no_place p s (Binary o a b) x at h i
 
-same_unique : (new : ℕ → ℕ) (t : Form) → is_unique (form_with (λ g. g) t) ≡ true → is_unique (form_with new t) ≡ true
+pub same_unique : (new : ℕ → ℕ) (t : Form) → is_unique (form_with (λ g. g) t) ≡ true → is_unique (form_with new t) ≡ true
 same_unique new f.Int u = u
 same_unique new f.Bool u = u
 same_unique new (f.Object perm.Unique k) u = refl
