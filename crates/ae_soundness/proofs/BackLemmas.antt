@@ -13,7 +13,7 @@ use Rattle.ae_soundness.specs.Returns.{MembersMayComeBack}
 use Rattle.ae_soundness.proofs.LikeLemmas.{IsLike, AreLike, like_itself, FitsGroups, like_fits}
 
 -- what there is under a name is no other name
-abbrev is_no_name : Option Group → Bool
+abbrev pub is_no_name : Option Group → Bool
 is_no_name (Some (As h)) = false
 is_no_name _ = true
 
@@ -23,13 +23,13 @@ like_no_name p (Some (Here st)) new n l = ap is_no_name l.1
 like_no_name p (Some (Away cell)) new n l = ap is_no_name l
 like_no_name p (Some (As h)) new n l = absurd (cc n)
 
-own_name : (g : ℕ) (o : Option Group) → is_no_name o ≡ true → other_name g o ≡ g
+pub own_name : (g : ℕ) (o : Option Group) → is_no_name o ≡ true → other_name g o ≡ g
 own_name g None n = refl
 own_name g (Some (Here st)) n = refl
 own_name g (Some (Away cell)) n = refl
 own_name g (Some (As h)) n = absurd (cc n)
 
-here_no_name : (o : Option Group) → is_here o ≡ true → is_no_name o ≡ true
+pub here_no_name : (o : Option Group) → is_here o ≡ true → is_no_name o ≡ true
 here_no_name None h = refl
 here_no_name (Some (Here st)) h = refl
 here_no_name (Some (Away cell)) h = refl

@@ -29,12 +29,12 @@ use Rattle.ae_soundness.proofs.from_text.Basics.{number_is_itself}
 -- ---- the needs of a call
 
 -- the need that is found is of the group, and is met
-record IsMet (gs : GroupsKnown) (at : Spot) (new : ℕ → ℕ) (g : ℕ) (n : GroupNeed) : Type 0 where
-  name : n.group.name ≡ g
-  unit : ⊤
-  met : need_met gs at (wanted_need new n) ≡ Holds unit
+pub record IsMet (gs : GroupsKnown) (at : Spot) (new : ℕ → ℕ) (g : ℕ) (n : GroupNeed) : Type 0 where
+  pub name : n.group.name ≡ g
+  pub unit : ⊤
+  pub met : need_met gs at (wanted_need new n) ≡ Holds unit
 
-found_is_met : (gs : GroupsKnown) (at : Spot) (new : ℕ → ℕ) (g : ℕ) (ns : List GroupNeed) (n : GroupNeed) (u : ⊤)
+pub found_is_met : (gs : GroupsKnown) (at : Spot) (new : ℕ → ℕ) (g : ℕ) (ns : List GroupNeed) (n : GroupNeed) (u : ⊤)
     → each (need_met gs at) (map (wanted_need new) ns) ≡ Holds u → need_for ns g ≡ Some n → IsMet gs at new g n
 found_is_met gs at new g [] n u h e = absurd (cc e)
 found_is_met gs at new g (m ∷ ns) n u h e =
@@ -172,7 +172,7 @@ needed to s (m ∷ ns) g n v e h = by_test (λ i. needed to s ns g n v e i) (nat
         refl
 
 -- nothing is there of what is not needed
-none_needed : (to : ℕ → ℕ) (s : State) (ns : List GroupNeed) (g : ℕ) → need_for ns g ≡ None
+pub none_needed : (to : ℕ → ℕ) (s : State) (ns : List GroupNeed) (g : ℕ) → need_for ns g ≡ None
     → groups_needed to s ns g ≡ None
 none_needed to s [] g e = refl
 none_needed to s (m ∷ ns) g e = by_test (nat_eq m.group.name g) e (λ i. none_needed to s ns g i)
@@ -203,7 +203,7 @@ nothing_needed to s (m ∷ ns) g e = by_tests (nat_eq m.group.name g) (nat_eq (t
     by_tests false false k = k
 
 -- what is there is needed
-there_is_needed : (to : ℕ → ℕ) (s : State) (ns : List GroupNeed) (g : ℕ) (x : Group)
+pub there_is_needed : (to : ℕ → ℕ) (s : State) (ns : List GroupNeed) (g : ℕ) (x : Group)
     → groups_needed to s ns g ≡ Some x → (n : GroupNeed) × (need_for ns g ≡ Some n)
 there_is_needed to s ns g x e = by_need (need_for ns g) refl
   where

@@ -60,7 +60,7 @@ use Rattle.ae_soundness.proofs.ArgumentLemmas.{given_value, place_comes, argumen
 -- ---- the method that is called
 
 -- the receiver of a judged call has a value
-receiver_value : (p : Code) (c : Context) (new : ℕ → ℕ) (m : Definition) (me : Option Me) (ts : List ParamSlot)
+pub receiver_value : (p : Code) (c : Context) (new : ℕ → ℕ) (m : Definition) (me : Option Me) (ts : List ParamSlot)
     (path : Path) (es : List Expression) (before after : Roots) (w : Place) → is_some me ≡ true
     → in_turn (to_slot p c) (zip (if_some (option_map (me_slot p new m) me) ts) (Read path ∷ es)) before ≡ Holds after
     → walk p c path ≡ Holds w → has_value w ≡ true
@@ -79,7 +79,7 @@ receiver_value p c new m (Some me) ts path es before after w i h e =
     same_place : (u v : Place) → Holds u ≡ Holds v → u ≡ v
     same_place u v k = cc k
 
-same_callee : (p : Code) (x : ℕ) (t now : Form) → SameButPermission t now → callee_of p now x ≡ callee_of p t x
+pub same_callee : (p : Code) (x : ℕ) (t now : Form) → SameButPermission t now → callee_of p now x ≡ callee_of p t x
 same_callee p x f.Int f.Int h = refl
 same_callee p x f.Int f.Bool h = absurd h
 same_callee p x f.Int (f.Object q k) h = absurd h
@@ -179,7 +179,7 @@ class_names p w h (kind.Class x gs) c e =
     let a = given_some (class_number p x) (class_at p) c e in class_members p w h a.0 c a.2
 
 -- no name that the class of the method that is called has for a group is `io`
-judged_names : (p : Code) → WellShaped p → TableHolds p → (c : Context) (on : Option Path) (x : NameAt) (k : Callee)
+pub judged_names : (p : Code) → WellShaped p → TableHolds p → (c : Context) (on : Option Path) (x : NameAt) (k : Callee)
     → judge_callee p c on x ≡ Holds k → list_all has_members k.names ≡ true
 judged_names p w h c None x k e = ap (list_all has_members) (callee_names p [] [] (top_number p x.name) k
     (found_is (top_callee p x.name) rule.UnknownMethod x.at k e))
@@ -214,8 +214,8 @@ entered_so p k Lacks h = h
 -- what is judged of a call's groups, arguments and needs
 pub record JudgedCall (p : Code) (c : Context) (i : Invocation) (k : Callee) : Type 0 where
   pub groups : list_all has_members (bare_names i.groups) ≡ true
-  roots : Roots
-  arguments : in_turn (to_slot p c) (zip (slots p (group_in k i.groups) k.method) (givens i)) no_roots ≡ Holds roots
+  pub roots : Roots
+  pub arguments : in_turn (to_slot p c) (zip (slots p (group_in k i.groups) k.method) (givens i)) no_roots ≡ Holds roots
   pub unit : ⊤
   pub needs : each (need_met c.group i.method.at) (map (wanted_need (group_in k i.groups)) k.method.needs) ≡ Holds unit
 
@@ -243,14 +243,14 @@ judged_call p c i k d h =
       needs = e.2;
     }
 
-all_of_both : (test : ℕ → Bool) (xs ys : List ℕ) → list_all test xs ≡ true → list_all test ys ≡ true
+pub all_of_both : (test : ℕ → Bool) (xs ys : List ℕ) → list_all test xs ≡ true → list_all test ys ≡ true
     → list_all test (xs ++ ys) ≡ true
 all_of_both test [] ys h k = k
 all_of_both test (x ∷ xs) ys h k = and_from (test x) (list_all test (xs ++ ys))
     (first_of_both (test x) (list_all test xs) h)
     (all_of_both test xs ys (second_of_both (test x) (list_all test xs) h) k)
 
-in_place_io : (xs ys : List ℕ) → list_all has_members xs ≡ true → in_place xs ys io ≡ io
+pub in_place_io : (xs ys : List ℕ) → list_all has_members xs ≡ true → in_place xs ys io ≡ io
 in_place_io [] ys h = refl
 in_place_io (x ∷ xs) [] h = refl
 in_place_io (x ∷ xs) (y ∷ ys) h = by_test (nat_eq x io) refl

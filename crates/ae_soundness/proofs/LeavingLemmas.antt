@@ -39,7 +39,7 @@ names_lead p c s t z k g m o = by_group (t.groups g) refl
 
 -- ---- what is forgotten
 
-seen_so : {A : Type 0} (b : Bool) (o : Option A) → b ≡ true → (if b then o else None) ≡ o
+pub seen_so : {A : Type 0} (b : Bool) (o : Option A) → b ≡ true → (if b then o else None) ≡ o
 seen_so true o e = refl
 seen_so false o e = absurd (cc e)
 
@@ -53,7 +53,7 @@ none_seen : {A : Type 0} (b : Bool) (o : Option A) → o ≡ None → (if b then
 none_seen true o e = e
 none_seen false o e = refl
 
-not_seen : {A : Type 0} (b : Bool) (o : Option A) → b ≡ false → (if b then o else None) ≡ None
+pub not_seen : {A : Type 0} (b : Bool) (o : Option A) → b ≡ false → (if b then o else None) ≡ None
 not_seen true o e = absurd (cc e)
 not_seen false o e = refl
 
