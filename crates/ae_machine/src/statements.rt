@@ -1,15 +1,15 @@
 // Statements of a block, one after another, and the end of the block.
-ghost use Rattle.std.specs.Prelude.{◌≡◌, ◌+◌, ◌∷◌, IsTrue, MatchOption, true};
-ghost use Rattle.ae_tree.specs.Plain.{Assigns, Declares, End, Returned};
-ghost use Rattle.ae_tree.specs.Shown.{action, definition, invocation, right_side};
+ghost use Rattle.std.specs.Prelude.{◌≡◌, ◌+◌, ◌∷◌, IsTrue, MatchOption, false, true};
+ghost use Rattle.ae_tree.specs.Plain.{Assigns, Declares, End, Next, Returned};
+ghost use Rattle.ae_tree.specs.Shown.{action, invocation, lines_from, right_side};
 ghost use Rattle.ae_tree.specs.declared.tree.StmtKind.TheVariants as kind;
 ghost use Rattle.ae_acts.specs.Acts.{is_flat, is_no_call};
 ghost use Rattle.ae_levels.specs.Going.{IsSound};
 ghost use Rattle.ae_levels.specs.Halting.{LeadsTo};
-ghost use Rattle.ae_levels.specs.Levels.{InBlock, level_cost, levels_cost};
+ghost use Rattle.ae_levels.specs.Levels.{level_cost, levels_cost};
 ghost use Rattle.ae_machine.specs.declared.frame.Frame.TheVariants as fr;
 ghost use Rattle.ae_machine.specs.Calling.{CallsFor};
-ghost use Rattle.ae_machine.specs.Frames.{aim, level, levels};
+ghost use Rattle.ae_machine.specs.Frames.{aim, block_from, level, levels};
 ghost use Rattle.ae_machine.specs.Tasks.{IsAt, IsAtStatement, IsPast, code_in, cost_at, whole_of};
 
 use crate::calls::begin_call;
@@ -23,8 +23,7 @@ use ae_tree::{Block, Call, Expr, NameAt, Rhs, Stmt, StmtKind, Ty};
 
 // The end of a block: the names end that were bound since it began.
 fn end_block<'a>(task: &Task<'a>, rest: Rest<'a>, run: &mut Running, frames: &Vec<Frame<'a>>)
-    requires { IsAt task.now run.old (InBlock rest.fuel rest.depth (definition rest.method.now) End rest.mark
-        ∷ levels frames.now.items) }
+    requires { IsAt task.now run.old (block_from rest End ∷ levels frames.now.items) }
     ensures at { IsAt task.now run.new (levels frames.now.items) }
     ensures out { run.new.out ≡ run.old.out }
 {
@@ -34,20 +33,60 @@ fn end_block<'a>(task: &Task<'a>, rest: Rest<'a>, run: &mut Running, frames: &Ve
     run.env.forget(rest.mark);
 }
 
-// A statement without blocks and calls.
+// Whether a right side is no call.
+fn is_no_call(rhs: &Rhs) -> bool
+    ensures { result ≡ is_no_call (right_side rhs.now) }
+{
+    match rhs {
+        Rhs::Expr(_) | Rhs::Take(..) | Rhs::Ints(..) | Rhs::New(..) => true,
+        Rhs::Call(_) => false,
+    }
+}
+
+// Whether a statement has no block and calls nothing.
+#[tactic(auto, using(ae_tree::specs::Shown::shows))]
+fn is_flat(stmt: &StmtKind) -> bool
+    ensures { result ≡ is_flat (action stmt.now) }
+{
+    match stmt {
+        StmtKind::Let(_, _, rhs) | StmtKind::Assign(_, rhs) => is_no_call(rhs),
+        StmtKind::Field(..)
+        | StmtKind::Index(..)
+        | StmtKind::Group(_)
+        | StmtKind::Freeze(_)
+        | StmtKind::Share(..)
+        | StmtKind::PrintExpr(_)
+        | StmtKind::PrintText(_)
+        | StmtKind::Assert(_)
+        | StmtKind::Return(_) => true,
+        StmtKind::Call(_)
+        | StmtKind::If(_, _, None)
+        | StmtKind::If(_, _, Some(_))
+        | StmtKind::While(..)
+        | StmtKind::Split(..)
+        | StmtKind::Atomic(..) => false,
+    }
+}
+
+// A statement without blocks and calls is done, and the others of its block are next.
 fn do_flat<'a>(
     task: &Task<'a>,
     rest: Rest<'a>,
     stmt: &Stmt,
+    others: &[Stmt],
     run: &mut Running,
     frames: &Vec<Frame<'a>>,
 ) -> Result<(), Halt>
     requires flat { IsTrue (is_flat (action stmt.now.kind)) }
-    requires begun { IsAtStatement task.now run.old rest stmt.now.at (action stmt.now.kind) (levels frames.now.items) }
-    ensures { LeadsTo (whole_of task.now) run.new.out.items (IsPast task.now run.new (levels frames.now.items)
-        (cost_at task.now rest.entry (action stmt.now.kind) (levels frames.now.items))) result }
+    requires begun { IsAtStatement task.now run.old rest stmt.now.at (action stmt.now.kind)
+        (block_from rest (lines_from others.now) ∷ levels frames.now.items) }
+    ensures { LeadsTo (whole_of task.now) run.new.out.items (IsPast task.now run.new
+        (block_from rest.entry (lines_from others.now) ∷ levels frames.now.items)
+        (cost_at task.now rest.entry (action stmt.now.kind)
+        (block_from rest.entry (lines_from others.now) ∷ levels frames.now.items))) result }
 {
     statements_go_on();
+    let _ = others;
     let _ = frames;
     match act(&task.tabled, rest.method, stmt, run) {
         Ok(()) => Ok(()),
@@ -88,7 +127,7 @@ fn call_for<'a>(
     )
 }
 
-// A local is declared: by a call, or without one.
+// A local is declared by a call.
 fn declares<'a>(
     task: &'a Task<'a>,
     rest: Rest<'a>,
@@ -101,6 +140,7 @@ fn declares<'a>(
 ) -> Result<(), Halt>
     requires sound { IsSound (code_in task.now) }
     requires is { action stmt.now.kind ≡ Declares ty.now name (right_side rhs.now) }
+    requires calls { is_flat (action stmt.now.kind) ≡ false }
     requires begun { IsAtStatement task.now run.old rest stmt.now.at (action stmt.now.kind) (levels frames.old.items) }
     ensures { LeadsTo (whole_of task.now) run.new.out.items (IsPast task.now run.new (levels frames.new.items)
         (cost_at task.now rest.entry (action stmt.now.kind) (levels frames.old.items))) result }
@@ -110,11 +150,11 @@ fn declares<'a>(
             let target = Target::New(ty, name.name);
             call_for(task, rest, stmt, call, target, run, frames)
         }
-        None => do_flat(task, rest, stmt, run, frames),
+        None => unreachable!(),
     }
 }
 
-// A local is assigned: by a call, or without one.
+// A local is assigned by a call.
 fn assigns<'a>(
     task: &'a Task<'a>,
     rest: Rest<'a>,
@@ -126,6 +166,7 @@ fn assigns<'a>(
 ) -> Result<(), Halt>
     requires sound { IsSound (code_in task.now) }
     requires is { action stmt.now.kind ≡ Assigns name (right_side rhs.now) }
+    requires calls { is_flat (action stmt.now.kind) ≡ false }
     requires begun { IsAtStatement task.now run.old rest stmt.now.at (action stmt.now.kind) (levels frames.old.items) }
     ensures { LeadsTo (whole_of task.now) run.new.out.items (IsPast task.now run.new (levels frames.new.items)
         (cost_at task.now rest.entry (action stmt.now.kind) (levels frames.old.items))) result }
@@ -135,7 +176,7 @@ fn assigns<'a>(
             let target = Target::Old(name.name);
             call_for(task, rest, stmt, call, target, run, frames)
         }
-        None => do_flat(task, rest, stmt, run, frames),
+        None => unreachable!(),
     }
 }
 
@@ -161,7 +202,7 @@ fn branches<'a>(
     }
 }
 
-// A statement begins, and does what it does without blocks and calls, or opens them.
+// A statement opens its blocks, or begins its call.
 #[tactic(auto, using(ae_tree::specs::Shown::shows))]
 fn statement<'a>(
     task: &'a Task<'a>,
@@ -171,6 +212,7 @@ fn statement<'a>(
     frames: &mut Vec<Frame<'a>>,
 ) -> Result<(), Halt>
     requires sound { IsSound (code_in task.now) }
+    requires opens { is_flat (action stmt.now.kind) ≡ false }
     requires begun { IsAtStatement task.now run.old rest stmt.now.at (action stmt.now.kind) (levels frames.old.items) }
     ensures { LeadsTo (whole_of task.now) run.new.out.items (IsPast task.now run.new (levels frames.new.items)
         (cost_at task.now rest.entry (action stmt.now.kind) (levels frames.old.items))) result }
@@ -192,11 +234,35 @@ fn statement<'a>(
         | StmtKind::PrintExpr(_)
         | StmtKind::PrintText(_)
         | StmtKind::Assert(_)
-        | StmtKind::Return(_) => do_flat(task, rest, stmt, run, frames),
+        | StmtKind::Return(_) => unreachable!(),
     }
 }
 
-/// A block is gone on with: its next statement begins, and the others wait behind it; or the block ends.
+// A statement with blocks, or a call, begins, and the others wait behind it.
+fn open_statement<'a>(
+    task: &'a Task<'a>,
+    behind: Rest<'a>,
+    stmt: &'a Stmt,
+    run: &mut Running,
+    frames: &mut Vec<Frame<'a>>,
+) -> Result<(), Halt>
+    requires sound { IsSound (code_in task.now) }
+    requires opens { is_flat (action stmt.now.kind) ≡ false }
+    requires at { IsAt task.now run.old (block_from behind (Next stmt.now.at (action stmt.now.kind)
+        (lines_from behind.stmts.now)) ∷ levels frames.old.items) }
+    ensures { LeadsTo (whole_of task.now) run.new.out.items (IsPast task.now run.new (levels frames.new.items)
+        (level_cost (code_in task.now) (block_from behind.entry (Next stmt.now.at (action stmt.now.kind)
+        (lines_from behind.entry.stmts.now))) + levels_cost (code_in task.now) (levels frames.old.items))) result }
+{
+    statements_go_on();
+    match push(frames, Frame::Rest(behind)) {
+        Ok(()) => statement(task, behind, stmt, run, frames),
+        Err(halt) => Err(halt),
+    }
+}
+
+/// A block is gone on with: its statements without blocks and calls are done one after another, up to one that opens
+/// something, which begins, and the others wait behind it; or the block ends.
 pub(crate) fn go_on<'a>(
     task: &'a Task<'a>,
     rest: Rest<'a>,
@@ -206,24 +272,25 @@ pub(crate) fn go_on<'a>(
     requires sound { IsSound (code_in task.now) }
     requires at { IsAt task.now run.old (level (fr.Rest rest) ∷ levels frames.old.items) }
     ensures { LeadsTo (whole_of task.now) run.new.out.items (IsPast task.now run.new (levels frames.new.items)
-        (level_cost (code_in task.now) (level (fr.Rest rest.entry)) + levels_cost (code_in task.now) (levels frames.old.items)))
-        result }
+        (level_cost (code_in task.now) (level (fr.Rest rest.entry))
+        + levels_cost (code_in task.now) (levels frames.old.items))) result }
 {
     statements_go_on();
-    match rest.stmts.split_first() {
-        Some((stmt, others)) => {
+    let mut stmts = rest.stmts;
+    while let Some((stmt, others)) = stmts.split_first() {
+        if !is_flat(&stmt.kind) {
             let behind = Rest {
                 stmts: others,
                 ..rest
             };
-            match push(frames, Frame::Rest(behind)) {
-                Ok(()) => statement(task, rest, stmt, run, frames),
-                Err(halt) => Err(halt),
-            }
+            return open_statement(task, behind, stmt, run, frames);
         }
-        None => {
-            end_block(task, rest, run, frames);
-            Ok(())
+        match do_flat(task, rest, stmt, others, run, frames) {
+            Ok(()) => {}
+            Err(halt) => return Err(halt),
         }
+        stmts = others;
     }
+    end_block(task, rest, run, frames);
+    Ok(())
 }
