@@ -9,3 +9,9 @@ pub mod MovedLemmas
 pub mod ActLemmas
 pub mod StatementLemmas
 pub mod LogLemmas
+pub mod RunLemmas
+pub mod BackLemmas
+pub mod ValueLemmas
+pub mod NeedLemmas
+pub mod CallLemmas
+pub mod CallingLemmas

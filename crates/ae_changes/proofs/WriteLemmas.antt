@@ -14,7 +14,8 @@ use Rattle.ae_semantics.specs.Places.{Outcome, Fine, ◌>>=◌, there, Group, He
 use Rattle.ae_semantics.specs.Places.{name_of, with_bound, with_store, store_of, Base, InLocal, InGroup, low, bind}
 use Rattle.ae_semantics.specs.Places.{with_member, rewrite_member, write_in}
 use Rattle.ae_semantics.specs.Calls.{without_moved}
-use Rattle.ae_soundness.proofs.LastingLemmas.{Gives, next_gives, is_no_name}
+use Rattle.ae_soundness.proofs.BackLemmas.{is_no_name}
+use Rattle.ae_soundness.proofs.LastingLemmas.{Gives, next_gives}
 use Rattle.ae_changes.specs.Changes.{GoesBy, LeavesGroup, IsAsBefore, ChangesAsUsed}
 use Rattle.ae_changes.proofs.UsedLemmas.{IsWritten}
 

@@ -3,4 +3,4 @@
 
 mod laws;
 
-pub use laws::acts_change_as_used;
+pub use laws::{acts_change_as_used, calls_change_as_used};
