@@ -15,3 +15,7 @@ pub mod ValueLemmas
 pub mod NeedLemmas
 pub mod CallLemmas
 pub mod CallingLemmas
+pub mod BlockLemmas
+pub mod WholeLemmas
+pub mod AllowedLemmas
+pub mod BodyLemmas

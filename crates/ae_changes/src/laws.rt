@@ -1,9 +1,16 @@
 // What an accepted statement changes.
 ghost use Rattle.ae_changes.specs.Bodies.{CallsChangeAsUsed};
 ghost use Rattle.ae_changes.specs.Changes.{ActsChangeAsUsed};
+ghost use Rattle.ae_changes.specs.Whole.{BodiesChangeAsUsed, StatementsChangeAsUsed};
 
-use ae_rules::{every_slot_is_given, walks_go_by_owners};
-use ae_soundness::{methods_give_back, returns_give_results};
+use ae_rules::{
+    comparisons_are_exact, every_slot_is_given, judging_keeps_right,
+    statements_keep_what_is_visible, uses_are_allowed, walks_go_by_owners,
+};
+use ae_soundness::{
+    calls_keep_standing, fields_are_of_groups, methods_give_back, returns_give_results,
+    statements_without_calls_fit, values_are_found,
+};
 
 /// A judged statement that has no block and calls no method changes, from a state that fits what is known, only the
 /// locals and groups that it uses by Write or as a whole: each other visible local is as before, and what was not visible
@@ -24,4 +31,43 @@ pub fn calls_change_as_used()
 {
     every_slot_is_given();
     methods_give_back();
+}
+
+/// In an accepted and well-shaped program in which nothing is split a judged statement of a method, with its blocks,
+/// changes only what it writes, from a state that stands where it begins, with each fuel and whatever is observed: each
+/// other local that is visible before it is as before, and each group that is not written under any of its names. It
+/// prints only where it uses `io`, and the result is another only where it has a `return`. Nothing may be declared under
+/// the name `this`.
+pub fn statements_change_as_used()
+    ensures { StatementsChangeAsUsed }
+{
+    fields_are_of_groups();
+    values_are_found();
+    statements_without_calls_fit();
+    returns_give_results();
+    calls_keep_standing();
+    statements_keep_what_is_visible();
+    comparisons_are_exact();
+    judging_keeps_right();
+    uses_are_allowed();
+    acts_change_as_used();
+    calls_change_as_used();
+}
+
+/// In such a program the whole body of a method changes only the groups that the method needs for itself, and of its
+/// parameters only those that its statements write. It prints only where the method needs `io`, and one of them uses it.
+pub fn bodies_change_as_used()
+    ensures { BodiesChangeAsUsed }
+{
+    fields_are_of_groups();
+    values_are_found();
+    statements_without_calls_fit();
+    returns_give_results();
+    calls_keep_standing();
+    statements_keep_what_is_visible();
+    comparisons_are_exact();
+    judging_keeps_right();
+    uses_are_allowed();
+    acts_change_as_used();
+    calls_change_as_used();
 }

@@ -3,4 +3,6 @@
 
 mod laws;
 
-pub use laws::{acts_change_as_used, calls_change_as_used};
+pub use laws::{
+    acts_change_as_used, bodies_change_as_used, calls_change_as_used, statements_change_as_used,
+};
