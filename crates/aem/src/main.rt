@@ -7,6 +7,8 @@ mod built;
 mod calls_tests;
 #[cfg(test)]
 mod layout_tests;
+#[cfg(test)]
+mod machine_tests;
 mod modes;
 #[cfg(test)]
 mod tests;
