@@ -1,60 +1,43 @@
 -- A judged statement that has no block and calls no method changes only what it writes.
-use Rattle.std.proofs.Common.{◌≡◌, ◌≢◌, refl, sym, ap, ◌∙◌, subst, ℕ, ℤ, Bool, true, false, not, List, [], ◌∷◌, length}
-use Rattle.std.proofs.Common.{Option, None, Some}
-use Rattle.std.specs.Prelude as prelude
+use Rattle.std.proofs.Common.{◌≡◌, refl, ap, ◌∙◌, ℕ, true, not}
+use Rattle.std.proofs.Common.{Option}
 use Rattle.std.specs.Prelude.{⊤}
 use Rattle.ae_text.specs.declared.refusal.Spot.{Spot}
 use Rattle.ae_text.specs.declared.refusal.Rule.TheVariants as rule
-use Rattle.ae_tree.specs.declared.tree.NameAt.{NameAt}
 use Rattle.ae_tree.specs.declared.tree.Path.{Path}
-use Rattle.ae_tree.specs.declared.tree.Ty.{Ty}
 use Rattle.ae_tree.specs.declared.form.Form.{Form}
-use Rattle.ae_tree.specs.Form.{form}
-use Rattle.ae_tree.specs.Names.{io}
-use Rattle.ae_tree.specs.Plain.{Code, Definition, Expression}
+use Rattle.ae_tree.specs.Plain.{Code}
 use Rattle.ae_tree.specs.Plain.{RightSide, Value, Taken, Zeros, Made, Returned}
-use Rattle.ae_tree.specs.Plain.{Action, Declares, Assigns, Stores, StoresAt, Calls, Chooses, ChoosesElse, Repeats}
-use Rattle.ae_tree.specs.Plain.{Groups, Splits, Locks, Freezes, Shares, Prints, PrintsText, Asserts, Returns}
-use Rattle.ae_tree.specs.WellShaped.{HasField, IsNoReturn}
 use Rattle.ae_rules.specs.declared.uses.Resource.TheVariants as resource
 use Rattle.ae_rules.specs.Edges.{Uses}
-use Rattle.ae_rules.specs.Verdict.{Verdict, Holds, fine, require, found}
-use Rattle.ae_rules.specs.Forms.{is_object, is_unique, is_ints}
+use Rattle.ae_rules.specs.Verdict.{Holds, require}
+use Rattle.ae_rules.specs.Forms.{is_object, is_unique}
 use Rattle.ae_rules.specs.Paths.{is_call}
-use Rattle.ae_rules.specs.Types.{forms_type}
-use Rattle.ae_rules.specs.Groups.{known}
-use Rattle.ae_rules.specs.Context.{Local, Context, access, may_change, is_visible, with_local, with_held, held_of}
+use Rattle.ae_rules.specs.Context.{Context}
 use Rattle.ae_rules.specs.Walks.{Place, owner, walk, write_access, owner_write_access}
-use Rattle.ae_rules.specs.Into.{into}
-use Rattle.ae_rules.specs.Statements.{judge_take, judge_right, judge_let, judge_assign}
-use Rattle.ae_rules.specs.Judges.{Judges, is_return}
-use Rattle.ae_rules.specs.Laws.{WalksGoByOwners}
+use Rattle.ae_rules.specs.Statements.{judge_take, judge_right}
 use Rattle.ae_rules.specs.BlockLaws.{HoldsRight}
-use Rattle.ae_rules.specs.Uses.{◌∪◌, of_judged, of_found, write_use, whole_group, value_uses, into_uses, right_uses}
-use Rattle.ae_rules.specs.Uses.{write_uses, walk_uses, end_uses, reach_use, root_written, statement_uses}
-use Rattle.ae_semantics.specs.Contexts.{shuts_out}
-use Rattle.ae_semantics.specs.Values.{Val, OfInt, OfBool, Null, Owned, Member, Tree, Array, Store}
-use Rattle.ae_semantics.specs.Places.{Outcome, Fine, Traps, Lacks, ◌>>=◌, there, Here, Bound, State, with_bound}
-use Rattle.ae_semantics.specs.Places.{with_store, store_of, OpenedObject, ObjectField, slot, slot_in, reach, last_item}
-use Rattle.ae_semantics.specs.Places.{write_field, write_tree, met, field_place, field_value, bind, numbered_field}
-use Rattle.ae_semantics.specs.Expressions.{value, number_of, truth_of, numbers, index}
+use Rattle.ae_rules.specs.Uses.{right_uses}
+use Rattle.ae_rules.specs.Uses.{write_uses}
+use Rattle.ae_semantics.specs.Values.{Val, Null}
+use Rattle.ae_semantics.specs.Places.{Outcome, Fine, Traps, Lacks, ◌>>=◌, there, State}
+use Rattle.ae_semantics.specs.Places.{ObjectField, slot, slot_in, reach, last_item}
+use Rattle.ae_semantics.specs.Places.{write_field, met, field_place, field_value, bind, numbered_field}
+use Rattle.ae_semantics.specs.Expressions.{value, number_of}
 use Rattle.ae_semantics.specs.Observations.{Notes}
-use Rattle.ae_semantics.specs.Runs.{Run, Went, Ends, Stops, outcome_given, Where, Machine, Below}
+use Rattle.ae_semantics.specs.Runs.{outcome_given, Where, Machine, Below}
 use Rattle.ae_semantics.specs.Calls.{without_moved}
-use Rattle.ae_semantics.specs.Meaning.{each_value, zeros, take_from, made, right_moved, assigned, sets, name_moved}
-use Rattle.ae_semantics.specs.Meaning.{stored, stored_at, shared_value, shares_into, frozen, result_moved, one, does}
+use Rattle.ae_semantics.specs.Meaning.{each_value, zeros, take_from, made, right_moved, assigned, sets}
 use Rattle.ae_soundness.specs.Fits.{FieldsHaveMembers, FitsContext}
-use Rattle.ae_soundness.proofs.LastingLemmas.{Gives, next_gives, then_gives, Leaves, given_leaves, any_leaves}
-use Rattle.ae_soundness.proofs.StandLemmas.{fine_first, there_is}
+use Rattle.ae_soundness.proofs.LastingLemmas.{Gives, next_gives, then_gives, Leaves, given_leaves}
+use Rattle.ae_soundness.proofs.StandLemmas.{fine_first}
 use Rattle.ae_changes.specs.Changes.{ChangesAsUsed}
 use Rattle.ae_changes.proofs.from_rules.PathLemmas.{first_holds}
-use Rattle.ae_changes.proofs.from_rules.SeenLemmas.{found_is, required}
-use Rattle.ae_changes.proofs.UsedLemmas.{IsWritten, Covers, written_left, written_right, local_itself, group_itself}
-use Rattle.ae_changes.proofs.UsedLemmas.{covers_both, covers_left, covers_right, covers_then}
-use Rattle.ae_changes.proofs.WriteLemmas.{BaseWritten, AreWritten, changes_nothing, bound_changes, moved_changes}
-use Rattle.ae_changes.proofs.WriteLemmas.{bind_changes, store_changes, write_changes}
-use Rattle.ae_changes.proofs.BaseLemmas.{reach_under, object_written, covers_base}
-use Rattle.ae_changes.proofs.MovedLemmas.{covers_names, into_written, right_written, return_written}
+use Rattle.ae_changes.proofs.UsedLemmas.{IsWritten, Covers}
+use Rattle.ae_changes.proofs.WriteLemmas.{BaseWritten, changes_nothing, moved_changes}
+use Rattle.ae_changes.proofs.WriteLemmas.{bind_changes, write_changes}
+use Rattle.ae_changes.proofs.BaseLemmas.{object_written, covers_base}
+use Rattle.ae_changes.proofs.MovedLemmas.{covers_names, right_written}
 
 -- what is given where a statement begins
 pub record Stands (p : Code) (c : Context) (s : State) : Type 0 where
@@ -90,7 +73,6 @@ slot_written p c s z path x u h e =
     let w = first_holds (walk p c (owner path)) (λ (from : Place). write_access c path.root.at from.held) u h in
     object_written p c s z.members z.fits z.right (owner path) w.0 x.object path.root.at u w.1 w.2
     (owner_reached p s path x e).is
-
 
 -- What an outcome is found to be goes on.
 pub found_gives : {A B : Type 0} (P : B → Type 0) (o : Outcome A) (next : A → Outcome B)

@@ -1,7 +1,7 @@
 -- A judged call changes only what it writes, where the body of its method changes only what it needs.
-use Rattle.std.proofs.Common.{◌≡◌, refl, sym, ap, ◌∙◌, subst, ℕ, nat_lt, Bool, true, false, List, [], ◌∷◌, map, zip}
+use Rattle.std.proofs.Common.{◌≡◌, refl, sym, ap, ◌∙◌, subst, ℕ, nat_lt, Bool, true, false, List, map, zip}
 use Rattle.std.proofs.Common.{Option, None, Some}
-use Rattle.std.specs.Prelude.{filter_map, ⊤}
+use Rattle.std.specs.Prelude.{filter_map}
 use Rattle.ae_text.specs.declared.refusal.Spot.{Spot}
 use Rattle.ae_tree.specs.Names.{io}
 use Rattle.ae_tree.specs.FreeThis.{ThisIsFree}
@@ -19,22 +19,21 @@ use Rattle.ae_rules.specs.Calls.{judge_callee_with}
 use Rattle.ae_rules.specs.Judges.{start}
 use Rattle.ae_rules.specs.Laws.{EverySlotIsGiven}
 use Rattle.ae_rules.specs.BlockLaws.{HoldsRight}
-use Rattle.ae_rules.specs.Uses.{◌∪◌, of_each, need_uses, callee_uses}
+use Rattle.ae_rules.specs.Uses.{of_each, need_uses, callee_uses}
 use Rattle.ae_semantics.specs.Contexts.{shuts_out}
 use Rattle.ae_semantics.specs.Values.{Val}
-use Rattle.ae_semantics.specs.Places.{Outcome, Fine, Traps, Lacks, State}
+use Rattle.ae_semantics.specs.Places.{Outcome, Fine, State}
 use Rattle.ae_semantics.specs.declared.report.Ending.TheVariants.{Done, Trap, Fuel}
 use Rattle.ae_semantics.specs.Observations.{Notes}
 use Rattle.ae_semantics.specs.Runs.{Run, Went, Ends, Stops, Act, and_then, outcome_given, paid, chosen, Where, Machine}
 use Rattle.ae_semantics.specs.Runs.{Below}
 use Rattle.ae_semantics.specs.Calls.{Argument, Taker, takers, CallFrame, frame, group_given, enter, without_moved}
-use Rattle.ae_semantics.specs.Calls.{groups_needed, groups_back, values_back, given_away, each_argument, leave}
+use Rattle.ae_semantics.specs.Calls.{groups_back, values_back, given_away, each_argument, leave}
 use Rattle.ae_semantics.specs.Meaning.{body_run, call_run, calls_method}
-use Rattle.ae_soundness.specs.Fits.{FitsContext, FieldsHaveMembers}
-use Rattle.ae_soundness.specs.Returns.{name_away, EachMayComeBack, MethodsGiveBack}
+use Rattle.ae_soundness.specs.Fits.{FitsContext}
+use Rattle.ae_soundness.specs.Returns.{name_away, MethodsGiveBack}
 use Rattle.ae_soundness.specs.Whole.{StandsAt, RunsTo, BodyEnds, BodiesKeep}
-use Rattle.ae_soundness.proofs.CallGroupLemmas.{needs_fit}
-use Rattle.ae_soundness.proofs.CallLemmas.{Entered, call_comes, JudgedCall, judged_call, HasGroups, has_groups}
+use Rattle.ae_soundness.proofs.CallLemmas.{Entered, call_comes, JudgedCall, judged_call, has_groups}
 use Rattle.ae_soundness.proofs.CallLemmas.{method_judged}
 use Rattle.ae_soundness.proofs.CallingLemmas.{needed_not_away}
 use Rattle.ae_soundness.proofs.GroupLemmas.{fields_are_of_groups}
@@ -52,7 +51,7 @@ use Rattle.ae_changes.proofs.ActLemmas.{Stands}
 use Rattle.ae_changes.proofs.RunLemmas.{outcome_changes}
 use Rattle.ae_changes.proofs.BackLemmas.{needed_written, EachBack, groups_back_change}
 use Rattle.ae_changes.proofs.ValueLemmas.{slot_uses, away_written, values_change}
-use Rattle.ae_changes.proofs.NeedLemmas.{Lends, Ended, each_back, same_io}
+use Rattle.ae_changes.proofs.NeedLemmas.{Lends, each_back, same_io}
 
 -- ---- what a judged call goes by
 
@@ -248,8 +247,10 @@ entered_changes {W} laws p c u s here at i k d n go run j cover keep bodies next
     own = own_method p c s i k d j
 
     stands : StandsAt p (start p k.method) y.state
-    stands = (subst (λ (z : CallFrame). FitsContext p (start p k.method) z.state) (sym r.is) entered.fits,
-        λ g cell. needed_not_away (group_given s k i) s k.method.needs g cell j.stands.1)
+    stands = (
+      subst (λ (z : CallFrame). FitsContext p (start p k.method) z.state) (sym r.is) entered.fits,
+      λ g cell. needed_not_away (group_given s k i) s k.method.needs g cell j.stands.1,
+    )
 
 -- A judged call changes only what it writes.
 pub call_changes : {W : Type 0} → CallLaws → (m : Machine W) (below : Option (Below W)) (c : Context) (u : Uses)

@@ -1,5 +1,5 @@
 -- A judged statement that calls changes only what it writes, where bodies change only what their methods need.
-use Rattle.std.proofs.Common.{◌≡◌, refl, sym, ap, ◌∙◌, subst, ℕ, Bool, true, false, not, List, Option, None, Some}
+use Rattle.std.proofs.Common.{◌≡◌, refl, sym, subst, ℕ, true, false, not, List, Option}
 use Rattle.std.specs.Prelude.{⊤}
 use Rattle.ae_text.specs.declared.refusal.Spot.{Spot}
 use Rattle.ae_text.specs.declared.refusal.Rule.TheVariants as rule
@@ -9,8 +9,8 @@ use Rattle.ae_tree.specs.declared.form.Form.{Form}
 use Rattle.ae_tree.specs.Form.{form}
 use Rattle.ae_tree.specs.FreeThis.{ThisIsFree}
 use Rattle.ae_tree.specs.WellShaped.{WellShaped}
-use Rattle.ae_tree.specs.Plain.{Code, Invocation}
-use Rattle.ae_tree.specs.Plain.{RightSide, Value, Taken, Zeros, Made, Returned}
+use Rattle.ae_tree.specs.Plain.{Invocation}
+use Rattle.ae_tree.specs.Plain.{Value, Taken, Zeros, Made, Returned}
 use Rattle.ae_tree.specs.Plain.{Action, Declares, Assigns, Stores, StoresAt, Calls, Chooses, ChoosesElse, Repeats}
 use Rattle.ae_tree.specs.Plain.{Groups, Splits, Locks, Freezes, Shares, Prints, PrintsText, Asserts, Returns}
 use Rattle.ae_rules.specs.declared.uses.Resource.TheVariants as resource
@@ -20,31 +20,30 @@ use Rattle.ae_rules.specs.Types.{forms_type}
 use Rattle.ae_rules.specs.Groups.{known}
 use Rattle.ae_rules.specs.Table.{TableHolds}
 use Rattle.ae_rules.specs.Context.{Local, Context, is_visible, with_local, with_held, held_of}
-use Rattle.ae_rules.specs.Calls.{Callee, Called, judge_callee, judge_call}
+use Rattle.ae_rules.specs.Calls.{Callee, Called, judge_call}
 use Rattle.ae_rules.specs.Statements.{judge_right, judge_let, judge_assign}
 use Rattle.ae_rules.specs.Judges.{Judges}
 use Rattle.ae_rules.specs.Laws.{EverySlotIsGiven}
 use Rattle.ae_rules.specs.BlockLaws.{HoldsRight}
 use Rattle.ae_rules.specs.Uses.{◌∪◌, of_judged, of_found, write_use, callee_uses, call_uses, right_uses, statement_uses}
 use Rattle.ae_semantics.specs.Values.{Val}
-use Rattle.ae_semantics.specs.Places.{Outcome, Fine, there, State, bind}
+use Rattle.ae_semantics.specs.Places.{there, State, bind}
 use Rattle.ae_semantics.specs.Equations.{one-Declares, one-Assigns, one-Calls}
 use Rattle.ae_semantics.specs.Observations.{Seen, Notes}
-use Rattle.ae_semantics.specs.Runs.{Run, Went, outcome_given, Where, Machine, Below}
+use Rattle.ae_semantics.specs.Runs.{Went, outcome_given, Where, Machine, Below}
 use Rattle.ae_semantics.specs.Meaning.{calls_method, assigned, result_to, sets, one}
 use Rattle.ae_soundness.specs.Returns.{MethodsGiveBack}
 use Rattle.ae_soundness.specs.Whole.{StandsAt, BodiesKeep, is_calling}
 use Rattle.ae_soundness.proofs.CallingLemmas.{CallJudged, call_judged, RightCalls, right_calls}
 use Rattle.ae_soundness.proofs.LastingLemmas.{Gives, Lasts, LastsBack, calling_lasts}
-use Rattle.ae_changes.specs.Changes.{ChangesAsUsed, KeepsLog, RunChanges}
-use Rattle.ae_changes.specs.Bodies.{BodiesChange, CallsChange, CallsChangeBy, CallsChangeAsUsed}
+use Rattle.ae_changes.specs.Changes.{ChangesAsUsed, RunChanges}
+use Rattle.ae_changes.specs.Bodies.{BodiesChange, CallsChangeBy, CallsChangeAsUsed}
 use Rattle.ae_changes.proofs.from_rules.PathLemmas.{first_holds}
 use Rattle.ae_changes.proofs.from_rules.SeenLemmas.{found_is}
-use Rattle.ae_changes.proofs.UsedLemmas.{IsWritten, Covers, written_left, local_itself, covers_left, covers_right}
-use Rattle.ae_changes.proofs.UsedLemmas.{covers_then}
+use Rattle.ae_changes.proofs.UsedLemmas.{IsWritten, Covers, written_left, local_itself, covers_right}
 use Rattle.ae_changes.proofs.WriteLemmas.{bind_changes}
 use Rattle.ae_changes.proofs.RunLemmas.{outcome_changes, with_result}
-use Rattle.ae_changes.proofs.CallLemmas.{CallLaws, CalledAt, CoversCall, GoesOn, call_changes}
+use Rattle.ae_changes.proofs.CallLemmas.{CallLaws, GoesOn, call_changes}
 
 -- what a statement that calls has for granted
 record Standing {W : Type 0} (m : Machine W) (below : Option (Below W)) (c : Context) (s : State) : Type 0 where
@@ -199,6 +198,8 @@ calls_change W laws m w free table below keep bodies here at a d s n o h right z
 
 -- With both kinds of machines it is so.
 pub calls_change_as_used : EverySlotIsGiven → MethodsGiveBack → CallsChangeAsUsed
-calls_change_as_used every back =
-    (calls_change ⊤ (record { every = every; back = back }), calls_change (List Seen)
-    (record { every = every; back = back }))
+calls_change_as_used every back = (
+  calls_change ⊤ (record { every = every; back = back }),
+  calls_change (List Seen)
+      (record { every = every; back = back }),
+)

@@ -1,14 +1,12 @@
 -- The groups that a call lends: what comes back of those that are not needed for themselves is what there was.
 use Rattle.std.proofs.Common.{◌≡◌, refl, sym, ap, ◌∙◌, subst, ℕ, nat_eq, Bool, true, false, not, List, [], ◌∷◌, ◌++◌, map}
-use Rattle.std.proofs.Common.{◌⊎◌, inl, inr, Option, None, Some}
+use Rattle.std.proofs.Common.{inl, inr, Option, None, Some}
 use Rattle.std.specs.Prelude.{⊤}
-use Rattle.std.specs.List.{list_all}
 use Rattle.std.proofs.lemmas.Bool.{eqb-true}
-use Rattle.ae_text.specs.declared.refusal.Spot.{Spot}
 use Rattle.ae_tree.specs.declared.tree.GroupNeed.{GroupNeed}
 use Rattle.ae_tree.specs.Form.{bare_names}
 use Rattle.ae_tree.specs.Names.{io}
-use Rattle.ae_tree.specs.Plain.{Code, Definition, Invocation}
+use Rattle.ae_tree.specs.Plain.{Code, Invocation}
 use Rattle.ae_tree.specs.WellShaped.{WellShaped}
 use Rattle.ae_rules.specs.declared.uses.Resource.TheVariants as resource
 use Rattle.ae_rules.specs.declared.held.GroupPerm.{GroupPerm}
@@ -29,10 +27,10 @@ use Rattle.ae_soundness.proofs.BackLemmas.{is_no_name}
 use Rattle.ae_soundness.proofs.CallGroupLemmas.{IsMet, found_is_met, need_permits}
 use Rattle.ae_soundness.proofs.CallLemmas.{HasGroups, JudgedCall, in_place_io, all_of_both, judged_names}
 use Rattle.ae_soundness.proofs.NeedLemmas.{IsHeldAs, needs_are_known}
-use Rattle.ae_changes.specs.Changes.{GoesBy, LeavesGroup, ChangesAsUsed}
+use Rattle.ae_changes.specs.Changes.{GoesBy, LeavesGroup}
 use Rattle.ae_changes.specs.Bodies.{need_mode, needs_use}
 use Rattle.ae_changes.proofs.from_rules.PathLemmas.{first_holds}
-use Rattle.ae_changes.proofs.UsedLemmas.{IsWritten, Covers}
+use Rattle.ae_changes.proofs.UsedLemmas.{Covers}
 use Rattle.ae_changes.proofs.WriteLemmas.{goes_by_name}
 use Rattle.ae_changes.proofs.BackLemmas.{needed_written, needed_as, IsLent, needed_is, IsSameBack, EachBack}
 

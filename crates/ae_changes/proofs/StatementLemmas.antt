@@ -1,8 +1,6 @@
 -- A judged statement that has no block and calls no method changes only what it writes.
-use Rattle.std.proofs.Common.{◌≡◌, ◌≢◌, refl, sym, ap, ◌∙◌, subst, ℕ, ℤ, Bool, true, false, not, List, [], ◌∷◌, ◌++◌}
-use Rattle.std.proofs.Common.{length, Option, None, Some}
-use Rattle.std.specs.Prelude.{⊤}
-use Rattle.std.specs.Prelude as prelude
+use Rattle.std.proofs.Common.{◌≡◌, ◌≢◌, refl, sym, subst, ℕ, Bool, true, false, not, [], ◌∷◌, ◌++◌}
+use Rattle.std.proofs.Common.{Option, Some}
 use Rattle.ae_text.specs.declared.refusal.Spot.{Spot}
 use Rattle.ae_text.specs.declared.refusal.Rule.TheVariants as rule
 use Rattle.ae_tree.specs.declared.tree.NameAt.{NameAt}
@@ -10,12 +8,11 @@ use Rattle.ae_tree.specs.declared.tree.Path.{Path}
 use Rattle.ae_tree.specs.declared.tree.Ty.{Ty}
 use Rattle.ae_tree.specs.declared.form.Form.{Form}
 use Rattle.ae_tree.specs.Form.{form}
-use Rattle.ae_tree.specs.Names.{io}
 use Rattle.ae_tree.specs.Plain.{Code, Definition, Expression}
-use Rattle.ae_tree.specs.Plain.{RightSide, Value, Taken, Zeros, Made, Returned}
+use Rattle.ae_tree.specs.Plain.{RightSide}
 use Rattle.ae_tree.specs.Plain.{Action, Declares, Assigns, Stores, StoresAt, Calls, Chooses, ChoosesElse, Repeats}
 use Rattle.ae_tree.specs.Plain.{Groups, Splits, Locks, Freezes, Shares, Prints, PrintsText, Asserts, Returns}
-use Rattle.ae_tree.specs.WellShaped.{HasField, IsNoReturn}
+use Rattle.ae_tree.specs.WellShaped.{HasField}
 use Rattle.ae_rules.specs.declared.uses.Resource.TheVariants as resource
 use Rattle.ae_rules.specs.Edges.{Uses}
 use Rattle.ae_rules.specs.Verdict.{Verdict, Holds, require, found}
@@ -27,25 +24,21 @@ use Rattle.ae_rules.specs.Context.{Local, Context, is_visible, with_local, with_
 use Rattle.ae_rules.specs.Walks.{Place, owner, walk, write_access, owner_write_access}
 use Rattle.ae_rules.specs.Statements.{judge_right, judge_let, judge_assign, judge_store, judge_store_at}
 use Rattle.ae_rules.specs.Expressions.{expression_spot}
-use Rattle.ae_rules.specs.Judges.{Judges, is_return}
+use Rattle.ae_rules.specs.Judges.{Judges}
 use Rattle.ae_rules.specs.Laws.{WalksGoByOwners}
-use Rattle.ae_rules.specs.BlockLaws.{HoldsRight}
 use Rattle.ae_rules.specs.Uses.{◌∪◌, of_judged, of_found, write_use, whole_group, value_uses, into_uses, right_uses}
 use Rattle.ae_rules.specs.Uses.{write_uses, return_uses, statement_uses}
-use Rattle.ae_semantics.specs.Contexts.{shuts_out}
-use Rattle.ae_semantics.specs.Values.{Val, OfInt, OfBool, Null, Owned, Member, Tree, Array, Store}
-use Rattle.ae_semantics.specs.Places.{Outcome, Fine, Traps, Lacks, ◌>>=◌, there, Here, Bound, State, with_bound}
+use Rattle.ae_semantics.specs.Values.{Val, OfInt, OfBool, Null, Owned, Member, Store}
+use Rattle.ae_semantics.specs.Places.{Outcome, Fine, ◌>>=◌, there, Here, Bound, State}
 use Rattle.ae_semantics.specs.Places.{with_store, store_of, OpenedObject, ObjectField, slot, reach, write_field}
-use Rattle.ae_semantics.specs.Places.{write_tree}
 use Rattle.ae_semantics.specs.Expressions.{value, number_of, truth_of, numbers, index}
 use Rattle.ae_semantics.specs.Equations.{one-Declares, one-Assigns, one-Stores, one-StoresAt, one-Groups, one-Freezes}
 use Rattle.ae_semantics.specs.Equations.{one-Shares, one-Prints, one-PrintsText, one-Asserts, one-Returns}
 use Rattle.ae_semantics.specs.Observations.{Notes}
-use Rattle.ae_semantics.specs.Runs.{Run, Went, Ends, Stops, outcome_given, Where, Machine, Below}
+use Rattle.ae_semantics.specs.Runs.{outcome_given, Where, Machine, Below}
 use Rattle.ae_semantics.specs.Calls.{without_moved}
 use Rattle.ae_semantics.specs.Meaning.{sets, name_moved, stored, stored_at, shared_value, shares_into, frozen}
 use Rattle.ae_semantics.specs.Meaning.{result_moved, returns_value, printed_value, asserts, does, one}
-use Rattle.ae_soundness.specs.Fits.{FieldsHaveMembers, FitsContext}
 use Rattle.ae_soundness.specs.Laws.{is_without_calls}
 use Rattle.ae_soundness.proofs.LastingLemmas.{Gives, next_gives, then_gives, Leaves, given_leaves, any_leaves}
 use Rattle.ae_soundness.proofs.OutcomeLemmas.{Comes}

@@ -12,7 +12,6 @@ use Rattle.ae_tree.specs.declared.form.Form.{Form}
 use Rattle.ae_tree.specs.declared.form.Form.TheVariants as f
 use Rattle.ae_tree.specs.Plain.{Code, Expression, Read}
 use Rattle.ae_rules.specs.declared.held.Held.{Held}
-use Rattle.ae_rules.specs.declared.held.Held.TheVariants as held
 use Rattle.ae_rules.specs.declared.uses.Resource.TheVariants as resource
 use Rattle.ae_rules.specs.Edges.{Uses}
 use Rattle.ae_rules.specs.Verdict.{Holds, fine, in_turn, given}
@@ -20,8 +19,8 @@ use Rattle.ae_rules.specs.Forms.{is_unique, form_with}
 use Rattle.ae_rules.specs.Context.{Context, access}
 use Rattle.ae_rules.specs.Into.{Source, Null, From, source, moves, source_moves, name_into}
 use Rattle.ae_rules.specs.Calls.{Roots, ParamSlot, to_form, to_slot}
-use Rattle.ae_rules.specs.Uses.{◌∪◌, of_each, of_found, write_use, walk_uses, root_lent, given_uses, argument_uses}
-use Rattle.ae_semantics.specs.Places.{Outcome, Fine, ◌>>=◌, there, Bound, State, Base, InLocal, Address, write}
+use Rattle.ae_rules.specs.Uses.{◌∪◌, of_each, of_found, write_use, walk_uses, given_uses, argument_uses}
+use Rattle.ae_semantics.specs.Places.{Fine, ◌>>=◌, there, Bound, State, InLocal, Address, write}
 use Rattle.ae_semantics.specs.Calls.{Argument, argument, each_argument, value_comes_back, put_back, values_back}
 use Rattle.ae_soundness.specs.Returns.{name_away}
 use Rattle.ae_soundness.proofs.KeptLemmas.{Shape, slot_as, taker_as, IsLentWhole, lent_so}
@@ -34,7 +33,7 @@ use Rattle.ae_changes.proofs.UsedLemmas.{IsWritten, Covers, written_left, local_
 use Rattle.ae_changes.proofs.UsedLemmas.{covers_then}
 use Rattle.ae_changes.proofs.WriteLemmas.{BaseWritten, AreWritten, write_changes}
 use Rattle.ae_changes.proofs.BaseLemmas.{StandsUnder, walk_under}
-use Rattle.ae_changes.proofs.MovedLemmas.{as_list, covers_names, each_written}
+use Rattle.ae_changes.proofs.MovedLemmas.{as_list, each_written}
 use Rattle.ae_changes.proofs.ActLemmas.{Stands}
 
 -- what an argument uses for its slot

@@ -1,11 +1,9 @@
 -- Where no group is split, each judged statement and block of an accepted program changes only what it writes.
-use Rattle.std.proofs.Common.{◌≡◌, refl, sym, ap, ◌∙◌, subst, ℕ, suc, Bool, true, false, []}
+use Rattle.std.proofs.Common.{◌≡◌, refl, sym, ap, subst, ℕ, suc, true, []}
 use Rattle.std.proofs.Common.{Option, None, Some}
-use Rattle.std.specs.Prelude.{⊤}
 use Rattle.ae_text.specs.declared.refusal.Spot.{Spot}
-use Rattle.ae_text.specs.declared.refusal.Rule.TheVariants as rule
 use Rattle.ae_tree.specs.declared.form.Form.TheVariants as f
-use Rattle.ae_tree.specs.Plain.{Expression, Lines, End, Next, Definition, Code}
+use Rattle.ae_tree.specs.Plain.{Expression, Lines, End, Next, Code}
 use Rattle.ae_tree.specs.Plain.{Value, Taken, Zeros, Made, Returned}
 use Rattle.ae_tree.specs.Plain.{Action, Declares, Assigns, Stores, StoresAt, Calls, Chooses, ChoosesElse, Repeats}
 use Rattle.ae_tree.specs.Plain.{Groups, Splits, Locks, Freezes, Shares, Prints, PrintsText, Asserts, Returns}
@@ -16,13 +14,13 @@ use Rattle.ae_rules.specs.Context.{Context, closed}
 use Rattle.ae_rules.specs.Expressions.{is_value}
 use Rattle.ae_rules.specs.Statements.{end_block, branches_meet, judge_statement, judge_lines}
 use Rattle.ae_rules.specs.Judges.{Judges, is_return, returns}
-use Rattle.ae_rules.specs.Laws.{Keeps, StatementsKeep}
+use Rattle.ae_rules.specs.Laws.{Keeps}
 use Rattle.ae_rules.specs.Blocks.{Scene}
 use Rattle.ae_rules.specs.Uses.{◌∪◌, of_judged, outside, value_uses, statement_uses, lines_use}
 use Rattle.ae_semantics.specs.Places.{State}
 use Rattle.ae_semantics.specs.Expressions.{truth_of}
 use Rattle.ae_semantics.specs.Contexts.{after, or_before}
-use Rattle.ae_semantics.specs.Equations.{one-Chooses, one-ChoosesElse, one-Repeats, many-End, many-Next, branch}
+use Rattle.ae_semantics.specs.Equations.{one-Chooses, one-ChoosesElse, one-Repeats, many-End, many-Next}
 use Rattle.ae_semantics.specs.Observations.{Ran, Turned, Notes, Observer}
 use Rattle.ae_semantics.specs.Runs.{Run, Went, Act, and_then, paid, marked, Where, deeper, knowing, whole_block, Machine}
 use Rattle.ae_semantics.specs.Runs.{Below}

@@ -1,5 +1,5 @@
 -- Small changes of a state change only what is written.
-use Rattle.std.proofs.Common.{◌≡◌, ◌≢◌, refl, sym, ap, ◌∙◌, subst, ℕ, nat_eq, Bool, true, false, if◌then◌else◌}
+use Rattle.std.proofs.Common.{◌≡◌, refl, sym, ap, ◌∙◌, subst, ℕ, nat_eq, Bool, true, false, if◌then◌else◌}
 use Rattle.std.proofs.Common.{Option, None, Some, List, [], ◌∷◌, ◌⊎◌, inl, inr}
 use Rattle.std.specs.Prelude.{is_some, slice_get}
 use Rattle.std.specs.Prelude as prelude
@@ -10,7 +10,7 @@ use Rattle.ae_rules.specs.Edges.{Uses}
 use Rattle.ae_rules.specs.Context.{Context}
 use Rattle.ae_semantics.specs.Contexts.{shuts_out}
 use Rattle.ae_semantics.specs.Values.{Val, OfInt, OfBool, Null, Owned, Member, Store}
-use Rattle.ae_semantics.specs.Places.{Outcome, Fine, ◌>>=◌, there, Group, Here, Away, As, Bound, State, other_name}
+use Rattle.ae_semantics.specs.Places.{Fine, there, Group, Here, Away, As, Bound, State, other_name}
 use Rattle.ae_semantics.specs.Places.{name_of, with_bound, with_store, store_of, Base, InLocal, InGroup, low, bind}
 use Rattle.ae_semantics.specs.Places.{with_member, rewrite_member, write_in}
 use Rattle.ae_semantics.specs.Calls.{without_moved}

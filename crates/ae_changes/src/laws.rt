@@ -13,8 +13,8 @@ use ae_soundness::{
 };
 
 /// A judged statement that has no block and calls no method changes, from a state that fits what is known, only the
-/// locals and groups that it uses by Write or as a whole: each other visible local is as before, and what was not visible
-/// is as before or gone. It prints only where it uses `io`, and changes the result only where it is a `return`.
+/// locals and groups that it uses by Write or as a whole: each other visible local is as before, and what was not
+/// visible is as before or gone. It prints only where it uses `io`, and changes the result only where it is a `return`.
 pub fn acts_change_as_used()
     ensures { ActsChangeAsUsed }
 {
@@ -24,8 +24,8 @@ pub fn acts_change_as_used()
 
 /// Where the body of each method, from a state that stands where it begins, is left as it is judged to end and changes
 /// only the groups that the method needs for itself, each judged statement that calls changes only what it writes: the
-/// locals whose objects it lends as unique or gives away, the local that gets the result, and the groups that the method
-/// needs for itself. It prints only where it uses `io`, and changes no result.
+/// locals whose objects it lends as unique or gives away, the local that gets the result, and the groups that the
+/// method needs for itself. It prints only where it uses `io`, and changes no result.
 pub fn calls_change_as_used()
     ensures { CallsChangeAsUsed }
 {
@@ -36,8 +36,8 @@ pub fn calls_change_as_used()
 /// In an accepted and well-shaped program in which nothing is split a judged statement of a method, with its blocks,
 /// changes only what it writes, from a state that stands where it begins, with each fuel and whatever is observed: each
 /// other local that is visible before it is as before, and each group that is not written under any of its names. It
-/// prints only where it uses `io`, and the result is another only where it has a `return`. Nothing may be declared under
-/// the name `this`.
+/// prints only where it uses `io`, and the result is another only where it has a `return`. Nothing may be declared
+/// under the name `this`.
 pub fn statements_change_as_used()
     ensures { StatementsChangeAsUsed }
 {
@@ -55,7 +55,7 @@ pub fn statements_change_as_used()
 }
 
 /// In such a program the whole body of a method changes only the groups that the method needs for itself, and of its
-/// parameters only those that its statements write. It prints only where the method needs `io`, and one of them uses it.
+/// parameters only those that its statements write. It prints only where the method needs `io` and a statement uses it.
 pub fn bodies_change_as_used()
     ensures { BodiesChangeAsUsed }
 {
