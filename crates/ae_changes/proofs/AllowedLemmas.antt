@@ -31,7 +31,8 @@ no_write group.Protected e = cc e
 no_write group.HeldBack e = cc e
 no_write group.None e = cc e
 
-strong_allowed : (q : GroupPerm) (o : Option Mode) → ((n : Mode) → o ≡ Some n → group_allows q n ≡ true)
+-- What is written is allowed to be used as a whole.
+pub strong_allowed : (q : GroupPerm) (o : Option Mode) → ((n : Mode) → o ≡ Some n → group_allows q n ≡ true)
     → shuts_out o ≡ true → group_allows q mode.GroupWhole ≡ true
 strong_allowed q None k h = absurd (cc h)
 strong_allowed q (Some mode.Read) k h = absurd (cc h)

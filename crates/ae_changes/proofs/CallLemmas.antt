@@ -84,8 +84,8 @@ own_held : (p : Code) (c : Context) (s : State) (i : Invocation) (k : Callee) (d
 own_held p c s i k d j =
     let n = own_method p c s i k d j in method_is_held p j.shaped j.table n.0 k.method n.1
 
--- what was entered
-entered_is : (p : Code) (k : Callee) (o : Outcome CallFrame) (f : CallFrame) → Comes (Entered p k) o → o ≡ Fine f
+-- What was entered is so.
+pub entered_is : (p : Code) (k : Callee) (o : Outcome CallFrame) (f : CallFrame) → Comes (Entered p k) o → o ≡ Fine f
     → Entered p k f
 entered_is p k o f h e = subst (Comes (Entered p k)) e h
 

@@ -19,3 +19,5 @@ pub mod BlockLemmas
 pub mod WholeLemmas
 pub mod AllowedLemmas
 pub mod BodyLemmas
+pub mod ApartLemmas
+pub mod BeginLemmas

@@ -1,3 +1,4 @@
 pub mod Changes
 pub mod Bodies
 pub mod Whole
+pub mod Apart

@@ -1,4 +1,6 @@
 // What an accepted statement changes.
+ghost use Rattle.ae_changes.specs.Apart.{BeginningsAreApart, CallsBeginApart};
+ghost use Rattle.ae_changes.specs.Apart.{NamesStayApart, UnwrittenGroupsStay};
 ghost use Rattle.ae_changes.specs.Bodies.{CallsChangeAsUsed};
 ghost use Rattle.ae_changes.specs.Changes.{ActsChangeAsUsed};
 ghost use Rattle.ae_changes.specs.Whole.{BodiesChangeAsUsed, StatementsChangeAsUsed};
@@ -71,3 +73,31 @@ pub fn bodies_change_as_used()
     acts_change_as_used();
     calls_change_as_used();
 }
+
+/// Where no group that may be reached stands under another name, and no name of another leads to it, each group that a
+/// judged statement does not write is as before, if the statement changes only what it writes.
+pub fn unwritten_groups_stay()
+    ensures { UnwrittenGroupsStay }
+{
+    uses_are_allowed();
+    statements_keep_what_is_visible();
+}
+
+/// It is so after the statement too.
+pub fn names_stay_apart()
+    ensures { NamesStayApart }
+{
+    statements_keep_what_is_visible();
+}
+
+/// It is so where a called method begins, in a well-shaped program whose declarations hold, if it is where it was called.
+pub fn calls_begin_apart()
+    ensures { CallsBeginApart }
+{
+    every_slot_is_given();
+}
+
+/// It is so where a program begins.
+pub fn beginnings_are_apart()
+    ensures { BeginningsAreApart }
+{}
