@@ -40,7 +40,7 @@ use Rattle.ae_changes.proofs.BaseLemmas.{object_written, covers_base}
 use Rattle.ae_changes.proofs.MovedLemmas.{covers_names, right_written}
 
 -- what is given where a statement begins
-pub record Stands (p : Code) (c : Context) (s : State) : Type 0 where
+pub record FitsRight (p : Code) (c : Context) (s : State) : Type 0 where
   pub members : FieldsHaveMembers p
   pub fits : FitsContext p c s
   pub right : HoldsRight c
@@ -66,7 +66,7 @@ owner_reached p s path x e =
     record { is = b.1 ∙ ap (λ (y : ObjectField). Fine y.object) same }
 
 -- A field that may be written stands where it is written.
-pub slot_written : (p : Code) (c : Context) (s : State) → Stands p c s → (path : Path) (x : ObjectField) (u : ⊤)
+pub slot_written : (p : Code) (c : Context) (s : State) → FitsRight p c s → (path : Path) (x : ObjectField) (u : ⊤)
     → owner_write_access p c path ≡ Holds u → slot p s path ≡ Fine x
     → BaseWritten (write_uses p c (owner path)) x.object.at.base
 slot_written p c s z path x u h e =
@@ -92,7 +92,7 @@ taken_changes p c u s x w = next_gives P (there (field_value x.object.tree x.par
     P : Val × State → Type 0
     P = OfSecond (ChangesAsUsed c u s)
 
-take_changes : (p : Code) (c d : Context) (u : Uses) (s : State) (t : Form) (path : Path) (at : Spot) → Stands p c s
+take_changes : (p : Code) (c d : Context) (u : Uses) (s : State) (t : Form) (path : Path) (at : Spot) → FitsRight p c s
     → judge_right p c t (Taken path at) ≡ Holds d → Covers (write_uses p c (owner path)) u
     → Gives (OfSecond (ChangesAsUsed c u s)) (made p (Taken path at) s)
 take_changes p c d u s t path at z h k =
@@ -106,7 +106,7 @@ take_changes p c d u s t path at z h k =
     (slot_written p c s z path x g.0 g.1 i)))
 
 -- a judged right side that is no call changes only what it writes
-made_changes : (p : Code) (c d : Context) (u : Uses) (s : State) (t : Form) (e : RightSide) → Stands p c s
+made_changes : (p : Code) (c d : Context) (u : Uses) (s : State) (t : Form) (e : RightSide) → FitsRight p c s
     → not (is_call e) ≡ true → judge_right p c t e ≡ Holds d → Covers (right_uses p c t e) u
     → Gives (OfSecond (ChangesAsUsed c u s)) (made p e s)
 made_changes p c d u s t (Value e) z o h k = next_gives (OfSecond (ChangesAsUsed c u s)) (value p s e)
@@ -129,7 +129,7 @@ assigned_changes c u s at x t v y n w h = given_leaves (ChangesAsUsed c u s) (Ch
     (bind_changes c u s x t v y w h) (λ z i. i)
 
 set_made : {W : Type 0} (p : Code) (c d : Context) (u : Uses) (s : State) (at : Spot) (x : ℕ) (t : Form)
-    (e : RightSide) (n : Notes W) → Stands p c s → not (is_call e) ≡ true → judge_right p c t e ≡ Holds d
+    (e : RightSide) (n : Notes W) → FitsRight p c s → not (is_call e) ≡ true → judge_right p c t e ≡ Holds d
     → Covers (right_uses p c t e) u → IsWritten u (resource.Local x)
     → Leaves (ChangesAsUsed c u s) (outcome_given (made p e s) at n
     (λ r. assigned at x t r.0 (without_moved (right_moved p t e) r.1) n))
@@ -143,7 +143,7 @@ set_made p c d u s at x t e n z o h k w =
 
 -- A local gets the value of a judged right side that is no call.
 pub set_changes : {W : Type 0} (m : Machine W) (below : Option (Below W)) (here : Where) (c d : Context) (u : Uses)
-    (s : State) (at : Spot) (x : ℕ) (t : Form) (e : RightSide) (n : Notes W) → Stands m.code c s
+    (s : State) (at : Spot) (x : ℕ) (t : Form) (e : RightSide) (n : Notes W) → FitsRight m.code c s
     → not (is_call e) ≡ true → judge_right m.code c t e ≡ Holds d → Covers (right_uses m.code c t e) u
     → IsWritten u (resource.Local x) → Leaves (ChangesAsUsed c u s) (sets m below here at x t e s n)
 set_changes m below here c d u s at x t (Value e) n z o h k w = set_made m.code c d u s at x t (Value e) n z o h k w

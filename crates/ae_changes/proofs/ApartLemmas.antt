@@ -1,51 +1,27 @@
 -- Groups that stand under one name may not be reached, and stay so.
-use Rattle.std.proofs.Common.{◌≡◌, ◌≢◌, refl, sym, ap, ◌∙◌, subst, ℕ, ℤ, nat_eq, Bool, true, false, ◌&&◌, ◌||◌, not}
-use Rattle.std.proofs.Common.{if◌then◌else◌, List, [], ◌∷◌, map, zip, length, ◌⊎◌, inl, inr, Option, None, Some}
-use Rattle.std.specs.Prelude.{option_map, is_some, ⊤}
-use Rattle.std.specs.List.{list_any}
+use Rattle.std.proofs.Common.{◌≡◌, refl, sym, ap, ◌∙◌, subst, ℕ, nat_eq, Bool, true, false, ◌||◌, not}
+use Rattle.std.proofs.Common.{inl, inr, Option, None, Some}
+use Rattle.std.specs.Prelude.{is_some}
 use Rattle.std.proofs.lemmas.Bool.{eqb-true}
-use Rattle.std.proofs.lemmas.Option.{same_Some}
 use Rattle.ae_text.specs.declared.refusal.Spot.{Spot}
-use Rattle.ae_text.specs.declared.refusal.Rule.TheVariants as rule
-use Rattle.ae_tree.specs.declared.tree.Need.{Need}
-use Rattle.ae_tree.specs.declared.tree.Need.TheVariants as need_of
-use Rattle.ae_tree.specs.declared.tree.GroupNeed.{GroupNeed}
 use Rattle.ae_tree.specs.Names.{io}
-use Rattle.ae_tree.specs.WellShaped.{WellShaped}
-use Rattle.ae_tree.specs.Plain.{Action, Definition, Code, Invocation}
+use Rattle.ae_tree.specs.Plain.{Action, Definition, Code}
 use Rattle.ae_rules.specs.declared.held.GroupPerm.{GroupPerm}
 use Rattle.ae_rules.specs.declared.held.GroupPerm.TheVariants as group
 use Rattle.ae_rules.specs.declared.uses.Resource.TheVariants as resource
-use Rattle.ae_rules.specs.declared.uses.Mode.{Mode}
 use Rattle.ae_rules.specs.declared.uses.Mode.TheVariants as mode
-use Rattle.ae_rules.specs.Edges.{Uses}
-use Rattle.ae_rules.specs.Verdict.{Holds, require, each, given}
-use Rattle.ae_rules.specs.Lookups.{top_number, method_at}
-use Rattle.ae_rules.specs.Table.{TableHolds}
-use Rattle.ae_rules.specs.Groups.{Groups as GroupsKnown}
-use Rattle.ae_rules.specs.Groups.{known, same_group_perm, group_is, opens, clash, any_clash, are_shared, need_met}
-use Rattle.ae_rules.specs.Groups.{wanted_need, needs_met}
+use Rattle.ae_rules.specs.Verdict.{given}
+use Rattle.ae_rules.specs.Groups.{known, same_group_perm, opens}
 use Rattle.ae_rules.specs.Context.{Context}
-use Rattle.ae_rules.specs.Calls.{Callee, group_in, Called, judge_callee, judge_callee_with}
-use Rattle.ae_rules.specs.Judges.{Judges, permission_needed, need_for, knows, groups_at_start, start}
-use Rattle.ae_rules.specs.Laws.{EverySlotIsGiven, StatementsKeep}
+use Rattle.ae_rules.specs.Judges.{Judges}
+use Rattle.ae_rules.specs.Laws.{StatementsKeep}
 use Rattle.ae_rules.specs.EdgeLaws.{group_allows, UsesAreAllowed}
 use Rattle.ae_rules.specs.Uses.{statement_uses}
 use Rattle.ae_semantics.specs.Contexts.{shuts_out}
-use Rattle.ae_semantics.specs.Places.{Outcome, Fine, Group, Here, Away, As, State, other_name, name_of}
-use Rattle.ae_semantics.specs.Calls.{groups_needed, group_given, CallFrame, frame, enter}
-use Rattle.ae_semantics.specs.Runs.{Where}
-use Rattle.ae_semantics.specs.Means.{Start, run_start, start_at}
+use Rattle.ae_semantics.specs.Places.{As, State, other_name}
 use Rattle.ae_soundness.specs.Fits.{has_members, FitsContext}
-use Rattle.ae_soundness.proofs.BackLemmas.{is_no_name}
-use Rattle.ae_soundness.proofs.CallGroupLemmas.{IsMet, found_is_met, there_is_needed}
-use Rattle.ae_soundness.proofs.FieldLemmas.{given_some}
-use Rattle.ae_changes.specs.Changes.{GoesBy, ChangesAsUsed}
-use Rattle.ae_changes.specs.Bodies.{need_mode, needs_use}
-use Rattle.ae_changes.specs.Apart.{NamesApart, GroupsStay, UnwrittenGroupsStay, NamesStayApart}
-use Rattle.ae_changes.proofs.from_rules.PathLemmas.{first_holds}
-use Rattle.ae_changes.proofs.from_rules.SeenLemmas.{required}
-use Rattle.ae_changes.proofs.from_text.Basics.{number_is_itself}
+use Rattle.ae_changes.specs.Changes.{GoesBy}
+use Rattle.ae_changes.specs.Apart.{UnwrittenGroupsStay, NamesStayApart}
 use Rattle.ae_changes.proofs.UsedLemmas.{IsWritten}
 use Rattle.ae_changes.proofs.AllowedLemmas.{strong_allowed}
 
@@ -115,8 +91,10 @@ unwritten_groups_stay law keep p m at a c d s t h z apart i g e = i.group g (λ 
         by_use : (b : Bool) → shuts_out (statement_uses p m a c (resource.Group y)) ≡ b
             → shuts_out (statement_uses p m a c (resource.Group y)) ≡ false
         by_use false k = k
-        by_use true k = absurd (cc (written_opens law keep p m at a c d y h (known_both p c s y g z q).one k,
-            (apart y g q).0))
+        by_use true k = absurd (cc (
+          written_opens law keep p m at a c d y h (known_both p c s y g z q).one k,
+          (apart y g q).0,
+        ))
 
 -- Names stay apart after a judged statement.
 pub names_stay_apart : StatementsKeep → NamesStayApart

@@ -1,6 +1,6 @@
 -- Where a called method begins, groups that stand under one name may not be reached.
-use Rattle.std.proofs.Common.{◌≡◌, ◌≢◌, refl, sym, ap, ◌∙◌, subst, ℕ, ℤ, nat_eq, Bool, true, false, ◌&&◌, ◌||◌, not}
-use Rattle.std.proofs.Common.{if◌then◌else◌, List, [], ◌∷◌, map, zip, length, ◌⊎◌, inl, inr, Option, None, Some}
+use Rattle.std.proofs.Common.{◌≡◌, refl, sym, ap, ◌∙◌, subst, ℕ, nat_eq, Bool, true, false, ◌&&◌, ◌||◌, not}
+use Rattle.std.proofs.Common.{if◌then◌else◌, List, [], ◌∷◌, map, zip, length, Option, None, Some}
 use Rattle.std.specs.Prelude.{option_map, ⊤}
 use Rattle.std.specs.List.{list_any}
 use Rattle.std.proofs.lemmas.Bool.{eqb-true, not-true}
@@ -11,36 +11,31 @@ use Rattle.ae_tree.specs.declared.tree.Need.{Need}
 use Rattle.ae_tree.specs.declared.tree.Need.TheVariants as need_of
 use Rattle.ae_tree.specs.declared.tree.GroupNeed.{GroupNeed}
 use Rattle.ae_tree.specs.Names.{main}
-use Rattle.ae_tree.specs.WellShaped.{WellShaped}
 use Rattle.ae_tree.specs.Plain.{Definition, Code, Invocation}
 use Rattle.ae_rules.specs.declared.held.GroupPerm.{GroupPerm}
 use Rattle.ae_rules.specs.declared.held.GroupPerm.TheVariants as group
-use Rattle.ae_rules.specs.declared.uses.Resource.TheVariants as resource
 use Rattle.ae_rules.specs.Verdict.{Holds, require, each, in_turn, given}
 use Rattle.ae_rules.specs.Lookups.{top_number, method_at}
-use Rattle.ae_rules.specs.Table.{TableHolds}
 use Rattle.ae_rules.specs.Types.{groups_fit}
 use Rattle.ae_rules.specs.Groups.{Groups as GroupsKnown}
 use Rattle.ae_rules.specs.Groups.{Wanted, known, same_group_perm, group_is, opens, clash, any_clash, are_shared, need_met}
 use Rattle.ae_rules.specs.Groups.{wanted_need, needs_met}
 use Rattle.ae_rules.specs.Context.{Context}
-use Rattle.ae_rules.specs.Calls.{Callee, group_in, Called, slots, givens, to_slot, no_roots, judge_callee}
+use Rattle.ae_rules.specs.Calls.{Callee, group_in, Called, slots, givens, to_slot, no_roots}
 use Rattle.ae_rules.specs.Calls.{judge_callee_with}
-use Rattle.ae_rules.specs.Judges.{permission_needed, need_for, knows, groups_at_start, start}
+use Rattle.ae_rules.specs.Judges.{permission_needed, need_for, knows, groups_at_start}
 use Rattle.ae_rules.specs.Laws.{EverySlotIsGiven}
 use Rattle.ae_semantics.specs.Contexts.{shuts_out}
-use Rattle.ae_semantics.specs.Places.{Fine, Group, Here, Away, As, State, other_name, name_of}
-use Rattle.ae_semantics.specs.Calls.{groups_needed, group_given, CallFrame, frame, enter}
-use Rattle.ae_semantics.specs.Runs.{Where}
-use Rattle.ae_semantics.specs.Means.{Start, run_start, start_at}
-use Rattle.ae_soundness.specs.Fits.{FitsContext}
+use Rattle.ae_semantics.specs.Places.{Group, Here, Away, As, State, other_name, name_of}
+use Rattle.ae_semantics.specs.Calls.{groups_needed, group_given, CallFrame, enter}
+use Rattle.ae_semantics.specs.Means.{Start, start_at}
 use Rattle.ae_soundness.proofs.BackLemmas.{is_no_name}
 use Rattle.ae_soundness.proofs.CallGroupLemmas.{IsMet, found_is_met, there_is_needed}
-use Rattle.ae_soundness.proofs.CallLemmas.{Entered, call_comes, JudgedCall, judged_call, has_groups, method_judged}
+use Rattle.ae_soundness.proofs.CallLemmas.{Entered, call_comes, judged_call, has_groups, method_judged}
 use Rattle.ae_soundness.proofs.FieldLemmas.{given_some}
 use Rattle.ae_soundness.proofs.LeaveLemmas.{WasEntered, was_entered}
-use Rattle.ae_soundness.proofs.NeedLemmas.{IsHeldAs, method_is_held}
-use Rattle.ae_changes.specs.Bodies.{need_mode, needs_use}
+use Rattle.ae_soundness.proofs.NeedLemmas.{method_is_held}
+use Rattle.ae_changes.specs.Bodies.{need_mode}
 use Rattle.ae_changes.specs.Apart.{NamesApart, CallsBeginApart, BeginningsAreApart}
 use Rattle.ae_changes.proofs.from_rules.PathLemmas.{first_holds}
 use Rattle.ae_changes.proofs.from_rules.SeenLemmas.{required}

@@ -43,7 +43,7 @@ use Rattle.ae_changes.proofs.from_rules.SeenLemmas.{found_is}
 use Rattle.ae_changes.proofs.UsedLemmas.{IsWritten, Covers, written_left, local_itself, covers_right}
 use Rattle.ae_changes.proofs.WriteLemmas.{bind_changes}
 use Rattle.ae_changes.proofs.RunLemmas.{outcome_changes, with_result}
-use Rattle.ae_changes.proofs.CallLemmas.{CallLaws, GoesOn, call_changes}
+use Rattle.ae_changes.proofs.CallLemmas.{LawsOfCalls, ResultGoes, call_changes}
 
 -- what a statement that calls has for granted
 record Standing {W : Type 0} (m : Machine W) (below : Option (Below W)) (c : Context) (s : State) : Type 0 where
@@ -56,9 +56,9 @@ record Standing {W : Type 0} (m : Machine W) (below : Option (Below W)) (c : Con
   stands : StandsAt m.code c s
 
 -- a judged call, and then what is done with its result
-judged_changes : {W : Type 0} → CallLaws → (m : Machine W) (below : Option (Below W)) (c : Context) (u : Uses)
+judged_changes : {W : Type 0} → LawsOfCalls → (m : Machine W) (below : Option (Below W)) (c : Context) (u : Uses)
     (s : State) (here : Where) (at : Spot) (i : Invocation) (d : Called) (n : Notes W) (go : _)
-    → Standing m below c s → CallJudged m.code c i d → Covers (call_uses m.code c i) u → GoesOn c u s n go
+    → Standing m below c s → CallJudged m.code c i d → Covers (call_uses m.code c i) u → ResultGoes c u s n go
     → RunChanges c u ⊥ s n (calls_method m below here at i s n go)
 judged_changes laws m below c u s here at i d n go z j k next =
     call_changes laws m below c u s here at i j.callee d n go (record {
@@ -75,12 +75,12 @@ judged_changes laws m below c u s here at i d n go z j k next =
 
 -- a result goes to a local that is written
 result_goes : {W : Type 0} (c : Context) (u : Uses) (s : State) (n : Notes W) (at : Spot) (x : ℕ) (t : Form)
-    → IsWritten u (resource.Local x) → GoesOn c u s n (result_to at x t)
+    → IsWritten u (resource.Local x) → ResultGoes c u s n (result_to at x t)
 result_goes c u s n at x t w r v y h l = outcome_changes c u ⊥ s n y (there r) at (λ o. assigned at x t o v y) l
     (λ o i. outcome_changes c u ⊥ s n y (bind x t o v) at (λ z. Went z y) l
     (λ z q. (subst (Gives (ChangesAsUsed c u s)) q (bind_changes c u s x t o v w h), l, λ e. absurd e)))
 
-set_changes : {W : Type 0} → CallLaws → (m : Machine W) (below : Option (Below W)) (c d : Context)
+set_changes : {W : Type 0} → LawsOfCalls → (m : Machine W) (below : Option (Below W)) (c d : Context)
     (s : State) (here : Where) (at : Spot) (x : ℕ) (t : Form) (i : Invocation) (n : Notes W) → Standing m below c s
     → judge_right m.code c t (Returned i) ≡ Holds d
     → RunChanges c (write_use x ∪ call_uses m.code c i) ⊥ s n (sets m below here at x t (Returned i) s n)
@@ -92,7 +92,7 @@ set_changes laws m below c d s here at x t i n z h =
     (result_goes c u s n at x t
     (written_left (write_use x) (call_uses m.code c i) (resource.Local x) (local_itself x)))
 
-declare_changes : {W : Type 0} → CallLaws → (m : Machine W) (below : Option (Below W)) (here : Where) (at : Spot)
+declare_changes : {W : Type 0} → LawsOfCalls → (m : Machine W) (below : Option (Below W)) (here : Where) (at : Spot)
     (ty : Ty) (x : NameAt) (i : Invocation) (d : Context) (s : State) (n : Notes W) → Standing m below here.context s
     → judge_let m.code here.context ty x (Returned i) ≡ Holds d
     → RunChanges here.context (write_use x.name ∪ call_uses m.code here.context i) ⊥ s n
@@ -104,7 +104,7 @@ declare_changes laws m below here at ty x i d s n z h =
     let r = first_holds (judge_right m.code c (form ty) (Returned i)) (λ y. Holds (with_local x.name (form ty) y)) d b.2
     in set_changes laws m below c r.0 s here at x.name (form ty) i n z r.1
 
-assign_changes : {W : Type 0} → CallLaws → (m : Machine W) (below : Option (Below W)) (here : Where) (at : Spot)
+assign_changes : {W : Type 0} → LawsOfCalls → (m : Machine W) (below : Option (Below W)) (here : Where) (at : Spot)
     (x : NameAt) (i : Invocation) (d : Context) (s : State) (n : Notes W) → Standing m below here.context s
     → judge_assign m.code here.context x (Returned i) ≡ Holds d
     → RunChanges here.context (write_use x.name
@@ -124,7 +124,7 @@ assign_changes laws m below here at x i d s n z h =
     (sym (found_is (c.local x.name) rule.UnknownName x.at l a.1))
     (set_changes laws m below c r.0 s here at x.name l.form i n z r.1)
 
-bare_changes : {W : Type 0} → CallLaws → (m : Machine W) (below : Option (Below W)) (here : Where) (at : Spot)
+bare_changes : {W : Type 0} → LawsOfCalls → (m : Machine W) (below : Option (Below W)) (here : Where) (at : Spot)
     (i : Invocation) (d : Context) (s : State) (n : Notes W) → Standing m below here.context s
     → Judges m.code here.method at (Calls i) here.context d
     → RunChanges here.context (call_uses m.code here.context i) ⊥ s n
@@ -137,7 +137,7 @@ bare_changes laws m below here at i d s n z h =
 
 -- ---- statements
 
-calling_changes : {W : Type 0} → CallLaws → (m : Machine W) (below : Option (Below W)) (here : Where) (at : Spot)
+calling_changes : {W : Type 0} → LawsOfCalls → (m : Machine W) (below : Option (Below W)) (here : Where) (at : Spot)
     (a : Action) (d : Context) (s : State) (n : Notes W) → is_calling a ≡ true
     → Judges m.code here.method at a here.context d → Standing m below here.context s
     → RunChanges here.context (statement_uses m.code here.method a here.context) ⊥ s n (one m below here at a s n)
@@ -181,7 +181,7 @@ same_lasts_back : (r : Option Val) → LastsBack (HasSame r)
 same_lasts_back r g o s n h = h
 
 -- Each judged statement that calls changes only what it writes, and no result.
-pub calls_change : (W : Type 0) → CallLaws → CallsChangeBy W
+pub calls_change : (W : Type 0) → LawsOfCalls → CallsChangeBy W
 calls_change W laws m w free table below keep bodies here at a d s n o h right z =
     with_result here.context (statement_uses m.code here.method a here.context) ⊥ (Unit {0}) s n
     (one m below here at a s n)

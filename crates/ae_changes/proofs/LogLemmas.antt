@@ -139,31 +139,31 @@ together c u still s n (Ends ending k) h l e = l
 together c u still s n (Stops k) h l e = l
 
 -- A statement that is no `return` is none.
-pub no_return : (a : Action) → IsNoReturn a → is_return a ≡ false
-no_return (Declares ty x e) h = refl
-no_return (Assigns x e) h = refl
-no_return (Stores path e) h = refl
-no_return (StoresAt path i e) h = refl
-no_return (Calls i) h = refl
-no_return (Chooses e i b) h = refl
-no_return (ChoosesElse e i b k b') h = refl
-no_return (Repeats e i b) h = refl
-no_return (Groups g) h = refl
-no_return (Splits gs i b) h = refl
-no_return (Locks g i b) h = refl
-no_return (Freezes x) h = refl
-no_return (Shares x g) h = refl
-no_return (Prints e) h = refl
-no_return (PrintsText x) h = refl
-no_return (Asserts e) h = refl
-no_return (Returns e) h = absurd h
+pub no_return_is_none : (a : Action) → IsNoReturn a → is_return a ≡ false
+no_return_is_none (Declares ty x e) h = refl
+no_return_is_none (Assigns x e) h = refl
+no_return_is_none (Stores path e) h = refl
+no_return_is_none (StoresAt path i e) h = refl
+no_return_is_none (Calls i) h = refl
+no_return_is_none (Chooses e i b) h = refl
+no_return_is_none (ChoosesElse e i b k b') h = refl
+no_return_is_none (Repeats e i b) h = refl
+no_return_is_none (Groups g) h = refl
+no_return_is_none (Splits gs i b) h = refl
+no_return_is_none (Locks g i b) h = refl
+no_return_is_none (Freezes x) h = refl
+no_return_is_none (Shares x g) h = refl
+no_return_is_none (Prints e) h = refl
+no_return_is_none (PrintsText x) h = refl
+no_return_is_none (Asserts e) h = refl
+no_return_is_none (Returns e) h = absurd h
 
 acts_change : (W : Type 0) → WalksGoByOwners → ResultsStayBy W → ActsChangeBy W
 acts_change W law stay m below here at a d s n members o f h right z =
     together here.context (statement_uses m.code here.method a here.context) (IsNoReturn a) s n
     (one m below here at a s n)
     (act_leaves law m below here at a d s n o f h (record { members = members; fits = z; right = right }))
-    (act_prints m below here at a s n o) (λ e. stay m below here at a s n o (no_return a e))
+    (act_prints m below here at a s n o) (λ e. stay m below here at a s n o (no_return_is_none a e))
 
 -- A judged statement without blocks and calls changes only what it writes.
 pub acts_change_as_used : WalksGoByOwners → ReturnsGiveResults → ActsChangeAsUsed

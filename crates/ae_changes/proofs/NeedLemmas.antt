@@ -31,7 +31,7 @@ use Rattle.ae_changes.specs.Changes.{GoesBy, LeavesGroup}
 use Rattle.ae_changes.specs.Bodies.{need_mode, needs_use}
 use Rattle.ae_changes.proofs.from_rules.PathLemmas.{first_holds}
 use Rattle.ae_changes.proofs.UsedLemmas.{Covers}
-use Rattle.ae_changes.proofs.WriteLemmas.{goes_by_name}
+use Rattle.ae_changes.proofs.WriteLemmas.{written_not, goes_by_name}
 use Rattle.ae_changes.proofs.BackLemmas.{needed_written, needed_as, IsLent, needed_is, IsSameBack, EachBack}
 
 -- ---- what the caller has
@@ -86,18 +86,14 @@ same_io p w table c i k e held = in_place_io (k.names ++ bare_names k.method.gro
 -- ---- what comes back
 
 -- where the method ended, and what it changed
-pub record Ended (p : Code) (k : Callee) (u : Uses) (s : State) (i : Invocation) (before after : State) : Type 0 where
+pub record BodyLeft (p : Code) (k : Callee) (u : Uses) (s : State) (i : Invocation) (before after : State) : Type 0 where
   pub start : (g : ℕ) → before.groups g ≡ groups_needed (group_given s k i) s k.method.needs g
   pub covers : Covers (of_each need_uses (map (wanted_need (group_in k i.groups)) k.method.needs)) u
   pub body : (r : ℕ) → LeavesGroup (needs_use k.method) before r → after.groups r ≡ before.groups r
 
-written_false : {A : Type 0} (b : Bool) → b ≡ true → b ≡ false → A
-written_false true h k = absurd (cc k)
-written_false false h k = absurd (cc h)
-
 -- a group of the method that its caller does not write under this name, the method does not need for itself
 left_alone : (p : Code) (c : Context) (u : Uses) (s : State) (i : Invocation) (k : Callee) (before after : State)
-    (y : ℕ) → Lends p c s i k → Ended p k u s i before after → LeavesGroup u s (group_given s k i y)
+    (y : ℕ) → Lends p c s i k → BodyLeft p k u s i before after → LeavesGroup u s (group_given s k i y)
     → LeavesGroup (needs_use k.method) before y
 left_alone p c u s i k before after y l e h g by = by_use (shuts_out (needs_use k.method (resource.Group g))) refl
   where
@@ -120,7 +116,7 @@ left_alone p c u s i k before after y l e h g by = by_use (shuts_out (needs_use 
     by_use : (b : Bool) → shuts_out (needs_use k.method (resource.Group g)) ≡ b
         → shuts_out (needs_use k.method (resource.Group g)) ≡ false
     by_use false q = q
-    by_use true q = written_false (shuts_out (u (resource.Group (group_in k i.groups g))))
+    by_use true q = written_not (shuts_out (u (resource.Group (group_in k i.groups g))))
         (e.covers (resource.Group (group_in k i.groups g))
         (needed_written (group_in k i.groups) k.method.needs g q))
         (h (group_in k i.groups g) (subst (λ (x : ℕ). GoesBy s x (group_in k i.groups g)) (same q by)
@@ -135,7 +131,7 @@ lent_back p o lent new (inr (inr h)) m e =
 
 -- Each group of the needs comes back as it was, where the caller does not write it.
 pub each_back : (p : Code) (c : Context) (u : Uses) (s : State) (i : Invocation) (k : Callee) (before after : State)
-    (ns : List GroupNeed) (x : ⊤) → Lends p c s i k → Ended p k u s i before after
+    (ns : List GroupNeed) (x : ⊤) → Lends p c s i k → BodyLeft p k u s i before after
     → each (need_met c.group i.method.at) (map (wanted_need (group_in k i.groups)) ns) ≡ Holds x
     → EachMayComeBack p (group_given s k i) s after ns → EachBack u s (group_given s k i) after ns
 each_back p c u s i k before after [] x l e h m = tt

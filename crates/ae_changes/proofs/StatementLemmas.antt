@@ -52,7 +52,7 @@ use Rattle.ae_changes.proofs.WriteLemmas.{BaseWritten, changes_nothing, bound_ch
 use Rattle.ae_changes.proofs.WriteLemmas.{write_changes}
 use Rattle.ae_changes.proofs.BaseLemmas.{object_written, covers_base}
 use Rattle.ae_changes.proofs.MovedLemmas.{covers_names, into_written, return_written}
-use Rattle.ae_changes.proofs.ActLemmas.{Stands, found_gives, slot_written, set_changes}
+use Rattle.ae_changes.proofs.ActLemmas.{FitsRight, found_gives, slot_written, set_changes}
 
 -- ---- writes to fields and items
 
@@ -73,7 +73,7 @@ slot_form p s t o x h e =
     let there : Comes (SlotStands p s t) (Fine x) = subst (Comes (SlotStands p s t)) e h in there.0.1
 
 store_changes_field : WalksGoByOwners → (p : Code) (c d : Context) (s : State) (path : Path) (e : Expression)
-    → Stands p c s → path.steps ≢ [] → judge_store p c path e (expression_spot e) ≡ Holds d
+    → FitsRight p c s → path.steps ≢ [] → judge_store p c path e (expression_spot e) ≡ Holds d
     → Gives (ChangesAsUsed c (write_uses p c (owner path) ∪ of_judged (walk p c path) (λ w. into_uses p c w.form e)) s)
     (stored p path e s)
 store_changes_field law p c d s path e z n h =
@@ -92,7 +92,7 @@ store_changes_field law p c d s path e z n h =
     (covers_base (write_uses p c (owner path)) u x.object.at.base
     (covers_left (write_uses p c (owner path)) (into_uses p c w.form e)) (slot_written p c s z path x b.0 b.1 i)))))
 
-store_changes_item : (p : Code) (c d : Context) (s : State) (path : Path) (i e : Expression) → Stands p c s
+store_changes_item : (p : Code) (c d : Context) (s : State) (path : Path) (i e : Expression) → FitsRight p c s
     → judge_store_at p c path i e ≡ Holds d
     → Gives (ChangesAsUsed c (write_uses p c path ∪ value_uses p c i ∪ value_uses p c e) s) (stored_at p path i e s)
 store_changes_item p c d s path i e z h =
@@ -163,7 +163,7 @@ returned_changes p m c s e = next_gives (ChangesAsUsed c u s) (value p s e) _
     there = moved_changes c u s (result_moved m e) s (return_written p m c e) (changes_nothing c u s)
 
 declare_changes : {W : Type 0} (m : Machine W) (below : Option (Below W)) (here : Where) (at : Spot) (ty : Ty)
-    (x : NameAt) (e : RightSide) (d : Context) (s : State) (n : Notes W) → Stands m.code here.context s
+    (x : NameAt) (e : RightSide) (d : Context) (s : State) (n : Notes W) → FitsRight m.code here.context s
     → not (is_call e) ≡ true → judge_let m.code here.context ty x e ≡ Holds d
     → Leaves
     (ChangesAsUsed here.context (write_use x.name ∪ right_uses m.code here.context (form ty) e) s)
@@ -179,7 +179,7 @@ declare_changes m below here at ty x e d s n z o h =
     (written_left (write_use x.name) v (resource.Local x.name) (local_itself x.name))
 
 assign_changes : {W : Type 0} (m : Machine W) (below : Option (Below W)) (here : Where) (at : Spot)
-    (x : NameAt) (e : RightSide) (d : Context) (s : State) (n : Notes W) → Stands m.code here.context s
+    (x : NameAt) (e : RightSide) (d : Context) (s : State) (n : Notes W) → FitsRight m.code here.context s
     → not (is_call e) ≡ true → judge_assign m.code here.context x e ≡ Holds d
     → Leaves (ChangesAsUsed here.context (write_use x.name
     ∪ of_found (here.context.local x.name) (λ (l : Local). right_uses m.code here.context l.form e)) s)
@@ -202,7 +202,7 @@ assign_changes m below here at x e d s n z o h =
 -- A judged statement without blocks and calls leaves a state in which only what it writes is changed.
 pub act_leaves : {W : Type 0} → WalksGoByOwners → (m : Machine W) (below : Option (Below W)) (here : Where) (at : Spot)
     (a : Action) (d : Context) (s : State) (n : Notes W) → is_without_calls a ≡ true → HasField a
-    → Judges m.code here.method at a here.context d → Stands m.code here.context s
+    → Judges m.code here.method at a here.context d → FitsRight m.code here.context s
     → Leaves (ChangesAsUsed here.context (statement_uses m.code here.method a here.context) s)
     (one m below here at a s n)
 act_leaves law m below here at (Declares ty x e) d s n o f h z =

@@ -34,7 +34,7 @@ use Rattle.ae_changes.proofs.UsedLemmas.{covers_then}
 use Rattle.ae_changes.proofs.WriteLemmas.{BaseWritten, AreWritten, write_changes}
 use Rattle.ae_changes.proofs.BaseLemmas.{StandsUnder, walk_under}
 use Rattle.ae_changes.proofs.MovedLemmas.{as_list, each_written}
-use Rattle.ae_changes.proofs.ActLemmas.{Stands}
+use Rattle.ae_changes.proofs.ActLemmas.{FitsRight}
 
 -- what an argument uses for its slot
 abbrev pub slot_uses : Code → Context → ParamSlot × Expression → Uses
@@ -88,7 +88,7 @@ root_written p c k path = written_left (write_use path.root.name) (walk_uses p c
 
 -- the place from which a unique argument was read, and to which its value comes back, is written
 place_written : (p : Code) (c : Context) (u : Uses) (s : State) (new : ℕ → ℕ) (w : Shape) (e : Expression)
-    (x : Argument) (before mid : Roots) (at : Address) → Stands p c s
+    (x : Argument) (before mid : Roots) (at : Address) → FitsRight p c s
     → to_slot p c (slot_as new w, e) before ≡ Holds mid → argument p s e ≡ Fine x → x.from ≡ Some at
     → value_comes_back (slot_as (λ g. g) w) ≡ true → Covers (slot_uses p c (slot_as new w, e)) u
     → BaseWritten u at.base
@@ -112,7 +112,7 @@ place_written p c u s new w e x before mid at z h a i v k =
     (subst (BaseWritten u) (sym local) (k (resource.Local r.path.root.name) root))
 
 one_value : (p : Code) (c : Context) (u : Uses) (s t : State) (new : ℕ → ℕ) (w : Shape) (e : Expression)
-    (x : Argument) (before mid : Roots) → Stands p c s → to_slot p c (slot_as new w, e) before ≡ Holds mid
+    (x : Argument) (before mid : Roots) → FitsRight p c s → to_slot p c (slot_as new w, e) before ≡ Holds mid
     → argument p s e ≡ Fine x → Covers (slot_uses p c (slot_as new w, e)) u → (v : State) → ChangesAsUsed c u s v
     → Gives (ChangesAsUsed c u s) (put_back (taker_as w, x) t v)
 one_value p c u s t new w e x before mid z h a k v i = by_test (value_comes_back (slot_as (λ g. g) w)) refl
@@ -133,7 +133,7 @@ one_value p c u s t new w e x before mid z h a k v i = by_test (value_comes_back
 
 -- Where what all parameters hold comes back, only what is written changes.
 pub values_change : (p : Code) (c : Context) (u : Uses) (s t : State) (new : ℕ → ℕ) (ws : List Shape)
-    (es : List Expression) (xs : List Argument) (before after : Roots) → Stands p c s
+    (es : List Expression) (xs : List Argument) (before after : Roots) → FitsRight p c s
     → in_turn (to_slot p c) (zip (map (slot_as new) ws) es) before ≡ Holds after → each_argument p s es ≡ Fine xs
     → Covers (of_each (slot_uses p c) (zip (map (slot_as new) ws) es)) u → (v : State) → ChangesAsUsed c u s v
     → Gives (ChangesAsUsed c u s) (values_back (zip (map taker_as ws) xs) t v)

@@ -38,8 +38,8 @@ changes_nothing c u s = record {
   name = λ g r e. e;
 }
 
--- what is written is not left alone
-written_not : {A : Type 0} (b : Bool) → b ≡ true → b ≡ false → A
+-- What is written is not left alone.
+pub written_not : {A : Type 0} (b : Bool) → b ≡ true → b ≡ false → A
 written_not true h k = absurd (cc k)
 written_not false h k = absurd (cc h)
 

@@ -1,5 +1,5 @@
 -- That groups which stand under one name may not be reached, so that a group that is not written is as before.
-use Rattle.std.specs.Prelude.{◌≡◌, ℕ, ℤ, Bool, false, List, Option, Some}
+use Rattle.std.specs.Prelude.{◌≡◌, ℕ, ℤ, false, List, Some}
 use Rattle.ae_text.specs.declared.refusal.Spot.{Spot}
 use Rattle.ae_tree.specs.WellShaped.{WellShaped}
 use Rattle.ae_tree.specs.Plain.{Action, Definition, Code, Invocation}
