@@ -18,8 +18,8 @@ use Rattle.ae_rules.specs.Verdict.{Holds, require, each, in_turn, given}
 use Rattle.ae_rules.specs.Lookups.{top_number, method_at}
 use Rattle.ae_rules.specs.Types.{groups_fit}
 use Rattle.ae_rules.specs.Groups.{Groups as GroupsKnown}
-use Rattle.ae_rules.specs.Groups.{Wanted, known, same_group_perm, group_is, opens, clash, any_clash, are_shared, need_met}
-use Rattle.ae_rules.specs.Groups.{wanted_need, needs_met}
+use Rattle.ae_rules.specs.Groups.{Wanted, known, same_group_perm, group_is, opens, clash, any_clash, are_shared}
+use Rattle.ae_rules.specs.Groups.{need_met, wanted_need, needs_met}
 use Rattle.ae_rules.specs.Context.{Context}
 use Rattle.ae_rules.specs.Calls.{Callee, group_in, Called, slots, givens, to_slot, no_roots}
 use Rattle.ae_rules.specs.Calls.{judge_callee_with}

@@ -89,8 +89,8 @@ pub entered_is : (p : Code) (k : Callee) (o : Outcome CallFrame) (f : CallFrame)
     → Entered p k f
 entered_is p k o f h e = subst (Comes (Entered p k)) e h
 
-own_entered : LawsOfCalls → (p : Code) (c : Context) (s : State) (here : Where) (i : Invocation) (k : Callee) (d : Called)
-    (f : CallFrame) → JudgedAt p c s i k d → enter p here i s ≡ Fine f → Entered p k f
+own_entered : LawsOfCalls → (p : Code) (c : Context) (s : State) (here : Where) (i : Invocation) (k : Callee)
+    (d : Called) (f : CallFrame) → JudgedAt p c s i k d → enter p here i s ≡ Fine f → Entered p k f
 own_entered laws p c s here i k d f j e = entered_is p k (enter p here i s) f
     (call_comes laws.every p j.shaped j.table c s here i k d j.stands.0 j.callee j.judged) e
 
@@ -221,8 +221,8 @@ body_changes laws p c u s here at i k d n go xs j cover e a next (Ends (Fuel y) 
     body_log p c u s i k d n x j cover b
 body_changes laws p c u s here at i k d n go xs j cover e a next (Stops x) ends b = absurd ends
 
-entered_changes : {W : Type 0} → LawsOfCalls → (p : Code) (c : Context) (u : Uses) (s : State) (here : Where) (at : Spot)
-    (i : Invocation) (k : Callee) (d : Called) (n : Notes W) (go : Option Val → Act W) (run : Below W)
+entered_changes : {W : Type 0} → LawsOfCalls → (p : Code) (c : Context) (u : Uses) (s : State) (here : Where)
+    (at : Spot) (i : Invocation) (k : Callee) (d : Called) (n : Notes W) (go : Option Val → Act W) (run : Below W)
     → JudgedAt p c s i k d → CoversCall p c i k u → BodiesKeep p (Some run) → BodiesChange p (Some run)
     → ResultGoes c u s n go → (f : CallFrame) → enter p here i s ≡ Fine f
     → RunChanges c u ⊥ s n (body_run at i f s n go run)

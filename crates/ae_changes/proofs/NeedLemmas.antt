@@ -1,5 +1,6 @@
 -- The groups that a call lends: what comes back of those that are not needed for themselves is what there was.
-use Rattle.std.proofs.Common.{◌≡◌, refl, sym, ap, ◌∙◌, subst, ℕ, nat_eq, Bool, true, false, not, List, [], ◌∷◌, ◌++◌, map}
+use Rattle.std.proofs.Common.{◌≡◌, refl, sym, ap, ◌∙◌, subst, ℕ, nat_eq, Bool, true, false, not, List, []}
+use Rattle.std.proofs.Common.{◌∷◌, ◌++◌, map}
 use Rattle.std.proofs.Common.{inl, inr, Option, None, Some}
 use Rattle.std.specs.Prelude.{⊤}
 use Rattle.std.proofs.lemmas.Bool.{eqb-true}
@@ -86,10 +87,10 @@ same_io p w table c i k e held = in_place_io (k.names ++ bare_names k.method.gro
 -- ---- what comes back
 
 -- where the method ended, and what it changed
-pub record BodyLeft (p : Code) (k : Callee) (u : Uses) (s : State) (i : Invocation) (before after : State) : Type 0 where
-  pub start : (g : ℕ) → before.groups g ≡ groups_needed (group_given s k i) s k.method.needs g
+pub record BodyLeft (p : Code) (k : Callee) (u : Uses) (s : State) (i : Invocation) (old new : State) : Type 0 where
+  pub start : (g : ℕ) → old.groups g ≡ groups_needed (group_given s k i) s k.method.needs g
   pub covers : Covers (of_each need_uses (map (wanted_need (group_in k i.groups)) k.method.needs)) u
-  pub body : (r : ℕ) → LeavesGroup (needs_use k.method) before r → after.groups r ≡ before.groups r
+  pub body : (r : ℕ) → LeavesGroup (needs_use k.method) old r → new.groups r ≡ old.groups r
 
 -- a group of the method that its caller does not write under this name, the method does not need for itself
 left_alone : (p : Code) (c : Context) (u : Uses) (s : State) (i : Invocation) (k : Callee) (before after : State)

@@ -22,8 +22,8 @@ use Rattle.ae_semantics.specs.Expressions.{truth_of}
 use Rattle.ae_semantics.specs.Contexts.{after, or_before}
 use Rattle.ae_semantics.specs.Equations.{one-Chooses, one-ChoosesElse, one-Repeats, many-End, many-Next}
 use Rattle.ae_semantics.specs.Observations.{Ran, Turned, Notes, Observer}
-use Rattle.ae_semantics.specs.Runs.{Run, Went, Act, and_then, paid, marked, Where, deeper, knowing, whole_block, Machine}
-use Rattle.ae_semantics.specs.Runs.{Below}
+use Rattle.ae_semantics.specs.Runs.{Run, Went, Act, and_then, paid, marked, Where, deeper, knowing, whole_block}
+use Rattle.ae_semantics.specs.Runs.{Machine, Below}
 use Rattle.ae_semantics.specs.Means.{stops_at}
 use Rattle.ae_semantics.specs.Meaning.{left, again, one, many}
 use Rattle.ae_soundness.specs.Laws.{is_without_calls}

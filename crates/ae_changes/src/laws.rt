@@ -90,7 +90,8 @@ pub fn names_stay_apart()
     statements_keep_what_is_visible();
 }
 
-/// It is so where a called method begins, in a well-shaped program whose declarations hold, if it is where it was called.
+/// It is so where a called method begins, in a well-shaped program whose declarations hold, if it is where it was
+/// called.
 pub fn calls_begin_apart()
     ensures { CallsBeginApart }
 {
