@@ -21,3 +21,6 @@ pub mod AllowedLemmas
 pub mod BodyLemmas
 pub mod ApartLemmas
 pub mod BeginLemmas
+pub mod ReadLemmas
+pub mod StayLemmas
+pub mod StayingLemmas

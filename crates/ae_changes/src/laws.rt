@@ -3,6 +3,7 @@ ghost use Rattle.ae_changes.specs.Apart.{BeginningsAreApart, CallsBeginApart};
 ghost use Rattle.ae_changes.specs.Apart.{NamesStayApart, UnwrittenGroupsStay};
 ghost use Rattle.ae_changes.specs.Bodies.{CallsChangeAsUsed};
 ghost use Rattle.ae_changes.specs.Changes.{ActsChangeAsUsed};
+ghost use Rattle.ae_changes.specs.Stays.{StayingParametersStay};
 ghost use Rattle.ae_changes.specs.Whole.{BodiesChangeAsUsed, StatementsChangeAsUsed};
 
 use ae_rules::{
@@ -102,3 +103,12 @@ pub fn calls_begin_apart()
 pub fn beginnings_are_apart()
     ensures { BeginningsAreApart }
 {}
+
+/// In an accepted and well-shaped program in which nothing is split no statement of a method's body writes a parameter
+/// that stays, so that it is as before, where only the parameters change that they write.
+pub fn staying_parameters_stay()
+    ensures { StayingParametersStay }
+{
+    statements_keep_what_is_visible();
+    judging_keeps_right();
+}

@@ -140,7 +140,7 @@ inside_alone (held.Shared g) e = absurd (cc e)
 inside_alone (held.Inner g) e = absurd (cc e)
 
 -- what is held Unique in a field is unique, and its object is held Unique
-field_alone : (h : Held) (t : Form) → held_in_field h t ≡ held.Unique → (h ≡ held.Unique) × (as_own t ≡ t)
+pub field_alone : (h : Held) (t : Form) → held_in_field h t ≡ held.Unique → (h ≡ held.Unique) × (as_own t ≡ t)
 field_alone h f.Int e = absurd (cc e)
 field_alone h f.Bool e = absurd (cc e)
 field_alone h (f.Object perm.Unique k) e = (inside_alone h e, refl)
