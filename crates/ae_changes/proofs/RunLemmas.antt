@@ -1,5 +1,5 @@
 -- Runs that change only what is written, one after another.
-use Rattle.std.proofs.Common.{◌≡◌, refl, ◌∙◌}
+use Rattle.std.proofs.Common.{◌≡◌, refl}
 use Rattle.ae_text.specs.declared.refusal.Spot.{Spot}
 use Rattle.ae_rules.specs.Edges.{Uses}
 use Rattle.ae_rules.specs.Context.{Context}
@@ -8,10 +8,6 @@ use Rattle.ae_semantics.specs.Observations.{Notes}
 use Rattle.ae_semantics.specs.Runs.{Run, Went, Ends, Stops, outcome_given}
 use Rattle.ae_soundness.proofs.LastingLemmas.{Leaves}
 use Rattle.ae_changes.specs.Changes.{KeepsLog, RunChanges}
-
--- What is printed later is printed too.
-pub log_then : {W : Type 0} (u : Uses) (n k l : Notes W) → KeepsLog u n k → KeepsLog u k l → KeepsLog u n l
-log_then u n k l h i e = i e ∙ h e
 
 -- What comes of an outcome changes only what is written where what is done with it does.
 pub outcome_changes : {A W : Type 0} (c : Context) (u : Uses) (still : Type 0) (s : State) (n k : Notes W)

@@ -26,10 +26,6 @@ pub before_itself : {A : Type 0} (b : Bool) (o : Option A) → IsAsBefore b o o
 before_itself true o = refl
 before_itself false o = inl refl
 
--- What is as before after what is as before is so.
-pub before_then : {A : Type 0} (b : Bool) (o q r : Option A) → IsAsBefore b o q → r ≡ q → IsAsBefore b o r
-before_then b o q r h e = subst (IsAsBefore b o) (sym e) h
-
 -- Where nothing is changed only what is written is.
 pub changes_nothing : (c : Context) (u : Uses) (s : State) → ChangesAsUsed c u s s
 changes_nothing c u s = record {
