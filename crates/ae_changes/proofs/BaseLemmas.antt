@@ -1,6 +1,6 @@
 -- In which tree the object stands to which a judged walk leads: its root's, or that of a member of the group that is
 -- held.
-use Rattle.std.proofs.Common.{◌≡◌, refl, sym, ap, subst, ℕ, true}
+use Rattle.std.proofs.Common.{◌≡◌, ◌≢◌, refl, sym, ap, subst, ℕ, true}
 use Rattle.std.proofs.Common.{Some, List, [], ◌∷◌}
 use Rattle.std.specs.Prelude.{slice_get, ⊤}
 use Rattle.ae_text.specs.declared.refusal.Spot.{Spot}
@@ -24,17 +24,16 @@ use Rattle.ae_rules.specs.Context.{Local, Context, access, may_change}
 use Rattle.ae_rules.specs.Walks.{Place, held_inside, held_in_field, step, walk, write_access}
 use Rattle.ae_rules.specs.BlockLaws.{may_hold, HoldsRight}
 use Rattle.ae_rules.specs.Uses.{◌∪◌, of_judged, walk_uses, reach_use, root_written, write_uses}
-use Rattle.ae_semantics.specs.Values.{Val, OfInt, OfBool, Null, Owned, Member, is_of_kind, value_fits}
+use Rattle.ae_semantics.specs.Values.{Val, OfInt, OfBool, Null, Owned, Member, is_of_kind, value_fits, Tree}
 use Rattle.ae_semantics.specs.Places.{Outcome, Fine, ◌>>=◌, there, reached, Bound, State, store_of, Base}
 use Rattle.ae_semantics.specs.Places.{InLocal, InGroup, Address, PlaceFound, OpenedObject, opened_if, opened_member}
 use Rattle.ae_semantics.specs.Places.{open_value, open_form, open_place, NumberedField, numbered_field, field_value}
 use Rattle.ae_semantics.specs.Places.{field_place, met, into_field, step_to, steps, local_place, walk_to, reach}
-use Rattle.ae_soundness.specs.Fits.{FitsHeld, FitsPermission, FitsPlace, FitsLocal, FieldsHaveMembers, FitsContext}
+use Rattle.ae_soundness.specs.Fits.{FitsHeld, FitsPlace, FitsLocal, FieldsHaveMembers, FitsContext}
 use Rattle.ae_soundness.specs.Fits.{HoldsNoMember, place_held}
 use Rattle.ae_soundness.specs.Laws.{IsFoundAs}
 use Rattle.ae_soundness.proofs.PlaceLemmas.{step_known, root_value, reached_value}
 use Rattle.ae_soundness.proofs.StandLemmas.{fine_first, there_is, met_is, opened_is}
-use Rattle.ae_soundness.proofs.UniqueLemmas.{opened_at}
 use Rattle.ae_changes.proofs.from_rules.PathLemmas.{first_holds}
 use Rattle.ae_changes.proofs.from_rules.SeenLemmas.{found_is, required}
 use Rattle.ae_changes.proofs.from_text.Basics.{option_holds_one}
@@ -98,25 +97,42 @@ shared_opened p s g k a Null o e = absurd (cc e)
 shared_opened p s g k a (Owned t) o e = absurd (cc e)
 shared_opened p s g k a (Member n) o e = member_opened p s k g n o e
 
-own_opened : (p : Code) (s : State) (q : Perm) (k : Kind) (a : Address) (v : Val) (o : OpenedObject) (root : ℕ)
-    (h : Held) → FitsPermission q held.Unique → HoldsNoMember h → open_value p s q k a v ≡ Fine o
+owned_under : (p : Code) (k : Kind) (a : Address) (t : Tree) (o : OpenedObject) (root : ℕ) (h : Held)
+    → HoldsNoMember h → opened_if (is_of_kind p k t) (record { at = a; kind = k; tree = t }) ≡ Fine o
     → StandsUnder root h a.base → ObjectUnder root h o.at.base
-own_opened p s q k a v o root h y n e u = subst (λ (z : Address). ObjectUnder root h z.base)
-    (sym (opened_at p s q k a v o y e).0) (own_under root h a.base n u)
+owned_under p k a t o root h n e u = subst (λ (z : OpenedObject). ObjectUnder root h z.at.base)
+    (opened_is (is_of_kind p k t) (record { at = a; kind = k; tree = t }) o e) (own_under root h a.base n u)
 
-no_shared : HoldsNoMember held.Unique
-no_shared g e = cc e
+own_opened : (p : Code) (s : State) (q : Perm) (k : Kind) (a : Address) (v : Val) (o : OpenedObject) (root : ℕ)
+    (h : Held) → ((g : ℕ) → q ≢ perm.Shared g) → HoldsNoMember h → open_value p s q k a v ≡ Fine o
+    → StandsUnder root h a.base → ObjectUnder root h o.at.base
+own_opened p s (perm.Shared g) k a v o root h y n e u = absurd (y g refl)
+own_opened p s perm.Unique k a (OfInt i) o root h y n e u = absurd (cc e)
+own_opened p s perm.Unique k a (OfBool b) o root h y n e u = absurd (cc e)
+own_opened p s perm.Unique k a Null o root h y n e u = absurd (cc e)
+own_opened p s perm.Unique k a (Owned t) o root h y n e u = owned_under p k a t o root h n e u
+own_opened p s perm.Unique k a (Member i) o root h y n e u = absurd (cc e)
+own_opened p s perm.Immutable k a (OfInt i) o root h y n e u = absurd (cc e)
+own_opened p s perm.Immutable k a (OfBool b) o root h y n e u = absurd (cc e)
+own_opened p s perm.Immutable k a Null o root h y n e u = absurd (cc e)
+own_opened p s perm.Immutable k a (Owned t) o root h y n e u = owned_under p k a t o root h n e u
+own_opened p s perm.Immutable k a (Member i) o root h y n e u = absurd (cc e)
+own_opened p s perm.Lent k a (OfInt i) o root h y n e u = absurd (cc e)
+own_opened p s perm.Lent k a (OfBool b) o root h y n e u = absurd (cc e)
+own_opened p s perm.Lent k a Null o root h y n e u = absurd (cc e)
+own_opened p s perm.Lent k a (Owned t) o root h y n e u = owned_under p k a t o root h n e u
+own_opened p s perm.Lent k a (Member i) o root h y n e u = absurd (cc e)
 
 opened_under : (p : Code) (s : State) (now : Form) (a : Address) (v : Val) (o : OpenedObject) (root : ℕ) (h : Held)
     → FitsHeld now h → open_form p s a now v ≡ Fine o → StandsUnder root h a.base → ObjectUnder root h o.at.base
 opened_under p s f.Int a v o root h y e u = absurd (cc e)
 opened_under p s f.Bool a v o root h y e u = absurd (cc e)
 opened_under p s (f.Object perm.Unique k) a v o root h y e u =
-    own_opened p s perm.Unique k a v o root h no_shared y e u
+    own_opened p s perm.Unique k a v o root h (λ g i. cc i) y e u
 opened_under p s (f.Object perm.Immutable k) a v o root h y e u =
-    own_opened p s perm.Immutable k a v o root h no_shared y e u
+    own_opened p s perm.Immutable k a v o root h (λ g i. cc i) y e u
 opened_under p s (f.Object perm.Lent k) a v o root h y e u =
-    own_opened p s perm.Lent k a v o root h no_shared y e u
+    own_opened p s perm.Lent k a v o root h (λ g i. cc i) y e u
 opened_under p s (f.Object (perm.Shared g) k) a v o root h y e u =
     subst (λ (z : Held). ObjectUnder root z o.at.base) (sym y) (shared_opened p s g k a v o e)
 

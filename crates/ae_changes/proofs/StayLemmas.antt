@@ -26,7 +26,7 @@ use Rattle.ae_rules.specs.Lookups.{class_called, field_form, field_of}
 use Rattle.ae_rules.specs.Types.{groups_fit}
 use Rattle.ae_rules.specs.Groups.{Wanted, known, wanted_need}
 use Rattle.ae_rules.specs.Context.{Local, Context, access, is_held_alone}
-use Rattle.ae_rules.specs.Walks.{Place, held_in_field, owner, step, walk, is_name}
+use Rattle.ae_rules.specs.Walks.{Place, held_inside, held_in_field, owner, step, walk, is_name}
 use Rattle.ae_rules.specs.Expressions.{expression_spot}
 use Rattle.ae_rules.specs.Into.{Source, Null, From, source, moves, may_leave, into_unique, path_fits}
 use Rattle.ae_rules.specs.Into.{source_fits, fits, name_into, into}
@@ -37,7 +37,6 @@ use Rattle.ae_rules.specs.Statements.{judge_right}
 use Rattle.ae_rules.specs.Uses.{of_each, of_judged, of_found, write_use, root_written, write_uses}
 use Rattle.ae_rules.specs.Uses.{end_uses, path_uses, walk_uses, source_uses, into_uses, root_lent, given_uses}
 use Rattle.ae_rules.specs.Uses.{argument_uses, need_uses, callee_uses, call_uses, made_uses, right_uses}
-use Rattle.ae_soundness.proofs.UniqueLemmas.{field_alone}
 use Rattle.ae_changes.proofs.from_rules.PathLemmas.{first_holds}
 use Rattle.ae_changes.proofs.from_rules.SeenLemmas.{found_is, required}
 use Rattle.ae_changes.proofs.from_text.Basics.{second_of_both}
@@ -51,6 +50,24 @@ HeldElse c x = (l : Local) → c.local x ≡ Some l → l.held ≢ held.Unique
 
 -- ---- walks
 
+whole_inside : (h : Held) → held_inside h ≡ held.Unique → h ≡ held.Unique
+whole_inside held.None e = absurd (cc e)
+whole_inside held.Unique e = refl
+whole_inside (held.Split n) e = absurd (cc e)
+whole_inside held.Immutable e = absurd (cc e)
+whole_inside held.Lent e = absurd (cc e)
+whole_inside (held.Shared g) e = absurd (cc e)
+whole_inside (held.Inner g) e = absurd (cc e)
+
+-- of an object with a field of which all is held all is held
+whole_object : (h : Held) (t : Form) → held_in_field h t ≡ held.Unique → h ≡ held.Unique
+whole_object h f.Int e = absurd (cc e)
+whole_object h f.Bool e = absurd (cc e)
+whole_object h (f.Object perm.Unique k) e = whole_inside h e
+whole_object h (f.Object perm.Immutable k) e = absurd (cc e)
+whole_object h (f.Object perm.Lent k) e = absurd (cc e)
+whole_object h (f.Object (perm.Shared g) k) e = absurd (cc e)
+
 steps_alone : (p : Code) (c : Context) (at : Spot) (xs : List NameAt) (w u : Place)
     → in_turn (step p c at) xs w ≡ Holds u → u.held ≡ held.Unique → w.held ≡ held.Unique
 steps_alone p c at [] w u e h = let same : w ≡ u = cc e in ap (λ (v : Place). v.held) same ∙ h
@@ -60,7 +77,7 @@ steps_alone p c at (x ∷ xs) w u e h =
     let d = first_holds (access c at w.held) (λ _. Holds (record { form = b.0; held = held_in_field w.held b.0 })) a.0
     b.2 in
     let same : record { form = b.0; held = held_in_field w.held b.0 } ≡ a.0 = same_place _ a.0 d.2 in
-    (field_alone w.held b.0 (ap (λ (v : Place). v.held) same ∙ steps_alone p c at xs a.0 u a.2 h)).0
+    whole_object w.held b.0 (ap (λ (v : Place). v.held) same ∙ steps_alone p c at xs a.0 u a.2 h)
   where
     same_place : (v w : Place) → Holds v ≡ Holds w → v ≡ w
     same_place v w k = cc k
