@@ -1,63 +1,46 @@
 -- A judged statement that has no block and calls no method changes only what it writes.
-use Rattle.std.proofs.Common.{◌≡◌, ◌≢◌, refl, sym, ap, ◌∙◌, subst, ℕ, ℤ, Bool, true, false, not, List, [], ◌∷◌, length}
-use Rattle.std.proofs.Common.{Option, None, Some}
-use Rattle.std.specs.Prelude as prelude
+use Rattle.std.proofs.Common.{◌≡◌, refl, ap, ◌∙◌, ℕ, true, not}
+use Rattle.std.proofs.Common.{Option}
 use Rattle.std.specs.Prelude.{⊤}
 use Rattle.ae_text.specs.declared.refusal.Spot.{Spot}
 use Rattle.ae_text.specs.declared.refusal.Rule.TheVariants as rule
-use Rattle.ae_tree.specs.declared.tree.NameAt.{NameAt}
 use Rattle.ae_tree.specs.declared.tree.Path.{Path}
-use Rattle.ae_tree.specs.declared.tree.Ty.{Ty}
 use Rattle.ae_tree.specs.declared.form.Form.{Form}
-use Rattle.ae_tree.specs.Form.{form}
-use Rattle.ae_tree.specs.Names.{io}
-use Rattle.ae_tree.specs.Plain.{Code, Definition, Expression}
+use Rattle.ae_tree.specs.Plain.{Code}
 use Rattle.ae_tree.specs.Plain.{RightSide, Value, Taken, Zeros, Made, Returned}
-use Rattle.ae_tree.specs.Plain.{Action, Declares, Assigns, Stores, StoresAt, Calls, Chooses, ChoosesElse, Repeats}
-use Rattle.ae_tree.specs.Plain.{Groups, Splits, Locks, Freezes, Shares, Prints, PrintsText, Asserts, Returns}
-use Rattle.ae_tree.specs.WellShaped.{HasField, IsNoReturn}
 use Rattle.ae_rules.specs.declared.uses.Resource.TheVariants as resource
 use Rattle.ae_rules.specs.Edges.{Uses}
-use Rattle.ae_rules.specs.Verdict.{Verdict, Holds, fine, require, found}
-use Rattle.ae_rules.specs.Forms.{is_object, is_unique, is_ints}
+use Rattle.ae_rules.specs.Verdict.{Holds, require}
+use Rattle.ae_rules.specs.Forms.{is_object, is_unique}
 use Rattle.ae_rules.specs.Paths.{is_call}
-use Rattle.ae_rules.specs.Types.{forms_type}
-use Rattle.ae_rules.specs.Groups.{known}
-use Rattle.ae_rules.specs.Context.{Local, Context, access, may_change, is_visible, with_local, with_held, held_of}
+use Rattle.ae_rules.specs.Context.{Context}
 use Rattle.ae_rules.specs.Walks.{Place, owner, walk, write_access, owner_write_access}
-use Rattle.ae_rules.specs.Into.{into}
-use Rattle.ae_rules.specs.Statements.{judge_take, judge_right, judge_let, judge_assign}
-use Rattle.ae_rules.specs.Judges.{Judges, is_return}
-use Rattle.ae_rules.specs.Laws.{WalksGoByOwners}
+use Rattle.ae_rules.specs.Statements.{judge_take, judge_right}
 use Rattle.ae_rules.specs.BlockLaws.{HoldsRight}
-use Rattle.ae_rules.specs.Uses.{◌∪◌, of_judged, of_found, write_use, whole_group, value_uses, into_uses, right_uses}
-use Rattle.ae_rules.specs.Uses.{write_uses, walk_uses, end_uses, reach_use, root_written, statement_uses}
-use Rattle.ae_semantics.specs.Contexts.{shuts_out}
-use Rattle.ae_semantics.specs.Values.{Val, OfInt, OfBool, Null, Owned, Member, Tree, Array, Store}
-use Rattle.ae_semantics.specs.Places.{Outcome, Fine, Traps, Lacks, ◌>>=◌, there, Here, Bound, State, with_bound}
-use Rattle.ae_semantics.specs.Places.{with_store, store_of, OpenedObject, ObjectField, slot, slot_in, reach, last_item}
-use Rattle.ae_semantics.specs.Places.{write_field, write_tree, met, field_place, field_value, bind, numbered_field}
-use Rattle.ae_semantics.specs.Expressions.{value, number_of, truth_of, numbers, index}
+use Rattle.ae_rules.specs.Uses.{right_uses}
+use Rattle.ae_rules.specs.Uses.{write_uses}
+use Rattle.ae_semantics.specs.Values.{Val, Null}
+use Rattle.ae_semantics.specs.Places.{Outcome, Fine, Traps, Lacks, ◌>>=◌, there, State}
+use Rattle.ae_semantics.specs.Places.{ObjectField, slot, slot_in, reach, last_item}
+use Rattle.ae_semantics.specs.Places.{write_field, met, field_place, field_value, bind, numbered_field}
+use Rattle.ae_semantics.specs.Expressions.{value, number_of}
 use Rattle.ae_semantics.specs.Observations.{Notes}
-use Rattle.ae_semantics.specs.Runs.{Run, Went, Ends, Stops, outcome_given, Where, Machine, Below}
+use Rattle.ae_semantics.specs.Runs.{outcome_given, Where, Machine, Below}
 use Rattle.ae_semantics.specs.Calls.{without_moved}
-use Rattle.ae_semantics.specs.Meaning.{each_value, zeros, take_from, made, right_moved, assigned, sets, name_moved}
-use Rattle.ae_semantics.specs.Meaning.{stored, stored_at, shared_value, shares_into, frozen, result_moved, one, does}
+use Rattle.ae_semantics.specs.Meaning.{each_value, zeros, take_from, made, right_moved, assigned, sets}
 use Rattle.ae_soundness.specs.Fits.{FieldsHaveMembers, FitsContext}
-use Rattle.ae_soundness.proofs.LastingLemmas.{Gives, next_gives, then_gives, Leaves, given_leaves, any_leaves}
-use Rattle.ae_soundness.proofs.StandLemmas.{fine_first, there_is}
+use Rattle.ae_soundness.proofs.LastingLemmas.{Gives, next_gives, then_gives, Leaves, given_leaves}
+use Rattle.ae_soundness.proofs.StandLemmas.{fine_first}
 use Rattle.ae_changes.specs.Changes.{ChangesAsUsed}
 use Rattle.ae_changes.proofs.from_rules.PathLemmas.{first_holds}
-use Rattle.ae_changes.proofs.from_rules.SeenLemmas.{found_is, required}
-use Rattle.ae_changes.proofs.UsedLemmas.{IsWritten, Covers, written_left, written_right, local_itself, group_itself}
-use Rattle.ae_changes.proofs.UsedLemmas.{covers_both, covers_left, covers_right, covers_then}
-use Rattle.ae_changes.proofs.WriteLemmas.{BaseWritten, AreWritten, changes_nothing, bound_changes, moved_changes}
-use Rattle.ae_changes.proofs.WriteLemmas.{bind_changes, store_changes, write_changes}
-use Rattle.ae_changes.proofs.BaseLemmas.{reach_under, object_written, covers_base}
-use Rattle.ae_changes.proofs.MovedLemmas.{covers_names, into_written, right_written, return_written}
+use Rattle.ae_changes.proofs.UsedLemmas.{IsWritten, Covers}
+use Rattle.ae_changes.proofs.WriteLemmas.{BaseWritten, changes_nothing, moved_changes}
+use Rattle.ae_changes.proofs.WriteLemmas.{bind_changes, write_changes}
+use Rattle.ae_changes.proofs.BaseLemmas.{object_written, covers_base}
+use Rattle.ae_changes.proofs.MovedLemmas.{covers_names, right_written}
 
 -- what is given where a statement begins
-pub record Stands (p : Code) (c : Context) (s : State) : Type 0 where
+pub record FitsRight (p : Code) (c : Context) (s : State) : Type 0 where
   pub members : FieldsHaveMembers p
   pub fits : FitsContext p c s
   pub right : HoldsRight c
@@ -83,14 +66,13 @@ owner_reached p s path x e =
     record { is = b.1 ∙ ap (λ (y : ObjectField). Fine y.object) same }
 
 -- A field that may be written stands where it is written.
-pub slot_written : (p : Code) (c : Context) (s : State) → Stands p c s → (path : Path) (x : ObjectField) (u : ⊤)
+pub slot_written : (p : Code) (c : Context) (s : State) → FitsRight p c s → (path : Path) (x : ObjectField) (u : ⊤)
     → owner_write_access p c path ≡ Holds u → slot p s path ≡ Fine x
     → BaseWritten (write_uses p c (owner path)) x.object.at.base
 slot_written p c s z path x u h e =
     let w = first_holds (walk p c (owner path)) (λ (from : Place). write_access c path.root.at from.held) u h in
     object_written p c s z.members z.fits z.right (owner path) w.0 x.object path.root.at u w.1 w.2
     (owner_reached p s path x e).is
-
 
 -- What an outcome is found to be goes on.
 pub found_gives : {A B : Type 0} (P : B → Type 0) (o : Outcome A) (next : A → Outcome B)
@@ -110,7 +92,7 @@ taken_changes p c u s x w = next_gives P (there (field_value x.object.tree x.par
     P : Val × State → Type 0
     P = OfSecond (ChangesAsUsed c u s)
 
-take_changes : (p : Code) (c d : Context) (u : Uses) (s : State) (t : Form) (path : Path) (at : Spot) → Stands p c s
+take_changes : (p : Code) (c d : Context) (u : Uses) (s : State) (t : Form) (path : Path) (at : Spot) → FitsRight p c s
     → judge_right p c t (Taken path at) ≡ Holds d → Covers (write_uses p c (owner path)) u
     → Gives (OfSecond (ChangesAsUsed c u s)) (made p (Taken path at) s)
 take_changes p c d u s t path at z h k =
@@ -124,7 +106,7 @@ take_changes p c d u s t path at z h k =
     (slot_written p c s z path x g.0 g.1 i)))
 
 -- a judged right side that is no call changes only what it writes
-made_changes : (p : Code) (c d : Context) (u : Uses) (s : State) (t : Form) (e : RightSide) → Stands p c s
+made_changes : (p : Code) (c d : Context) (u : Uses) (s : State) (t : Form) (e : RightSide) → FitsRight p c s
     → not (is_call e) ≡ true → judge_right p c t e ≡ Holds d → Covers (right_uses p c t e) u
     → Gives (OfSecond (ChangesAsUsed c u s)) (made p e s)
 made_changes p c d u s t (Value e) z o h k = next_gives (OfSecond (ChangesAsUsed c u s)) (value p s e)
@@ -147,7 +129,7 @@ assigned_changes c u s at x t v y n w h = given_leaves (ChangesAsUsed c u s) (Ch
     (bind_changes c u s x t v y w h) (λ z i. i)
 
 set_made : {W : Type 0} (p : Code) (c d : Context) (u : Uses) (s : State) (at : Spot) (x : ℕ) (t : Form)
-    (e : RightSide) (n : Notes W) → Stands p c s → not (is_call e) ≡ true → judge_right p c t e ≡ Holds d
+    (e : RightSide) (n : Notes W) → FitsRight p c s → not (is_call e) ≡ true → judge_right p c t e ≡ Holds d
     → Covers (right_uses p c t e) u → IsWritten u (resource.Local x)
     → Leaves (ChangesAsUsed c u s) (outcome_given (made p e s) at n
     (λ r. assigned at x t r.0 (without_moved (right_moved p t e) r.1) n))
@@ -161,7 +143,7 @@ set_made p c d u s at x t e n z o h k w =
 
 -- A local gets the value of a judged right side that is no call.
 pub set_changes : {W : Type 0} (m : Machine W) (below : Option (Below W)) (here : Where) (c d : Context) (u : Uses)
-    (s : State) (at : Spot) (x : ℕ) (t : Form) (e : RightSide) (n : Notes W) → Stands m.code c s
+    (s : State) (at : Spot) (x : ℕ) (t : Form) (e : RightSide) (n : Notes W) → FitsRight m.code c s
     → not (is_call e) ≡ true → judge_right m.code c t e ≡ Holds d → Covers (right_uses m.code c t e) u
     → IsWritten u (resource.Local x) → Leaves (ChangesAsUsed c u s) (sets m below here at x t e s n)
 set_changes m below here c d u s at x t (Value e) n z o h k w = set_made m.code c d u s at x t (Value e) n z o h k w

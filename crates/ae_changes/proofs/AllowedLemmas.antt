@@ -2,11 +2,10 @@
 use Rattle.std.proofs.Common.{◌≡◌, refl, sym, ap, ◌∙◌, subst, ℕ, Bool, true, false, if◌then◌else◌, Option, None, Some}
 use Rattle.std.proofs.Common.{◌⊎◌, inl, inr}
 use Rattle.std.specs.Prelude.{is_some}
-use Rattle.ae_text.specs.declared.refusal.Spot.{Spot}
 use Rattle.ae_tree.specs.declared.tree.Need.{Need}
 use Rattle.ae_tree.specs.declared.tree.Need.TheVariants as need_of
 use Rattle.ae_tree.specs.declared.tree.GroupNeed.{GroupNeed}
-use Rattle.ae_tree.specs.Plain.{Action, Lines, End, Next, Definition, Code}
+use Rattle.ae_tree.specs.Plain.{Lines, End, Next, Definition, Code}
 use Rattle.ae_rules.specs.declared.held.GroupPerm.{GroupPerm}
 use Rattle.ae_rules.specs.declared.held.GroupPerm.TheVariants as group
 use Rattle.ae_rules.specs.declared.uses.Resource.TheVariants as resource
@@ -14,7 +13,6 @@ use Rattle.ae_rules.specs.declared.uses.Mode.{Mode}
 use Rattle.ae_rules.specs.declared.uses.Mode.TheVariants as mode
 use Rattle.ae_rules.specs.Edges.{Uses}
 use Rattle.ae_rules.specs.Verdict.{Verdict, Holds, given}
-use Rattle.ae_rules.specs.Groups.{known}
 use Rattle.ae_rules.specs.Context.{Context}
 use Rattle.ae_rules.specs.Statements.{judge_statement, judge_lines}
 use Rattle.ae_rules.specs.Judges.{Judges, permission_needed, need_for, knows, start}
@@ -33,7 +31,8 @@ no_write group.Protected e = cc e
 no_write group.HeldBack e = cc e
 no_write group.None e = cc e
 
-strong_allowed : (q : GroupPerm) (o : Option Mode) → ((n : Mode) → o ≡ Some n → group_allows q n ≡ true)
+-- What is written is allowed to be used as a whole.
+pub strong_allowed : (q : GroupPerm) (o : Option Mode) → ((n : Mode) → o ≡ Some n → group_allows q n ≡ true)
     → shuts_out o ≡ true → group_allows q mode.GroupWhole ≡ true
 strong_allowed q None k h = absurd (cc h)
 strong_allowed q (Some mode.Read) k h = absurd (cc h)

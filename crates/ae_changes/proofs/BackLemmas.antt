@@ -1,29 +1,25 @@
 -- What comes back to a group from a method that does not need it for itself is what there was.
-use Rattle.std.proofs.Common.{◌≡◌, ◌≢◌, refl, sym, ap, ◌∙◌, subst, ℕ, nat_eq, Bool, true, false, if◌then◌else◌}
+use Rattle.std.proofs.Common.{◌≡◌, refl, sym, ap, ◌∙◌, subst, ℕ, nat_eq, Bool, true, false, if◌then◌else◌}
 use Rattle.std.proofs.Common.{List, [], ◌∷◌, map, ◌⊎◌, inl, inr, Option, None, Some}
 use Rattle.std.specs.Prelude.{option_map}
 use Rattle.std.proofs.lemmas.Bool.{eqb-true}
-use Rattle.std.proofs.lemmas.Option.{same_Some}
 use Rattle.ae_tree.specs.declared.tree.Need.{Need}
 use Rattle.ae_tree.specs.declared.tree.Need.TheVariants as need_of
 use Rattle.ae_tree.specs.declared.tree.GroupNeed.{GroupNeed}
-use Rattle.ae_tree.specs.Plain.{Code, Definition}
 use Rattle.ae_rules.specs.declared.uses.Resource.TheVariants as resource
 use Rattle.ae_rules.specs.Edges.{Uses}
 use Rattle.ae_rules.specs.Verdict.{given}
 use Rattle.ae_rules.specs.Groups.{wanted_need}
 use Rattle.ae_rules.specs.Context.{Context}
 use Rattle.ae_rules.specs.Judges.{need_for}
-use Rattle.ae_rules.specs.Uses.{◌∪◌, of_each, need_uses, whole_group}
+use Rattle.ae_rules.specs.Uses.{◌∪◌, of_each, need_uses}
 use Rattle.ae_semantics.specs.Contexts.{shuts_out}
-use Rattle.ae_semantics.specs.Places.{Group, Here, Away, As, State, other_name, name_of, with_store}
+use Rattle.ae_semantics.specs.Places.{Group, Here, Away, As, State, name_of, with_store}
 use Rattle.ae_semantics.specs.Calls.{groups_needed, group_back, groups_back}
-use Rattle.ae_soundness.specs.Returns.{MayComeBack, EachMayComeBack}
 use Rattle.ae_soundness.proofs.BackLemmas.{is_no_name, own_name}
-use Rattle.ae_changes.specs.Changes.{GoesBy, LeavesGroup, ChangesAsUsed}
-use Rattle.ae_changes.specs.Bodies.{need_mode, needs_use}
+use Rattle.ae_changes.specs.Changes.{LeavesGroup, ChangesAsUsed}
+use Rattle.ae_changes.specs.Bodies.{need_mode}
 use Rattle.ae_changes.proofs.UsedLemmas.{IsWritten, written_left, written_right, group_itself}
-use Rattle.ae_changes.proofs.WriteLemmas.{goes_by_name, went_by}
 
 -- ---- needs
 
@@ -68,8 +64,9 @@ needed_as to s (m ∷ ns) g h n e = by_tests (nat_eq m.group.name g) (nat_eq (to
     named (Some x) i = cc i
 
     by_tests : (b d : Bool) → nat_eq (to m.group.name) (to g) ≡ d
-        → (if b then s.groups (to g) else (if d then option_map (λ (x : Group). As m.group.name) (groups_needed to s ns g)
-        else groups_needed to s ns g)) ≡ Some (As h)
+        → (if b then s.groups (to g) else (if d
+        then option_map (λ (x : Group). As m.group.name) (groups_needed to s ns g) else groups_needed to s ns g))
+        ≡ Some (As h)
         → (groups_needed to s ns g ≡ Some (As h) → to g ≡ to h) → to g ≡ to h
     by_tests true d q i later = absurd (cc (sym n ∙ ap is_no_name i))
     by_tests false true q i later = sym (eqb-true (to m.group.name) (to g) q)

@@ -1,7 +1,7 @@
 -- In which tree the object stands to which a judged walk leads: its root's, or that of a member of the group that is
 -- held.
-use Rattle.std.proofs.Common.{◌≡◌, ◌≢◌, refl, sym, ap, ◌∙◌, subst, ℕ, Bool, true, false, if◌then◌else◌}
-use Rattle.std.proofs.Common.{Option, None, Some, List, [], ◌∷◌}
+use Rattle.std.proofs.Common.{◌≡◌, ◌≢◌, refl, sym, ap, subst, ℕ, true}
+use Rattle.std.proofs.Common.{Some, List, [], ◌∷◌}
 use Rattle.std.specs.Prelude.{slice_get, ⊤}
 use Rattle.ae_text.specs.declared.refusal.Spot.{Spot}
 use Rattle.ae_text.specs.declared.refusal.Rule.TheVariants as rule
@@ -18,24 +18,22 @@ use Rattle.ae_rules.specs.declared.held.Held.TheVariants as held
 use Rattle.ae_rules.specs.declared.uses.Resource.TheVariants as resource
 use Rattle.ae_rules.specs.Edges.{Uses}
 use Rattle.ae_rules.specs.Verdict.{Verdict, Holds, fine, found, require, in_turn}
-use Rattle.ae_rules.specs.Forms.{is_unique}
 use Rattle.ae_rules.specs.Lookups.{field_of}
 use Rattle.ae_rules.specs.Groups.{Groups as GroupsKnown}
-use Rattle.ae_rules.specs.Context.{Local, Context, access, may_change, held_of, same_held}
-use Rattle.ae_rules.specs.Walks.{Place, held_inside, held_in_perm, held_in_field, step, walk, write_access}
-use Rattle.ae_rules.specs.BlockLaws.{may_become, may_hold, HoldsRight}
-use Rattle.ae_rules.specs.Uses.{◌∪◌, of_judged, walk_uses, end_uses, reach_use, root_written, write_uses}
-use Rattle.ae_semantics.specs.Values.{Val, OfInt, OfBool, Null, Owned, Member, Tree, Store, is_of_kind, value_fits}
-use Rattle.ae_semantics.specs.Places.{Outcome, Fine, Traps, Lacks, ◌>>=◌, there, reached, Bound, State, store_of, Base}
+use Rattle.ae_rules.specs.Context.{Local, Context, access, may_change}
+use Rattle.ae_rules.specs.Walks.{Place, held_inside, held_in_field, step, walk, write_access}
+use Rattle.ae_rules.specs.BlockLaws.{may_hold, HoldsRight}
+use Rattle.ae_rules.specs.Uses.{◌∪◌, of_judged, walk_uses, reach_use, root_written, write_uses}
+use Rattle.ae_semantics.specs.Values.{Val, OfInt, OfBool, Null, Owned, Member, is_of_kind, value_fits, Tree}
+use Rattle.ae_semantics.specs.Places.{Outcome, Fine, ◌>>=◌, there, reached, Bound, State, store_of, Base}
 use Rattle.ae_semantics.specs.Places.{InLocal, InGroup, Address, PlaceFound, OpenedObject, opened_if, opened_member}
 use Rattle.ae_semantics.specs.Places.{open_value, open_form, open_place, NumberedField, numbered_field, field_value}
 use Rattle.ae_semantics.specs.Places.{field_place, met, into_field, step_to, steps, local_place, walk_to, reach}
-use Rattle.ae_soundness.specs.Fits.{FitsHeld, FitsPermission, FitsPlace, FitsLocal, FieldsHaveMembers, FitsContext}
+use Rattle.ae_soundness.specs.Fits.{FitsHeld, FitsPlace, FitsLocal, FieldsHaveMembers, FitsContext}
 use Rattle.ae_soundness.specs.Fits.{HoldsNoMember, place_held}
 use Rattle.ae_soundness.specs.Laws.{IsFoundAs}
 use Rattle.ae_soundness.proofs.PlaceLemmas.{step_known, root_value, reached_value}
 use Rattle.ae_soundness.proofs.StandLemmas.{fine_first, there_is, met_is, opened_is}
-use Rattle.ae_soundness.proofs.UniqueLemmas.{opened_at}
 use Rattle.ae_changes.proofs.from_rules.PathLemmas.{first_holds}
 use Rattle.ae_changes.proofs.from_rules.SeenLemmas.{found_is, required}
 use Rattle.ae_changes.proofs.from_text.Basics.{option_holds_one}
@@ -85,9 +83,11 @@ member_opened p s k g n o e =
     let a = fine_first (store_of s g) (opened_member p k g n) o e in
     let b = fine_first (reached (slice_get a.0 n))
     (λ t. opened_if (is_of_kind p k t) (record { at = record { base = InGroup g n; fields = [] }; kind = k; tree = t }))
-    o a.2 in
-    (n, sym (ap (λ (z : OpenedObject). z.at.base) (opened_is (is_of_kind p k b.0)
-    (record { at = record { base = InGroup g n; fields = [] }; kind = k; tree = b.0 }) o b.2)))
+    o a.2 in (
+      n,
+      sym (ap (λ (z : OpenedObject). z.at.base) (opened_is (is_of_kind p k b.0)
+          (record { at = record { base = InGroup g n; fields = [] }; kind = k; tree = b.0 }) o b.2)),
+    )
 
 shared_opened : (p : Code) (s : State) (g : ℕ) (k : Kind) (a : Address) (v : Val) (o : OpenedObject)
     → open_value p s (perm.Shared g) k a v ≡ Fine o → IsMemberOf g o.at.base
@@ -97,25 +97,42 @@ shared_opened p s g k a Null o e = absurd (cc e)
 shared_opened p s g k a (Owned t) o e = absurd (cc e)
 shared_opened p s g k a (Member n) o e = member_opened p s k g n o e
 
-own_opened : (p : Code) (s : State) (q : Perm) (k : Kind) (a : Address) (v : Val) (o : OpenedObject) (root : ℕ)
-    (h : Held) → FitsPermission q held.Unique → HoldsNoMember h → open_value p s q k a v ≡ Fine o
+owned_under : (p : Code) (k : Kind) (a : Address) (t : Tree) (o : OpenedObject) (root : ℕ) (h : Held)
+    → HoldsNoMember h → opened_if (is_of_kind p k t) (record { at = a; kind = k; tree = t }) ≡ Fine o
     → StandsUnder root h a.base → ObjectUnder root h o.at.base
-own_opened p s q k a v o root h y n e u = subst (λ (z : Address). ObjectUnder root h z.base)
-    (sym (opened_at p s q k a v o y e).0) (own_under root h a.base n u)
+owned_under p k a t o root h n e u = subst (λ (z : OpenedObject). ObjectUnder root h z.at.base)
+    (opened_is (is_of_kind p k t) (record { at = a; kind = k; tree = t }) o e) (own_under root h a.base n u)
 
-no_shared : HoldsNoMember held.Unique
-no_shared g e = cc e
+own_opened : (p : Code) (s : State) (q : Perm) (k : Kind) (a : Address) (v : Val) (o : OpenedObject) (root : ℕ)
+    (h : Held) → ((g : ℕ) → q ≢ perm.Shared g) → HoldsNoMember h → open_value p s q k a v ≡ Fine o
+    → StandsUnder root h a.base → ObjectUnder root h o.at.base
+own_opened p s (perm.Shared g) k a v o root h y n e u = absurd (y g refl)
+own_opened p s perm.Unique k a (OfInt i) o root h y n e u = absurd (cc e)
+own_opened p s perm.Unique k a (OfBool b) o root h y n e u = absurd (cc e)
+own_opened p s perm.Unique k a Null o root h y n e u = absurd (cc e)
+own_opened p s perm.Unique k a (Owned t) o root h y n e u = owned_under p k a t o root h n e u
+own_opened p s perm.Unique k a (Member i) o root h y n e u = absurd (cc e)
+own_opened p s perm.Immutable k a (OfInt i) o root h y n e u = absurd (cc e)
+own_opened p s perm.Immutable k a (OfBool b) o root h y n e u = absurd (cc e)
+own_opened p s perm.Immutable k a Null o root h y n e u = absurd (cc e)
+own_opened p s perm.Immutable k a (Owned t) o root h y n e u = owned_under p k a t o root h n e u
+own_opened p s perm.Immutable k a (Member i) o root h y n e u = absurd (cc e)
+own_opened p s perm.Lent k a (OfInt i) o root h y n e u = absurd (cc e)
+own_opened p s perm.Lent k a (OfBool b) o root h y n e u = absurd (cc e)
+own_opened p s perm.Lent k a Null o root h y n e u = absurd (cc e)
+own_opened p s perm.Lent k a (Owned t) o root h y n e u = owned_under p k a t o root h n e u
+own_opened p s perm.Lent k a (Member i) o root h y n e u = absurd (cc e)
 
 opened_under : (p : Code) (s : State) (now : Form) (a : Address) (v : Val) (o : OpenedObject) (root : ℕ) (h : Held)
     → FitsHeld now h → open_form p s a now v ≡ Fine o → StandsUnder root h a.base → ObjectUnder root h o.at.base
 opened_under p s f.Int a v o root h y e u = absurd (cc e)
 opened_under p s f.Bool a v o root h y e u = absurd (cc e)
 opened_under p s (f.Object perm.Unique k) a v o root h y e u =
-    own_opened p s perm.Unique k a v o root h no_shared y e u
+    own_opened p s perm.Unique k a v o root h (λ g i. cc i) y e u
 opened_under p s (f.Object perm.Immutable k) a v o root h y e u =
-    own_opened p s perm.Immutable k a v o root h no_shared y e u
+    own_opened p s perm.Immutable k a v o root h (λ g i. cc i) y e u
 opened_under p s (f.Object perm.Lent k) a v o root h y e u =
-    own_opened p s perm.Lent k a v o root h no_shared y e u
+    own_opened p s perm.Lent k a v o root h (λ g i. cc i) y e u
 opened_under p s (f.Object (perm.Shared g) k) a v o root h y e u =
     subst (λ (z : Held). ObjectUnder root z o.at.base) (sym y) (shared_opened p s g k a v o e)
 
@@ -164,10 +181,12 @@ step_under p c s m z at x root w u from y h e i =
     let same : record { form = d.0; held = held_in_field w.held d.0 } ≡ u = same_place _ u g.2 in
     let a = fine_first (open_place p s from) (λ o. into_field p o x.name) y i in
     let there : ObjectUnder root w.held a.0.at.base
-    = opened_under p s from.form from.at from.value a.0 root w.held h.0.held a.1 h.1 in
-    (fits, subst (λ (v : Place). StandsUnder root v.held y.at.base) same
-    (field_under root w.held d.0 y.at.base
-    (subst (ObjectUnder root w.held) (sym (into_base p a.0 x.name y a.2)) there)))
+    = opened_under p s from.form from.at from.value a.0 root w.held h.0.held a.1 h.1 in (
+      fits,
+      subst (λ (v : Place). StandsUnder root v.held y.at.base) same
+          (field_under root w.held d.0 y.at.base
+          (subst (ObjectUnder root w.held) (sym (into_base p a.0 x.name y a.2)) there)),
+    )
   where
     same_place : (v w : Place) → Holds v ≡ Holds w → v ≡ w
     same_place v w k = cc k
@@ -219,9 +238,10 @@ walk_under p c s m z right path w y at e n i =
     (λ b. steps p s path.steps (local_place path.root.name b)) y i in
     let same : b.bound ≡ r.0 = option_holds_one (s.locals path.root.name) b.bound r.0 b.is
     (there_is (s.locals path.root.name) r.0 r.1) in
-    steps_under p c s m z path.root.at path.steps path.root.name (place_held l) w (local_place path.root.name r.0) y
-    (subst (λ (x : Bound). FitsPlace p (place_held l) x.form x.value) same b.fits,
-    root_under c.group l.form l.held path.root.name (right path.root.name l visible)) a.2 r.2
+    steps_under p c s m z path.root.at path.steps path.root.name (place_held l) w (local_place path.root.name r.0) y (
+      subst (λ (x : Bound). FitsPlace p (place_held l) x.form x.value) same b.fits,
+      root_under c.group l.form l.held path.root.name (right path.root.name l visible),
+    ) a.2 r.2
 
 -- The object to which a judged walk leads stands under what is held of it.
 pub reach_under : (p : Code) (c : Context) (s : State) → FieldsHaveMembers p → FitsContext p c s → HoldsRight c

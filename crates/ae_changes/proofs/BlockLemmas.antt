@@ -1,6 +1,6 @@
 -- Changes one after another, and at a block's end.
-use Rattle.std.proofs.Common.{◌≡◌, refl, sym, ap, ◌∙◌, subst, ℕ, Bool, true, false, if◌then◌else◌, Option, None, Some}
-use Rattle.std.proofs.Common.{◌⊎◌, inl, inr}
+use Rattle.std.proofs.Common.{◌≡◌, refl, sym, ◌∙◌, subst, ℕ, Bool, true, false, if◌then◌else◌, Option, None, Some}
+use Rattle.std.proofs.Common.{inl, inr}
 use Rattle.std.specs.Prelude.{is_some, ⊤}
 use Rattle.ae_tree.specs.Names.{io}
 use Rattle.ae_tree.specs.Plain.{Code}
@@ -9,11 +9,11 @@ use Rattle.ae_rules.specs.declared.uses.Resource.TheVariants as resource
 use Rattle.ae_rules.specs.declared.uses.Mode.{Mode}
 use Rattle.ae_rules.specs.Edges.{Uses}
 use Rattle.ae_rules.specs.Groups.{known}
-use Rattle.ae_rules.specs.Context.{Local, Context}
+use Rattle.ae_rules.specs.Context.{Context}
 use Rattle.ae_rules.specs.Laws.{Keeps}
-use Rattle.ae_rules.specs.Uses.{◌∪◌, is_seen, outside, stronger}
+use Rattle.ae_rules.specs.Uses.{◌∪◌, outside}
 use Rattle.ae_semantics.specs.Contexts.{shuts_out}
-use Rattle.ae_semantics.specs.Places.{Group, As, State}
+use Rattle.ae_semantics.specs.Places.{As, State}
 use Rattle.ae_semantics.specs.declared.report.Ending.TheVariants.{Done, Trap, Fuel}
 use Rattle.ae_semantics.specs.Observations.{Notes}
 use Rattle.ae_semantics.specs.Runs.{Run, Went, Ends, Stops, Act, and_then, chosen}
@@ -21,10 +21,10 @@ use Rattle.ae_semantics.specs.Meaning.{forgotten, left}
 use Rattle.ae_soundness.specs.Fits.{FitsContext}
 use Rattle.ae_soundness.specs.Whole.{RunsTo}
 use Rattle.ae_soundness.proofs.LeavingLemmas.{seen_is}
+use Rattle.ae_changes.proofs.from_rules.VisibleLemmas.{seen_later}
 use Rattle.ae_changes.specs.Changes.{GoesBy, LeavesGroup, IsAsBefore, ChangesAsUsed, KeepsLog, RunChanges}
-use Rattle.ae_changes.proofs.UsedLemmas.{IsWritten, Covers, covers_left, covers_right, written_left, written_right}
+use Rattle.ae_changes.proofs.UsedLemmas.{Covers, covers_left, covers_right}
 use Rattle.ae_changes.proofs.WriteLemmas.{went_by}
-use Rattle.ae_changes.proofs.RunLemmas.{log_then}
 
 -- ---- weaker uses
 
@@ -74,19 +74,12 @@ before_both false false o q r k (inl h) (inl i) = inl (i ∙ h)
 before_both false false o q r k (inr h) (inl i) = inr (i ∙ h)
 before_both false false o q r k h (inr i) = inr i
 
-still_seen : (c d : Context) → Keeps c d → (x : ℕ) → is_some (c.local x) ≡ true → is_some (d.local x) ≡ true
-still_seen c d k x e = by_local (c.local x) refl e
-  where
-    by_local : (o : Option Local) → c.local x ≡ o → is_some o ≡ true → is_some (d.local x) ≡ true
-    by_local None i j = absurd (cc j)
-    by_local (Some l) i j = ap is_some (k.local x l i).1
-
 -- What changes by the one and then by the other changes by both.
 pub changes_then : (c d : Context) (u v : Uses) (s t w : State) → Keeps c d → ChangesAsUsed c u s t
     → ChangesAsUsed d v t w → ChangesAsUsed c (u ∪ v) s w
 changes_then c d u v s t w k h i = record {
   local = λ x e. before_both (is_some (c.local x)) (is_some (d.local x)) (s.locals x) (t.locals x) (w.locals x)
-      (still_seen c d k x)
+      (seen_later c d k (resource.Local x))
       (h.local x (not_written u (u ∪ v) (resource.Local x) (covers_left u v) e))
       (i.local x (not_written v (u ∪ v) (resource.Local x) (covers_right u v) e));
   group = λ r l. i.group r (λ g b. not_written v (u ∪ v) (resource.Group g) (covers_right u v)
@@ -106,10 +99,10 @@ then_run c d u v any still s t n k (Went w l) keep h g e i = (
 )
 then_run c d u v any still s t n k (Ends ending l) keep h g e i =
     λ q. i (not_written v (u ∪ v) (resource.Group io) (covers_right u v) q)
-      ∙ g (not_written u (u ∪ v) (resource.Group io) (covers_left u v) q)
+    ∙ g (not_written u (u ∪ v) (resource.Group io) (covers_left u v) q)
 then_run c d u v any still s t n k (Stops l) keep h g e i =
     λ q. i (not_written v (u ∪ v) (resource.Group io) (covers_right u v) q)
-      ∙ g (not_written u (u ∪ v) (resource.Group io) (covers_left u v) q)
+    ∙ g (not_written u (u ∪ v) (resource.Group io) (covers_left u v) q)
 
 -- A run that goes on from where the one before it came to changes what both write.
 pub runs_then : {W : Type 0} (P : State → Type 0) (c d : Context) (u v : Uses) (any still : Type 0) (s : State)
@@ -167,8 +160,8 @@ forgotten_changes p c u s t z h = record {
 
     by_group : (r : ℕ) (b : Bool) → known c.group r ≡ b → LeavesGroup (outside c u) s r
         → (if b then t.groups r else None) ≡ s.groups r
-    by_group r true e l = h.group r (λ g b. seen_use (u (resource.Group g)) (known c.group g) (goes_known p c s r g z e b)
-        (l g b))
+    by_group r true e l = h.group r (λ g b. seen_use (u (resource.Group g)) (known c.group g)
+        (goes_known p c s r g z e b) (l g b))
     by_group r false e l = sym (z.unknown r e)
 
 -- A block that is left changes only what is written outside it.

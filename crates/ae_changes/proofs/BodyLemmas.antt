@@ -1,9 +1,8 @@
 -- The statements and bodies of an accepted program in which nothing is split, with any fuel.
-use Rattle.std.proofs.Common.{◌≡◌, refl, sym, ap, ◌∙◌, subst, ℕ, zero, suc, true, List, [], Option, None, Some}
+use Rattle.std.proofs.Common.{◌≡◌, sym, ap, ◌∙◌, subst, ℕ, zero, suc, List, [], Option, None, Some}
 use Rattle.std.specs.Prelude.{⊤}
-use Rattle.ae_text.specs.declared.refusal.Spot.{Spot}
-use Rattle.ae_tree.specs.Plain.{Action, Lines, Definition, Code}
-use Rattle.ae_tree.specs.WellShaped.{WellShaped, InBlocks, IsNoReturn}
+use Rattle.ae_tree.specs.Plain.{Lines, Definition, Code}
+use Rattle.ae_tree.specs.WellShaped.{WellShaped}
 use Rattle.ae_tree.specs.FreeThis.{ThisIsFree}
 use Rattle.ae_rules.specs.Edges.{Uses}
 use Rattle.ae_rules.specs.Verdict.{Holds, each}
@@ -15,27 +14,27 @@ use Rattle.ae_rules.specs.Judges.{Accepts, judge_method, start}
 use Rattle.ae_rules.specs.BlockLaws.{ComparisonsAreExact, IsRight, JudgingKeepsRight, RightIsKept}
 use Rattle.ae_rules.specs.Laws.{StatementsKeep}
 use Rattle.ae_rules.specs.EdgeLaws.{UsesAreAllowed}
-use Rattle.ae_rules.specs.Uses.{outside, statement_uses, lines_use}
+use Rattle.ae_rules.specs.Uses.{outside, lines_use}
 use Rattle.ae_semantics.specs.Places.{State}
 use Rattle.ae_semantics.specs.Observations.{Seen, Notes, Observer}
-use Rattle.ae_semantics.specs.Runs.{Run, Act, Where, Machine, Below, whole_block}
+use Rattle.ae_semantics.specs.Runs.{Act, Where, Below, whole_block}
 use Rattle.ae_semantics.specs.Means.{stops_at}
-use Rattle.ae_semantics.specs.Meaning.{one, many, block, again, below}
+use Rattle.ae_semantics.specs.Meaning.{many, block, below}
 use Rattle.ae_semantics.specs.Equations.{below-zero, below-suc}
 use Rattle.ae_soundness.specs.Laws.{FieldsAreOfGroups, ValuesAreFound, StatementsFitBy}
 use Rattle.ae_soundness.specs.Laws.{StatementsWithoutCallsFit}
 use Rattle.ae_soundness.specs.Returns.{ReturnsGiveBy, ReturnsGiveResults}
-use Rattle.ae_soundness.specs.Whole.{StandsAt, IsUnsplit, BodiesKeep, CallsKeepBy, CallsKeepStanding}
-use Rattle.ae_soundness.proofs.WholeLemmas.{Ground, InText, Itself, Inside, Throughout, Stands, BelowKeeps}
+use Rattle.ae_soundness.specs.Whole.{StandsAt, IsUnsplit, CallsKeepBy, CallsKeepStanding}
+use Rattle.ae_soundness.proofs.WholeLemmas.{BelowKeeps}
 use Rattle.ae_soundness.proofs.BodyLemmas.{Whole, judged_body, text_of_body, bodies_keep, calls_with, below_keeps}
 use Rattle.ae_changes.specs.Changes.{RunChanges, ActsChangeBy, ActsChangeAsUsed}
 use Rattle.ae_changes.specs.Bodies.{needs_use, BodiesChange, CallsChangeBy, CallsChangeAsUsed}
-use Rattle.ae_changes.specs.Whole.{IsOfText, IsNoReturnAtAll, StatementsChangeBy, StatementsChangeAsUsed, BodyChanges}
+use Rattle.ae_changes.specs.Whole.{StatementsChangeBy, StatementsChangeAsUsed, BodyChanges}
 use Rattle.ae_changes.specs.Whole.{BodiesChangeBy, BodiesChangeAsUsed}
 use Rattle.ae_changes.proofs.from_rules.PathLemmas.{first_holds}
 use Rattle.ae_changes.proofs.BlockLemmas.{run_more, left_changes}
 use Rattle.ae_changes.proofs.AllowedLemmas.{body_needs}
-use Rattle.ae_changes.proofs.WholeLemmas.{NoReturns, block_outside, BlocksChange, BelowChanges, Lower, again_changes}
+use Rattle.ae_changes.proofs.WholeLemmas.{NoReturns, BlocksChange, BelowChanges, Lower, again_changes}
 use Rattle.ae_changes.proofs.WholeLemmas.{one_changes, many_change}
 
 -- what a program and the laws give

@@ -1,7 +1,7 @@
 -- A judged call changes only what it writes, where the body of its method changes only what it needs.
-use Rattle.std.proofs.Common.{◌≡◌, refl, sym, ap, ◌∙◌, subst, ℕ, nat_lt, Bool, true, false, List, [], ◌∷◌, map, zip}
+use Rattle.std.proofs.Common.{◌≡◌, refl, sym, ap, ◌∙◌, subst, ℕ, nat_lt, Bool, true, false, List, map, zip}
 use Rattle.std.proofs.Common.{Option, None, Some}
-use Rattle.std.specs.Prelude.{filter_map, ⊤}
+use Rattle.std.specs.Prelude.{filter_map}
 use Rattle.ae_text.specs.declared.refusal.Spot.{Spot}
 use Rattle.ae_tree.specs.Names.{io}
 use Rattle.ae_tree.specs.FreeThis.{ThisIsFree}
@@ -19,22 +19,21 @@ use Rattle.ae_rules.specs.Calls.{judge_callee_with}
 use Rattle.ae_rules.specs.Judges.{start}
 use Rattle.ae_rules.specs.Laws.{EverySlotIsGiven}
 use Rattle.ae_rules.specs.BlockLaws.{HoldsRight}
-use Rattle.ae_rules.specs.Uses.{◌∪◌, of_each, need_uses, callee_uses}
+use Rattle.ae_rules.specs.Uses.{of_each, need_uses, callee_uses}
 use Rattle.ae_semantics.specs.Contexts.{shuts_out}
 use Rattle.ae_semantics.specs.Values.{Val}
-use Rattle.ae_semantics.specs.Places.{Outcome, Fine, Traps, Lacks, State}
+use Rattle.ae_semantics.specs.Places.{Outcome, Fine, State}
 use Rattle.ae_semantics.specs.declared.report.Ending.TheVariants.{Done, Trap, Fuel}
 use Rattle.ae_semantics.specs.Observations.{Notes}
 use Rattle.ae_semantics.specs.Runs.{Run, Went, Ends, Stops, Act, and_then, outcome_given, paid, chosen, Where, Machine}
 use Rattle.ae_semantics.specs.Runs.{Below}
 use Rattle.ae_semantics.specs.Calls.{Argument, Taker, takers, CallFrame, frame, group_given, enter, without_moved}
-use Rattle.ae_semantics.specs.Calls.{groups_needed, groups_back, values_back, given_away, each_argument, leave}
+use Rattle.ae_semantics.specs.Calls.{groups_back, values_back, given_away, each_argument, leave}
 use Rattle.ae_semantics.specs.Meaning.{body_run, call_run, calls_method}
-use Rattle.ae_soundness.specs.Fits.{FitsContext, FieldsHaveMembers}
-use Rattle.ae_soundness.specs.Returns.{name_away, EachMayComeBack, MethodsGiveBack}
+use Rattle.ae_soundness.specs.Fits.{FitsContext}
+use Rattle.ae_soundness.specs.Returns.{name_away, MethodsGiveBack}
 use Rattle.ae_soundness.specs.Whole.{StandsAt, RunsTo, BodyEnds, BodiesKeep}
-use Rattle.ae_soundness.proofs.CallGroupLemmas.{needs_fit}
-use Rattle.ae_soundness.proofs.CallLemmas.{Entered, call_comes, JudgedCall, judged_call, HasGroups, has_groups}
+use Rattle.ae_soundness.proofs.CallLemmas.{Entered, call_comes, JudgedCall, judged_call, has_groups}
 use Rattle.ae_soundness.proofs.CallLemmas.{method_judged}
 use Rattle.ae_soundness.proofs.CallingLemmas.{needed_not_away}
 use Rattle.ae_soundness.proofs.GroupLemmas.{fields_are_of_groups}
@@ -48,21 +47,21 @@ use Rattle.ae_changes.specs.Bodies.{needs_use, BodiesChange}
 use Rattle.ae_changes.proofs.UsedLemmas.{IsWritten, Covers, covers_left, covers_right, covers_then}
 use Rattle.ae_changes.proofs.WriteLemmas.{changes_nothing, moved_changes}
 use Rattle.ae_changes.proofs.MovedLemmas.{covers_names}
-use Rattle.ae_changes.proofs.ActLemmas.{Stands}
+use Rattle.ae_changes.proofs.ActLemmas.{FitsRight}
 use Rattle.ae_changes.proofs.RunLemmas.{outcome_changes}
 use Rattle.ae_changes.proofs.BackLemmas.{needed_written, EachBack, groups_back_change}
 use Rattle.ae_changes.proofs.ValueLemmas.{slot_uses, away_written, values_change}
-use Rattle.ae_changes.proofs.NeedLemmas.{Lends, Ended, each_back, same_io}
+use Rattle.ae_changes.proofs.NeedLemmas.{Lends, each_back, same_io}
 
 -- ---- what a judged call goes by
 
 -- the laws below
-pub record CallLaws : Type 0 where
+pub record LawsOfCalls : Type 0 where
   pub every : EverySlotIsGiven
   pub back : MethodsGiveBack
 
 -- a judged call, from a state that stands
-pub record CalledAt (p : Code) (c : Context) (s : State) (i : Invocation) (k : Callee) (d : Called) : Type 0 where
+pub record JudgedAt (p : Code) (c : Context) (s : State) (i : Invocation) (k : Callee) (d : Called) : Type 0 where
   pub shaped : WellShaped p
   pub free : ThisIsFree p
   pub table : TableHolds p
@@ -71,32 +70,32 @@ pub record CalledAt (p : Code) (c : Context) (s : State) (i : Invocation) (k : C
   pub right : HoldsRight c
   pub stands : StandsAt p c s
 
-own_stands : (p : Code) (c : Context) (s : State) (i : Invocation) (k : Callee) (d : Called) → CalledAt p c s i k d
-    → Stands p c s
+own_stands : (p : Code) (c : Context) (s : State) (i : Invocation) (k : Callee) (d : Called) → JudgedAt p c s i k d
+    → FitsRight p c s
 own_stands p c s i k d j =
     record { members = fields_are_of_groups p j.shaped j.table; fits = j.stands.0; right = j.right }
 
-own_method : (p : Code) (c : Context) (s : State) (i : Invocation) (k : Callee) (d : Called) → CalledAt p c s i k d
+own_method : (p : Code) (c : Context) (s : State) (i : Invocation) (k : Callee) (d : Called) → JudgedAt p c s i k d
     → (n : ℕ) × (method_at p n ≡ Some k.method)
 own_method p c s i k d j = method_judged p c i.on i.method k j.callee
 
-own_held : (p : Code) (c : Context) (s : State) (i : Invocation) (k : Callee) (d : Called) → CalledAt p c s i k d
+own_held : (p : Code) (c : Context) (s : State) (i : Invocation) (k : Callee) (d : Called) → JudgedAt p c s i k d
     → IsHeldAs p k.method
 own_held p c s i k d j =
     let n = own_method p c s i k d j in method_is_held p j.shaped j.table n.0 k.method n.1
 
--- what was entered
-entered_is : (p : Code) (k : Callee) (o : Outcome CallFrame) (f : CallFrame) → Comes (Entered p k) o → o ≡ Fine f
+-- What was entered is so.
+pub entered_is : (p : Code) (k : Callee) (o : Outcome CallFrame) (f : CallFrame) → Comes (Entered p k) o → o ≡ Fine f
     → Entered p k f
 entered_is p k o f h e = subst (Comes (Entered p k)) e h
 
-own_entered : CallLaws → (p : Code) (c : Context) (s : State) (here : Where) (i : Invocation) (k : Callee) (d : Called)
-    (f : CallFrame) → CalledAt p c s i k d → enter p here i s ≡ Fine f → Entered p k f
+own_entered : LawsOfCalls → (p : Code) (c : Context) (s : State) (here : Where) (i : Invocation) (k : Callee)
+    (d : Called) (f : CallFrame) → JudgedAt p c s i k d → enter p here i s ≡ Fine f → Entered p k f
 own_entered laws p c s here i k d f j e = entered_is p k (enter p here i s) f
     (call_comes laws.every p j.shaped j.table c s here i k d j.stands.0 j.callee j.judged) e
 
 own_lends : (p : Code) (c : Context) (s : State) (i : Invocation) (k : Callee) (d : Called) (f : CallFrame)
-    → CalledAt p c s i k d → Entered p k f → Lends p c s i k
+    → JudgedAt p c s i k d → Entered p k f → Lends p c s i k
 own_lends p c s i k d f j n =
     let judged : JudgedCall p c i k = judged_call p c i k d j.judged in
     record {
@@ -116,7 +115,7 @@ need_part i k = of_each need_uses (map (wanted_need (group_in k i.groups)) k.met
 
 -- what is left of a frame
 frame_left : (p : Code) (c : Context) (u : Uses) (s t : State) (i : Invocation) (k : Callee) (d : Called)
-    (xs : List Argument) → CalledAt p c s i k d → Lends p c s i k → Covers (argument_part p c i k) u
+    (xs : List Argument) → JudgedAt p c s i k d → Lends p c s i k → Covers (argument_part p c i k) u
     → each_argument p s (givens i) ≡ Fine xs → EachBack u s (group_given s k i) t k.method.needs → (ts : List Taker)
     → map taker_as (shapes p k.method) ≡ ts
     → Gives (ChangesAsUsed c u s) (values_back (zip ts xs) t (groups_back (group_given s k i) k.method.needs t
@@ -150,8 +149,8 @@ pub record CoversCall (p : Code) (c : Context) (i : Invocation) (k : Callee) (u 
   pub all : Covers (callee_uses p c i k) u
 
 -- a call is left so
-call_left : CallLaws → (p : Code) (c : Context) (u : Uses) (s t : State) (here : Where) (i : Invocation) (k : Callee)
-    (d : Called) (xs : List Argument) → CalledAt p c s i k d → CoversCall p c i k u
+call_left : LawsOfCalls → (p : Code) (c : Context) (u : Uses) (s t : State) (here : Where) (i : Invocation) (k : Callee)
+    (d : Called) (xs : List Argument) → JudgedAt p c s i k d → CoversCall p c i k u
     → enter p here i s ≡ Fine (frame p here s k (group_given s k i) xs)
     → each_argument p s (givens i) ≡ Fine xs
     → ((r : ℕ) → LeavesGroup (needs_use k.method) (frame p here s k (group_given s k i) xs).state r
@@ -177,13 +176,13 @@ call_left laws p c u s t here i k d xs j cover n a body e =
 -- ---- a call runs
 
 -- what is done with a call's result changes only what is written
-abbrev pub GoesOn : {W : Type 0} → Context → Uses → State → Notes W → (Option Val → Act W) → Type 0
-GoesOn c u s n go = (r : Option Val) (v : State) (x : Notes _) → ChangesAsUsed c u s v → KeepsLog u n x
+abbrev pub ResultGoes : {W : Type 0} → Context → Uses → State → Notes W → (Option Val → Act W) → Type 0
+ResultGoes c u s n go = (r : Option Val) (v : State) (x : Notes _) → ChangesAsUsed c u s v → KeepsLog u n x
     → RunChanges c u ⊥ s n (go r v x)
 
 -- what the body prints the call prints
 body_log : {W : Type 0} (p : Code) (c : Context) (u : Uses) (s : State) (i : Invocation) (k : Callee) (d : Called)
-    (n x : Notes W) → CalledAt p c s i k d → CoversCall p c i k u → KeepsLog (needs_use k.method) n x
+    (n x : Notes W) → JudgedAt p c s i k d → CoversCall p c i k u → KeepsLog (needs_use k.method) n x
     → KeepsLog u n x
 body_log p c u s i k d n x j cover h free = by_use (shuts_out (needs_use k.method (resource.Group io))) refl
   where
@@ -201,11 +200,11 @@ body_log p c u s i k d n x j cover h free = by_use (shuts_out (needs_use k.metho
         (covers_right (argument_part p c i k) (need_part i k) (resource.Group io) needed) in
         absurd (cc (written, free))
 
-body_changes : {W : Type 0} → CallLaws → (p : Code) (c : Context) (u : Uses) (s : State) (here : Where) (at : Spot)
+body_changes : {W : Type 0} → LawsOfCalls → (p : Code) (c : Context) (u : Uses) (s : State) (here : Where) (at : Spot)
     (i : Invocation) (k : Callee) (d : Called) (n : Notes W) (go : Option Val → Act W) (xs : List Argument)
-    → CalledAt p c s i k d → CoversCall p c i k u
+    → JudgedAt p c s i k d → CoversCall p c i k u
     → enter p here i s ≡ Fine (frame p here s k (group_given s k i) xs)
-    → each_argument p s (givens i) ≡ Fine xs → GoesOn c u s n go → (r : Run W) → RunsTo (BodyEnds p k.method) r
+    → each_argument p s (givens i) ≡ Fine xs → ResultGoes c u s n go → (r : Run W) → RunsTo (BodyEnds p k.method) r
     → RunChanges (start p k.method) (needs_use k.method) ⊥ (frame p here s k (group_given s k i) xs).state n r
     → RunChanges c u ⊥ s n (and_then r (λ t x.
     outcome_given (leave (frame p here s k (group_given s k i) xs) i s t) at x (λ v. go t.result v x)))
@@ -222,10 +221,10 @@ body_changes laws p c u s here at i k d n go xs j cover e a next (Ends (Fuel y) 
     body_log p c u s i k d n x j cover b
 body_changes laws p c u s here at i k d n go xs j cover e a next (Stops x) ends b = absurd ends
 
-entered_changes : {W : Type 0} → CallLaws → (p : Code) (c : Context) (u : Uses) (s : State) (here : Where) (at : Spot)
-    (i : Invocation) (k : Callee) (d : Called) (n : Notes W) (go : Option Val → Act W) (run : Below W)
-    → CalledAt p c s i k d → CoversCall p c i k u → BodiesKeep p (Some run) → BodiesChange p (Some run)
-    → GoesOn c u s n go → (f : CallFrame) → enter p here i s ≡ Fine f
+entered_changes : {W : Type 0} → LawsOfCalls → (p : Code) (c : Context) (u : Uses) (s : State) (here : Where)
+    (at : Spot) (i : Invocation) (k : Callee) (d : Called) (n : Notes W) (go : Option Val → Act W) (run : Below W)
+    → JudgedAt p c s i k d → CoversCall p c i k u → BodiesKeep p (Some run) → BodiesChange p (Some run)
+    → ResultGoes c u s n go → (f : CallFrame) → enter p here i s ≡ Fine f
     → RunChanges c u ⊥ s n (body_run at i f s n go run)
 entered_changes {W} laws p c u s here at i k d n go run j cover keep bodies next f e =
     subst (λ (y : CallFrame). RunChanges c u ⊥ s n (body_run at i y s n go run)) r.is
@@ -248,14 +247,16 @@ entered_changes {W} laws p c u s here at i k d n go run j cover keep bodies next
     own = own_method p c s i k d j
 
     stands : StandsAt p (start p k.method) y.state
-    stands = (subst (λ (z : CallFrame). FitsContext p (start p k.method) z.state) (sym r.is) entered.fits,
-        λ g cell. needed_not_away (group_given s k i) s k.method.needs g cell j.stands.1)
+    stands = (
+      subst (λ (z : CallFrame). FitsContext p (start p k.method) z.state) (sym r.is) entered.fits,
+      λ g cell. needed_not_away (group_given s k i) s k.method.needs g cell j.stands.1,
+    )
 
 -- A judged call changes only what it writes.
-pub call_changes : {W : Type 0} → CallLaws → (m : Machine W) (below : Option (Below W)) (c : Context) (u : Uses)
+pub call_changes : {W : Type 0} → LawsOfCalls → (m : Machine W) (below : Option (Below W)) (c : Context) (u : Uses)
     (s : State) (here : Where) (at : Spot) (i : Invocation) (k : Callee) (d : Called) (n : Notes W)
-    (go : Option Val → Act W) → CalledAt m.code c s i k d → CoversCall m.code c i k u → BodiesKeep m.code below
-    → BodiesChange m.code below → GoesOn c u s n go → RunChanges c u ⊥ s n (calls_method m below here at i s n go)
+    (go : Option Val → Act W) → JudgedAt m.code c s i k d → CoversCall m.code c i k u → BodiesKeep m.code below
+    → BodiesChange m.code below → ResultGoes c u s n go → RunChanges c u ⊥ s n (calls_method m below here at i s n go)
 call_changes {W} laws m below c u s here at i k d n go j cover keep bodies next =
     outcome_changes c u ⊥ s n n (enter m.code here i s) at (call_run below here at i s n go) (λ e. refl)
     (λ f e. by_depth (nat_lt here.depth 1000) below keep bodies f e)

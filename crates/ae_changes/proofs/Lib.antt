@@ -19,3 +19,8 @@ pub mod BlockLemmas
 pub mod WholeLemmas
 pub mod AllowedLemmas
 pub mod BodyLemmas
+pub mod ApartLemmas
+pub mod BeginLemmas
+pub mod ReadLemmas
+pub mod StayLemmas
+pub mod StayingLemmas

@@ -1,14 +1,14 @@
 -- What is printed, and how the parts of what a run changes are put together.
-use Rattle.std.proofs.Common.{◌≡◌, refl, sym, ap, ◌∙◌, subst, ℕ, Bool, true, false, not, Option, None, Some}
+use Rattle.std.proofs.Common.{◌≡◌, refl, ℕ, Bool, true, false, not, Option}
 use Rattle.std.specs.Prelude.{⊤}
 use Rattle.ae_text.specs.declared.refusal.Spot.{Spot}
 use Rattle.ae_tree.specs.declared.form.Form.{Form}
 use Rattle.ae_tree.specs.Form.{form}
 use Rattle.ae_tree.specs.Names.{io}
-use Rattle.ae_tree.specs.Plain.{Code, RightSide, Value, Taken, Zeros, Made, Returned}
+use Rattle.ae_tree.specs.Plain.{RightSide, Value, Taken, Zeros, Made, Returned}
 use Rattle.ae_tree.specs.Plain.{Action, Declares, Assigns, Stores, StoresAt, Calls, Chooses, ChoosesElse, Repeats}
 use Rattle.ae_tree.specs.Plain.{Groups, Splits, Locks, Freezes, Shares, Prints, PrintsText, Asserts, Returns}
-use Rattle.ae_tree.specs.WellShaped.{HasField, IsNoReturn}
+use Rattle.ae_tree.specs.WellShaped.{IsNoReturn}
 use Rattle.ae_rules.specs.declared.uses.Resource.TheVariants as resource
 use Rattle.ae_rules.specs.Edges.{Uses}
 use Rattle.ae_rules.specs.Paths.{is_call}
@@ -16,23 +16,20 @@ use Rattle.ae_rules.specs.Context.{Local, Context}
 use Rattle.ae_rules.specs.Judges.{is_return}
 use Rattle.ae_rules.specs.Laws.{WalksGoByOwners}
 use Rattle.ae_rules.specs.Uses.{◌∪◌, whole_group, value_uses, statement_uses}
-use Rattle.ae_semantics.specs.Contexts.{shuts_out}
 use Rattle.ae_semantics.specs.Values.{Val}
-use Rattle.ae_semantics.specs.Places.{Outcome, Fine, Traps, Lacks, ◌>>=◌, there, State, bind}
-use Rattle.ae_semantics.specs.Expressions.{value, truth_of}
+use Rattle.ae_semantics.specs.Places.{Outcome, Fine, Traps, Lacks, there, State, bind}
+use Rattle.ae_semantics.specs.Expressions.{truth_of}
 use Rattle.ae_semantics.specs.Equations.{one-Declares, one-Assigns, one-Stores, one-StoresAt, one-Groups, one-Freezes}
 use Rattle.ae_semantics.specs.Equations.{one-Shares, one-Asserts, one-Returns}
 use Rattle.ae_semantics.specs.Observations.{Notes}
 use Rattle.ae_semantics.specs.Runs.{Run, Went, Ends, Stops, outcome_given, Where, Machine, Below}
-use Rattle.ae_semantics.specs.Calls.{without_moved}
-use Rattle.ae_semantics.specs.Meaning.{sets, made, right_moved, assigned, stored, stored_at, frozen, shares_into}
+use Rattle.ae_semantics.specs.Meaning.{sets, made, assigned, stored, stored_at, frozen, shares_into}
 use Rattle.ae_semantics.specs.Meaning.{returns_value, asserts, does, one}
 use Rattle.ae_soundness.specs.Laws.{is_without_calls}
 use Rattle.ae_soundness.specs.Returns.{KeepsResult, ResultsStayBy, ReturnsGiveResults}
 use Rattle.ae_soundness.proofs.LastingLemmas.{Leaves}
 use Rattle.ae_changes.specs.Changes.{ChangesAsUsed, KeepsLog, RunChanges, ActsChangeBy, ActsChangeAsUsed}
 use Rattle.ae_changes.proofs.UsedLemmas.{IsWritten, written_right, group_itself}
-use Rattle.ae_changes.proofs.ActLemmas.{Stands}
 use Rattle.ae_changes.proofs.StatementLemmas.{act_leaves}
 
 -- ---- the log
@@ -142,31 +139,31 @@ together c u still s n (Ends ending k) h l e = l
 together c u still s n (Stops k) h l e = l
 
 -- A statement that is no `return` is none.
-pub no_return : (a : Action) → IsNoReturn a → is_return a ≡ false
-no_return (Declares ty x e) h = refl
-no_return (Assigns x e) h = refl
-no_return (Stores path e) h = refl
-no_return (StoresAt path i e) h = refl
-no_return (Calls i) h = refl
-no_return (Chooses e i b) h = refl
-no_return (ChoosesElse e i b k b') h = refl
-no_return (Repeats e i b) h = refl
-no_return (Groups g) h = refl
-no_return (Splits gs i b) h = refl
-no_return (Locks g i b) h = refl
-no_return (Freezes x) h = refl
-no_return (Shares x g) h = refl
-no_return (Prints e) h = refl
-no_return (PrintsText x) h = refl
-no_return (Asserts e) h = refl
-no_return (Returns e) h = absurd h
+pub no_return_is_none : (a : Action) → IsNoReturn a → is_return a ≡ false
+no_return_is_none (Declares ty x e) h = refl
+no_return_is_none (Assigns x e) h = refl
+no_return_is_none (Stores path e) h = refl
+no_return_is_none (StoresAt path i e) h = refl
+no_return_is_none (Calls i) h = refl
+no_return_is_none (Chooses e i b) h = refl
+no_return_is_none (ChoosesElse e i b k b') h = refl
+no_return_is_none (Repeats e i b) h = refl
+no_return_is_none (Groups g) h = refl
+no_return_is_none (Splits gs i b) h = refl
+no_return_is_none (Locks g i b) h = refl
+no_return_is_none (Freezes x) h = refl
+no_return_is_none (Shares x g) h = refl
+no_return_is_none (Prints e) h = refl
+no_return_is_none (PrintsText x) h = refl
+no_return_is_none (Asserts e) h = refl
+no_return_is_none (Returns e) h = absurd h
 
 acts_change : (W : Type 0) → WalksGoByOwners → ResultsStayBy W → ActsChangeBy W
 acts_change W law stay m below here at a d s n members o f h right z =
     together here.context (statement_uses m.code here.method a here.context) (IsNoReturn a) s n
     (one m below here at a s n)
     (act_leaves law m below here at a d s n o f h (record { members = members; fits = z; right = right }))
-    (act_prints m below here at a s n o) (λ e. stay m below here at a s n o (no_return a e))
+    (act_prints m below here at a s n o) (λ e. stay m below here at a s n o (no_return_is_none a e))
 
 -- A judged statement without blocks and calls changes only what it writes.
 pub acts_change_as_used : WalksGoByOwners → ReturnsGiveResults → ActsChangeAsUsed

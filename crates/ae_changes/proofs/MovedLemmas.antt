@@ -1,14 +1,11 @@
 -- Names that move are written.
-use Rattle.std.proofs.Common.{◌≡◌, refl, sym, ap, ◌∙◌, subst, ℕ, Bool, true, false, List, [], ◌∷◌, map, zip, Option}
+use Rattle.std.proofs.Common.{sym, subst, ℕ, List, [], ◌∷◌, map, zip, Option}
 use Rattle.std.proofs.Common.{None, Some}
 use Rattle.std.specs.Prelude.{filter_map}
-use Rattle.ae_text.specs.declared.refusal.Spot.{Spot}
 use Rattle.ae_tree.specs.declared.tree.NameAt.{NameAt}
-use Rattle.ae_tree.specs.declared.tree.Path.{Path}
 use Rattle.ae_tree.specs.declared.tree.Ty.{Ty}
 use Rattle.ae_tree.specs.declared.tree.Class.{Class}
 use Rattle.ae_tree.specs.declared.form.Perm.{Perm}
-use Rattle.ae_tree.specs.declared.form.Perm.TheVariants as perm
 use Rattle.ae_tree.specs.declared.form.Form.{Form}
 use Rattle.ae_tree.specs.declared.form.Form.TheVariants as f
 use Rattle.ae_tree.specs.Form.{form, bare_names}
@@ -21,11 +18,11 @@ use Rattle.ae_rules.specs.Lookups.{class_called, field_form}
 use Rattle.ae_rules.specs.Context.{Context}
 use Rattle.ae_rules.specs.Into.{Source, Null, From, source, moves, source_moves, name_into}
 use Rattle.ae_rules.specs.Calls.{if_some}
-use Rattle.ae_rules.specs.Uses.{◌∪◌, of_each, of_found, write_use, path_uses, source_uses, into_uses, made_uses}
+use Rattle.ae_rules.specs.Uses.{◌∪◌, of_each, of_found, write_use, path_uses, source_uses, into_uses}
 use Rattle.ae_rules.specs.Uses.{right_uses, return_uses}
 use Rattle.ae_semantics.specs.Meaning.{name_moved, fields_moved, right_moved, result_moved}
 use Rattle.ae_soundness.proofs.AwayLemmas.{filtered}
-use Rattle.ae_changes.proofs.UsedLemmas.{IsWritten, Covers, written_left, written_right, local_itself}
+use Rattle.ae_changes.proofs.UsedLemmas.{Covers, written_left, written_right, local_itself}
 use Rattle.ae_changes.proofs.WriteLemmas.{AreWritten}
 
 -- ---- names
@@ -54,7 +51,8 @@ source_written p c q (Some (From path)) = covers_names (of_found (moves q path) 
     (λ r h. written_right (path_uses p c path) (of_found (moves q path) write_use) r h) (found_written (moves q path))
 
 -- A name that moves into a form is written.
-pub into_written : (p : Code) (c : Context) (t : Form) (e : Expression) → AreWritten (into_uses p c t e) (name_moved t e)
+pub into_written : (p : Code) (c : Context) (t : Form) (e : Expression)
+    → AreWritten (into_uses p c t e) (name_moved t e)
 into_written p c f.Int e = tt
 into_written p c f.Bool e = tt
 into_written p c (f.Object q k) e = source_written p c q (source e)

@@ -1,14 +1,13 @@
 -- The groups that a call lends: what comes back of those that are not needed for themselves is what there was.
-use Rattle.std.proofs.Common.{◌≡◌, refl, sym, ap, ◌∙◌, subst, ℕ, nat_eq, Bool, true, false, not, List, [], ◌∷◌, ◌++◌, map}
-use Rattle.std.proofs.Common.{◌⊎◌, inl, inr, Option, None, Some}
+use Rattle.std.proofs.Common.{◌≡◌, refl, sym, ap, ◌∙◌, subst, ℕ, nat_eq, Bool, true, false, not, List, []}
+use Rattle.std.proofs.Common.{◌∷◌, ◌++◌, map}
+use Rattle.std.proofs.Common.{inl, inr, Option, None, Some}
 use Rattle.std.specs.Prelude.{⊤}
-use Rattle.std.specs.List.{list_all}
 use Rattle.std.proofs.lemmas.Bool.{eqb-true}
-use Rattle.ae_text.specs.declared.refusal.Spot.{Spot}
 use Rattle.ae_tree.specs.declared.tree.GroupNeed.{GroupNeed}
 use Rattle.ae_tree.specs.Form.{bare_names}
 use Rattle.ae_tree.specs.Names.{io}
-use Rattle.ae_tree.specs.Plain.{Code, Definition, Invocation}
+use Rattle.ae_tree.specs.Plain.{Code, Invocation}
 use Rattle.ae_tree.specs.WellShaped.{WellShaped}
 use Rattle.ae_rules.specs.declared.uses.Resource.TheVariants as resource
 use Rattle.ae_rules.specs.declared.held.GroupPerm.{GroupPerm}
@@ -29,11 +28,11 @@ use Rattle.ae_soundness.proofs.BackLemmas.{is_no_name}
 use Rattle.ae_soundness.proofs.CallGroupLemmas.{IsMet, found_is_met, need_permits}
 use Rattle.ae_soundness.proofs.CallLemmas.{HasGroups, JudgedCall, in_place_io, all_of_both, judged_names}
 use Rattle.ae_soundness.proofs.NeedLemmas.{IsHeldAs, needs_are_known}
-use Rattle.ae_changes.specs.Changes.{GoesBy, LeavesGroup, ChangesAsUsed}
+use Rattle.ae_changes.specs.Changes.{GoesBy, LeavesGroup}
 use Rattle.ae_changes.specs.Bodies.{need_mode, needs_use}
 use Rattle.ae_changes.proofs.from_rules.PathLemmas.{first_holds}
-use Rattle.ae_changes.proofs.UsedLemmas.{IsWritten, Covers}
-use Rattle.ae_changes.proofs.WriteLemmas.{goes_by_name}
+use Rattle.ae_changes.proofs.UsedLemmas.{Covers}
+use Rattle.ae_changes.proofs.WriteLemmas.{written_not, goes_by_name}
 use Rattle.ae_changes.proofs.BackLemmas.{needed_written, needed_as, IsLent, needed_is, IsSameBack, EachBack}
 
 -- ---- what the caller has
@@ -88,18 +87,14 @@ same_io p w table c i k e held = in_place_io (k.names ++ bare_names k.method.gro
 -- ---- what comes back
 
 -- where the method ended, and what it changed
-pub record Ended (p : Code) (k : Callee) (u : Uses) (s : State) (i : Invocation) (before after : State) : Type 0 where
-  pub start : (g : ℕ) → before.groups g ≡ groups_needed (group_given s k i) s k.method.needs g
+pub record BodyLeft (p : Code) (k : Callee) (u : Uses) (s : State) (i : Invocation) (old new : State) : Type 0 where
+  pub start : (g : ℕ) → old.groups g ≡ groups_needed (group_given s k i) s k.method.needs g
   pub covers : Covers (of_each need_uses (map (wanted_need (group_in k i.groups)) k.method.needs)) u
-  pub body : (r : ℕ) → LeavesGroup (needs_use k.method) before r → after.groups r ≡ before.groups r
-
-written_false : {A : Type 0} (b : Bool) → b ≡ true → b ≡ false → A
-written_false true h k = absurd (cc k)
-written_false false h k = absurd (cc h)
+  pub body : (r : ℕ) → LeavesGroup (needs_use k.method) old r → new.groups r ≡ old.groups r
 
 -- a group of the method that its caller does not write under this name, the method does not need for itself
 left_alone : (p : Code) (c : Context) (u : Uses) (s : State) (i : Invocation) (k : Callee) (before after : State)
-    (y : ℕ) → Lends p c s i k → Ended p k u s i before after → LeavesGroup u s (group_given s k i y)
+    (y : ℕ) → Lends p c s i k → BodyLeft p k u s i before after → LeavesGroup u s (group_given s k i y)
     → LeavesGroup (needs_use k.method) before y
 left_alone p c u s i k before after y l e h g by = by_use (shuts_out (needs_use k.method (resource.Group g))) refl
   where
@@ -122,7 +117,7 @@ left_alone p c u s i k before after y l e h g by = by_use (shuts_out (needs_use 
     by_use : (b : Bool) → shuts_out (needs_use k.method (resource.Group g)) ≡ b
         → shuts_out (needs_use k.method (resource.Group g)) ≡ false
     by_use false q = q
-    by_use true q = written_false (shuts_out (u (resource.Group (group_in k i.groups g))))
+    by_use true q = written_not (shuts_out (u (resource.Group (group_in k i.groups g))))
         (e.covers (resource.Group (group_in k i.groups g))
         (needed_written (group_in k i.groups) k.method.needs g q))
         (h (group_in k i.groups g) (subst (λ (x : ℕ). GoesBy s x (group_in k i.groups g)) (same q by)
@@ -137,7 +132,7 @@ lent_back p o lent new (inr (inr h)) m e =
 
 -- Each group of the needs comes back as it was, where the caller does not write it.
 pub each_back : (p : Code) (c : Context) (u : Uses) (s : State) (i : Invocation) (k : Callee) (before after : State)
-    (ns : List GroupNeed) (x : ⊤) → Lends p c s i k → Ended p k u s i before after
+    (ns : List GroupNeed) (x : ⊤) → Lends p c s i k → BodyLeft p k u s i before after
     → each (need_met c.group i.method.at) (map (wanted_need (group_in k i.groups)) ns) ≡ Holds x
     → EachMayComeBack p (group_given s k i) s after ns → EachBack u s (group_given s k i) after ns
 each_back p c u s i k before after [] x l e h m = tt

@@ -1,20 +1,13 @@
 -- Runs that change only what is written, one after another.
-use Rattle.std.proofs.Common.{◌≡◌, refl, sym, ap, ◌∙◌, subst, ℕ, Bool, true, false, Option, None, Some}
+use Rattle.std.proofs.Common.{◌≡◌, refl}
 use Rattle.ae_text.specs.declared.refusal.Spot.{Spot}
-use Rattle.ae_tree.specs.Names.{io}
-use Rattle.ae_rules.specs.declared.uses.Resource.TheVariants as resource
 use Rattle.ae_rules.specs.Edges.{Uses}
 use Rattle.ae_rules.specs.Context.{Context}
-use Rattle.ae_semantics.specs.Contexts.{shuts_out}
 use Rattle.ae_semantics.specs.Places.{Outcome, Fine, Traps, Lacks, State}
 use Rattle.ae_semantics.specs.Observations.{Notes}
 use Rattle.ae_semantics.specs.Runs.{Run, Went, Ends, Stops, outcome_given}
 use Rattle.ae_soundness.proofs.LastingLemmas.{Leaves}
-use Rattle.ae_changes.specs.Changes.{ChangesAsUsed, KeepsLog, RunChanges}
-
--- What is printed later is printed too.
-pub log_then : {W : Type 0} (u : Uses) (n k l : Notes W) → KeepsLog u n k → KeepsLog u k l → KeepsLog u n l
-log_then u n k l h i e = i e ∙ h e
+use Rattle.ae_changes.specs.Changes.{KeepsLog, RunChanges}
 
 -- What comes of an outcome changes only what is written where what is done with it does.
 pub outcome_changes : {A W : Type 0} (c : Context) (u : Uses) (still : Type 0) (s : State) (n k : Notes W)

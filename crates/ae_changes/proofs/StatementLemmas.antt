@@ -1,8 +1,6 @@
 -- A judged statement that has no block and calls no method changes only what it writes.
-use Rattle.std.proofs.Common.{◌≡◌, ◌≢◌, refl, sym, ap, ◌∙◌, subst, ℕ, ℤ, Bool, true, false, not, List, [], ◌∷◌, ◌++◌}
-use Rattle.std.proofs.Common.{length, Option, None, Some}
-use Rattle.std.specs.Prelude.{⊤}
-use Rattle.std.specs.Prelude as prelude
+use Rattle.std.proofs.Common.{◌≡◌, ◌≢◌, refl, sym, subst, ℕ, Bool, true, false, not, [], ◌∷◌, ◌++◌}
+use Rattle.std.proofs.Common.{Option, Some}
 use Rattle.ae_text.specs.declared.refusal.Spot.{Spot}
 use Rattle.ae_text.specs.declared.refusal.Rule.TheVariants as rule
 use Rattle.ae_tree.specs.declared.tree.NameAt.{NameAt}
@@ -10,12 +8,11 @@ use Rattle.ae_tree.specs.declared.tree.Path.{Path}
 use Rattle.ae_tree.specs.declared.tree.Ty.{Ty}
 use Rattle.ae_tree.specs.declared.form.Form.{Form}
 use Rattle.ae_tree.specs.Form.{form}
-use Rattle.ae_tree.specs.Names.{io}
 use Rattle.ae_tree.specs.Plain.{Code, Definition, Expression}
-use Rattle.ae_tree.specs.Plain.{RightSide, Value, Taken, Zeros, Made, Returned}
+use Rattle.ae_tree.specs.Plain.{RightSide}
 use Rattle.ae_tree.specs.Plain.{Action, Declares, Assigns, Stores, StoresAt, Calls, Chooses, ChoosesElse, Repeats}
 use Rattle.ae_tree.specs.Plain.{Groups, Splits, Locks, Freezes, Shares, Prints, PrintsText, Asserts, Returns}
-use Rattle.ae_tree.specs.WellShaped.{HasField, IsNoReturn}
+use Rattle.ae_tree.specs.WellShaped.{HasField}
 use Rattle.ae_rules.specs.declared.uses.Resource.TheVariants as resource
 use Rattle.ae_rules.specs.Edges.{Uses}
 use Rattle.ae_rules.specs.Verdict.{Verdict, Holds, require, found}
@@ -27,25 +24,21 @@ use Rattle.ae_rules.specs.Context.{Local, Context, is_visible, with_local, with_
 use Rattle.ae_rules.specs.Walks.{Place, owner, walk, write_access, owner_write_access}
 use Rattle.ae_rules.specs.Statements.{judge_right, judge_let, judge_assign, judge_store, judge_store_at}
 use Rattle.ae_rules.specs.Expressions.{expression_spot}
-use Rattle.ae_rules.specs.Judges.{Judges, is_return}
+use Rattle.ae_rules.specs.Judges.{Judges}
 use Rattle.ae_rules.specs.Laws.{WalksGoByOwners}
-use Rattle.ae_rules.specs.BlockLaws.{HoldsRight}
 use Rattle.ae_rules.specs.Uses.{◌∪◌, of_judged, of_found, write_use, whole_group, value_uses, into_uses, right_uses}
 use Rattle.ae_rules.specs.Uses.{write_uses, return_uses, statement_uses}
-use Rattle.ae_semantics.specs.Contexts.{shuts_out}
-use Rattle.ae_semantics.specs.Values.{Val, OfInt, OfBool, Null, Owned, Member, Tree, Array, Store}
-use Rattle.ae_semantics.specs.Places.{Outcome, Fine, Traps, Lacks, ◌>>=◌, there, Here, Bound, State, with_bound}
+use Rattle.ae_semantics.specs.Values.{Val, OfInt, OfBool, Null, Owned, Member, Store}
+use Rattle.ae_semantics.specs.Places.{Outcome, Fine, ◌>>=◌, there, Here, Bound, State}
 use Rattle.ae_semantics.specs.Places.{with_store, store_of, OpenedObject, ObjectField, slot, reach, write_field}
-use Rattle.ae_semantics.specs.Places.{write_tree}
 use Rattle.ae_semantics.specs.Expressions.{value, number_of, truth_of, numbers, index}
 use Rattle.ae_semantics.specs.Equations.{one-Declares, one-Assigns, one-Stores, one-StoresAt, one-Groups, one-Freezes}
 use Rattle.ae_semantics.specs.Equations.{one-Shares, one-Prints, one-PrintsText, one-Asserts, one-Returns}
 use Rattle.ae_semantics.specs.Observations.{Notes}
-use Rattle.ae_semantics.specs.Runs.{Run, Went, Ends, Stops, outcome_given, Where, Machine, Below}
+use Rattle.ae_semantics.specs.Runs.{outcome_given, Where, Machine, Below}
 use Rattle.ae_semantics.specs.Calls.{without_moved}
 use Rattle.ae_semantics.specs.Meaning.{sets, name_moved, stored, stored_at, shared_value, shares_into, frozen}
 use Rattle.ae_semantics.specs.Meaning.{result_moved, returns_value, printed_value, asserts, does, one}
-use Rattle.ae_soundness.specs.Fits.{FieldsHaveMembers, FitsContext}
 use Rattle.ae_soundness.specs.Laws.{is_without_calls}
 use Rattle.ae_soundness.proofs.LastingLemmas.{Gives, next_gives, then_gives, Leaves, given_leaves, any_leaves}
 use Rattle.ae_soundness.proofs.OutcomeLemmas.{Comes}
@@ -59,7 +52,7 @@ use Rattle.ae_changes.proofs.WriteLemmas.{BaseWritten, changes_nothing, bound_ch
 use Rattle.ae_changes.proofs.WriteLemmas.{write_changes}
 use Rattle.ae_changes.proofs.BaseLemmas.{object_written, covers_base}
 use Rattle.ae_changes.proofs.MovedLemmas.{covers_names, into_written, return_written}
-use Rattle.ae_changes.proofs.ActLemmas.{Stands, found_gives, slot_written, set_changes}
+use Rattle.ae_changes.proofs.ActLemmas.{FitsRight, found_gives, slot_written, set_changes}
 
 -- ---- writes to fields and items
 
@@ -80,7 +73,7 @@ slot_form p s t o x h e =
     let there : Comes (SlotStands p s t) (Fine x) = subst (Comes (SlotStands p s t)) e h in there.0.1
 
 store_changes_field : WalksGoByOwners → (p : Code) (c d : Context) (s : State) (path : Path) (e : Expression)
-    → Stands p c s → path.steps ≢ [] → judge_store p c path e (expression_spot e) ≡ Holds d
+    → FitsRight p c s → path.steps ≢ [] → judge_store p c path e (expression_spot e) ≡ Holds d
     → Gives (ChangesAsUsed c (write_uses p c (owner path) ∪ of_judged (walk p c path) (λ w. into_uses p c w.form e)) s)
     (stored p path e s)
 store_changes_field law p c d s path e z n h =
@@ -99,7 +92,7 @@ store_changes_field law p c d s path e z n h =
     (covers_base (write_uses p c (owner path)) u x.object.at.base
     (covers_left (write_uses p c (owner path)) (into_uses p c w.form e)) (slot_written p c s z path x b.0 b.1 i)))))
 
-store_changes_item : (p : Code) (c d : Context) (s : State) (path : Path) (i e : Expression) → Stands p c s
+store_changes_item : (p : Code) (c d : Context) (s : State) (path : Path) (i e : Expression) → FitsRight p c s
     → judge_store_at p c path i e ≡ Holds d
     → Gives (ChangesAsUsed c (write_uses p c path ∪ value_uses p c i ∪ value_uses p c e) s) (stored_at p path i e s)
 store_changes_item p c d s path i e z h =
@@ -170,7 +163,7 @@ returned_changes p m c s e = next_gives (ChangesAsUsed c u s) (value p s e) _
     there = moved_changes c u s (result_moved m e) s (return_written p m c e) (changes_nothing c u s)
 
 declare_changes : {W : Type 0} (m : Machine W) (below : Option (Below W)) (here : Where) (at : Spot) (ty : Ty)
-    (x : NameAt) (e : RightSide) (d : Context) (s : State) (n : Notes W) → Stands m.code here.context s
+    (x : NameAt) (e : RightSide) (d : Context) (s : State) (n : Notes W) → FitsRight m.code here.context s
     → not (is_call e) ≡ true → judge_let m.code here.context ty x e ≡ Holds d
     → Leaves
     (ChangesAsUsed here.context (write_use x.name ∪ right_uses m.code here.context (form ty) e) s)
@@ -186,7 +179,7 @@ declare_changes m below here at ty x e d s n z o h =
     (written_left (write_use x.name) v (resource.Local x.name) (local_itself x.name))
 
 assign_changes : {W : Type 0} (m : Machine W) (below : Option (Below W)) (here : Where) (at : Spot)
-    (x : NameAt) (e : RightSide) (d : Context) (s : State) (n : Notes W) → Stands m.code here.context s
+    (x : NameAt) (e : RightSide) (d : Context) (s : State) (n : Notes W) → FitsRight m.code here.context s
     → not (is_call e) ≡ true → judge_assign m.code here.context x e ≡ Holds d
     → Leaves (ChangesAsUsed here.context (write_use x.name
     ∪ of_found (here.context.local x.name) (λ (l : Local). right_uses m.code here.context l.form e)) s)
@@ -209,7 +202,7 @@ assign_changes m below here at x e d s n z o h =
 -- A judged statement without blocks and calls leaves a state in which only what it writes is changed.
 pub act_leaves : {W : Type 0} → WalksGoByOwners → (m : Machine W) (below : Option (Below W)) (here : Where) (at : Spot)
     (a : Action) (d : Context) (s : State) (n : Notes W) → is_without_calls a ≡ true → HasField a
-    → Judges m.code here.method at a here.context d → Stands m.code here.context s
+    → Judges m.code here.method at a here.context d → FitsRight m.code here.context s
     → Leaves (ChangesAsUsed here.context (statement_uses m.code here.method a here.context) s)
     (one m below here at a s n)
 act_leaves law m below here at (Declares ty x e) d s n o f h z =

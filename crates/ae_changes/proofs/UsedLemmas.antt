@@ -1,12 +1,12 @@
 -- Which resources are written.
-use Rattle.std.proofs.Common.{◌≡◌, refl, sym, ap, ◌∙◌, subst, ℕ, nat_eq, Bool, true, false, if◌then◌else◌, not}
-use Rattle.std.proofs.Common.{Option, None, Some, List, [], ◌∷◌, ◌⊎◌, inl, inr}
+use Rattle.std.proofs.Common.{◌≡◌, refl, ap, ℕ, nat_eq, Bool, true, false, if◌then◌else◌, not}
+use Rattle.std.proofs.Common.{Option, None, Some, ◌⊎◌, inl, inr}
 use Rattle.ae_rules.specs.declared.uses.Resource.{Resource}
 use Rattle.ae_rules.specs.declared.uses.Resource.TheVariants as resource
 use Rattle.ae_rules.specs.declared.uses.Mode.{Mode}
 use Rattle.ae_rules.specs.declared.uses.Mode.TheVariants as mode
 use Rattle.ae_rules.specs.Edges.{Uses, is_strong}
-use Rattle.ae_rules.specs.Uses.{use_alone, write_use, whole_group, stronger, ◌∪◌, of_each}
+use Rattle.ae_rules.specs.Uses.{write_use, whole_group, stronger, ◌∪◌}
 use Rattle.ae_semantics.specs.Contexts.{shuts_out}
 use Rattle.ae_changes.proofs.from_text.Basics.{number_is_itself}
 

@@ -12,7 +12,6 @@ use Rattle.ae_tree.specs.declared.form.Form.{Form}
 use Rattle.ae_tree.specs.declared.form.Form.TheVariants as f
 use Rattle.ae_tree.specs.Plain.{Code, Expression, Read}
 use Rattle.ae_rules.specs.declared.held.Held.{Held}
-use Rattle.ae_rules.specs.declared.held.Held.TheVariants as held
 use Rattle.ae_rules.specs.declared.uses.Resource.TheVariants as resource
 use Rattle.ae_rules.specs.Edges.{Uses}
 use Rattle.ae_rules.specs.Verdict.{Holds, fine, in_turn, given}
@@ -20,8 +19,8 @@ use Rattle.ae_rules.specs.Forms.{is_unique, form_with}
 use Rattle.ae_rules.specs.Context.{Context, access}
 use Rattle.ae_rules.specs.Into.{Source, Null, From, source, moves, source_moves, name_into}
 use Rattle.ae_rules.specs.Calls.{Roots, ParamSlot, to_form, to_slot}
-use Rattle.ae_rules.specs.Uses.{◌∪◌, of_each, of_found, write_use, walk_uses, root_lent, given_uses, argument_uses}
-use Rattle.ae_semantics.specs.Places.{Outcome, Fine, ◌>>=◌, there, Bound, State, Base, InLocal, Address, write}
+use Rattle.ae_rules.specs.Uses.{◌∪◌, of_each, of_found, write_use, walk_uses, given_uses, argument_uses}
+use Rattle.ae_semantics.specs.Places.{Fine, ◌>>=◌, there, Bound, State, InLocal, Address, write}
 use Rattle.ae_semantics.specs.Calls.{Argument, argument, each_argument, value_comes_back, put_back, values_back}
 use Rattle.ae_soundness.specs.Returns.{name_away}
 use Rattle.ae_soundness.proofs.KeptLemmas.{Shape, slot_as, taker_as, IsLentWhole, lent_so}
@@ -34,8 +33,8 @@ use Rattle.ae_changes.proofs.UsedLemmas.{IsWritten, Covers, written_left, local_
 use Rattle.ae_changes.proofs.UsedLemmas.{covers_then}
 use Rattle.ae_changes.proofs.WriteLemmas.{BaseWritten, AreWritten, write_changes}
 use Rattle.ae_changes.proofs.BaseLemmas.{StandsUnder, walk_under}
-use Rattle.ae_changes.proofs.MovedLemmas.{as_list, covers_names, each_written}
-use Rattle.ae_changes.proofs.ActLemmas.{Stands}
+use Rattle.ae_changes.proofs.MovedLemmas.{as_list, each_written}
+use Rattle.ae_changes.proofs.ActLemmas.{FitsRight}
 
 -- what an argument uses for its slot
 abbrev pub slot_uses : Code → Context → ParamSlot × Expression → Uses
@@ -89,7 +88,7 @@ root_written p c k path = written_left (write_use path.root.name) (walk_uses p c
 
 -- the place from which a unique argument was read, and to which its value comes back, is written
 place_written : (p : Code) (c : Context) (u : Uses) (s : State) (new : ℕ → ℕ) (w : Shape) (e : Expression)
-    (x : Argument) (before mid : Roots) (at : Address) → Stands p c s
+    (x : Argument) (before mid : Roots) (at : Address) → FitsRight p c s
     → to_slot p c (slot_as new w, e) before ≡ Holds mid → argument p s e ≡ Fine x → x.from ≡ Some at
     → value_comes_back (slot_as (λ g. g) w) ≡ true → Covers (slot_uses p c (slot_as new w, e)) u
     → BaseWritten u at.base
@@ -113,7 +112,7 @@ place_written p c u s new w e x before mid at z h a i v k =
     (subst (BaseWritten u) (sym local) (k (resource.Local r.path.root.name) root))
 
 one_value : (p : Code) (c : Context) (u : Uses) (s t : State) (new : ℕ → ℕ) (w : Shape) (e : Expression)
-    (x : Argument) (before mid : Roots) → Stands p c s → to_slot p c (slot_as new w, e) before ≡ Holds mid
+    (x : Argument) (before mid : Roots) → FitsRight p c s → to_slot p c (slot_as new w, e) before ≡ Holds mid
     → argument p s e ≡ Fine x → Covers (slot_uses p c (slot_as new w, e)) u → (v : State) → ChangesAsUsed c u s v
     → Gives (ChangesAsUsed c u s) (put_back (taker_as w, x) t v)
 one_value p c u s t new w e x before mid z h a k v i = by_test (value_comes_back (slot_as (λ g. g) w)) refl
@@ -134,7 +133,7 @@ one_value p c u s t new w e x before mid z h a k v i = by_test (value_comes_back
 
 -- Where what all parameters hold comes back, only what is written changes.
 pub values_change : (p : Code) (c : Context) (u : Uses) (s t : State) (new : ℕ → ℕ) (ws : List Shape)
-    (es : List Expression) (xs : List Argument) (before after : Roots) → Stands p c s
+    (es : List Expression) (xs : List Argument) (before after : Roots) → FitsRight p c s
     → in_turn (to_slot p c) (zip (map (slot_as new) ws) es) before ≡ Holds after → each_argument p s es ≡ Fine xs
     → Covers (of_each (slot_uses p c) (zip (map (slot_as new) ws) es)) u → (v : State) → ChangesAsUsed c u s v
     → Gives (ChangesAsUsed c u s) (values_back (zip (map taker_as ws) xs) t v)

@@ -1,31 +1,29 @@
 -- Where no group is split, each judged statement and block of an accepted program changes only what it writes.
-use Rattle.std.proofs.Common.{◌≡◌, refl, sym, ap, ◌∙◌, subst, ℕ, suc, Bool, true, false, []}
+use Rattle.std.proofs.Common.{◌≡◌, refl, sym, ap, subst, ℕ, suc, true, []}
 use Rattle.std.proofs.Common.{Option, None, Some}
-use Rattle.std.specs.Prelude.{⊤}
 use Rattle.ae_text.specs.declared.refusal.Spot.{Spot}
-use Rattle.ae_text.specs.declared.refusal.Rule.TheVariants as rule
 use Rattle.ae_tree.specs.declared.form.Form.TheVariants as f
-use Rattle.ae_tree.specs.Plain.{Expression, Lines, End, Next, Definition, Code}
+use Rattle.ae_tree.specs.Plain.{Expression, Lines, End, Next, Code}
 use Rattle.ae_tree.specs.Plain.{Value, Taken, Zeros, Made, Returned}
 use Rattle.ae_tree.specs.Plain.{Action, Declares, Assigns, Stores, StoresAt, Calls, Chooses, ChoosesElse, Repeats}
 use Rattle.ae_tree.specs.Plain.{Groups, Splits, Locks, Freezes, Shares, Prints, PrintsText, Asserts, Returns}
-use Rattle.ae_tree.specs.WellShaped.{EachStatement, InBlocks, HasField, IsNoReturn}
+use Rattle.ae_tree.specs.WellShaped.{EachStatement, HasField, IsNoReturn}
 use Rattle.ae_rules.specs.Edges.{Uses}
 use Rattle.ae_rules.specs.Verdict.{Verdict, Holds, ◌>>=◌}
 use Rattle.ae_rules.specs.Context.{Context, closed}
 use Rattle.ae_rules.specs.Expressions.{is_value}
 use Rattle.ae_rules.specs.Statements.{end_block, branches_meet, judge_statement, judge_lines}
 use Rattle.ae_rules.specs.Judges.{Judges, is_return, returns}
-use Rattle.ae_rules.specs.Laws.{Keeps, StatementsKeep}
+use Rattle.ae_rules.specs.Laws.{Keeps}
 use Rattle.ae_rules.specs.Blocks.{Scene}
 use Rattle.ae_rules.specs.Uses.{◌∪◌, of_judged, outside, value_uses, statement_uses, lines_use}
 use Rattle.ae_semantics.specs.Places.{State}
 use Rattle.ae_semantics.specs.Expressions.{truth_of}
 use Rattle.ae_semantics.specs.Contexts.{after, or_before}
-use Rattle.ae_semantics.specs.Equations.{one-Chooses, one-ChoosesElse, one-Repeats, many-End, many-Next, branch}
+use Rattle.ae_semantics.specs.Equations.{one-Chooses, one-ChoosesElse, one-Repeats, many-End, many-Next}
 use Rattle.ae_semantics.specs.Observations.{Ran, Turned, Notes, Observer}
-use Rattle.ae_semantics.specs.Runs.{Run, Went, Act, and_then, paid, marked, Where, deeper, knowing, whole_block, Machine}
-use Rattle.ae_semantics.specs.Runs.{Below}
+use Rattle.ae_semantics.specs.Runs.{Run, Went, Act, and_then, paid, marked, Where, deeper, knowing, whole_block}
+use Rattle.ae_semantics.specs.Runs.{Machine, Below}
 use Rattle.ae_semantics.specs.Means.{stops_at}
 use Rattle.ae_semantics.specs.Meaning.{left, again, one, many}
 use Rattle.ae_soundness.specs.Laws.{is_without_calls}
@@ -35,6 +33,7 @@ use Rattle.ae_soundness.proofs.WholeLemmas.{Ground, InText, Itself, Inside, Thro
 use Rattle.ae_soundness.proofs.WholeLemmas.{one_follows, LoopJudged, loop_judged, same_after, follows_known}
 use Rattle.ae_changes.specs.Changes.{RunChanges, ActsChangeBy}
 use Rattle.ae_changes.specs.Bodies.{CallsChange}
+use Rattle.ae_changes.specs.Whole.{IsNoReturnAtAll}
 use Rattle.ae_changes.proofs.from_rules.PathLemmas.{first_holds}
 use Rattle.ae_changes.proofs.UsedLemmas.{Covers, covers_both, covers_left, covers_right, covers_then}
 use Rattle.ae_changes.proofs.WriteLemmas.{changes_nothing}
@@ -46,10 +45,6 @@ use Rattle.ae_changes.proofs.BlockLemmas.{run_more, same_log, runs_then, chosen_
 -- no statement here is a `return`
 abbrev pub NoReturns : Lines → Type 0
 NoReturns b = EachStatement IsNoReturn b
-
--- neither the statement nor one in its blocks is a `return`
-abbrev pub NoReturn : Action → Type 0
-NoReturn a = IsNoReturn a × InBlocks IsNoReturn a
 
 -- what a block uses outside it
 abbrev pub block_outside : Code → Where → Lines → Uses
@@ -93,21 +88,21 @@ keeps_all c = record { local = λ x l e. (l.held, e); group = λ g q e. e }
 simple_changes : {W : Type 0} (p : Code) (o : Observer W) → Ground W p → ActsChangeBy W → (below : Option (Below W))
     (here : Where) (at : Spot) (a : Action) (d : Context) (s : State) (n : Notes W) → is_without_calls a ≡ true
     → HasField a → Judges p here.method at a here.context d → Stands p here s
-    → RunChanges here.context (statement_uses p here.method a here.context) (NoReturn a) s n
+    → RunChanges here.context (statement_uses p here.method a here.context) (IsNoReturnAtAll a) s n
     (one (stops_at p o) below here at a s n)
 simple_changes p o g law below here at a d s n q w h z =
     run_more here.context (statement_uses p here.method a here.context) (statement_uses p here.method a here.context)
-    (IsNoReturn a) (NoReturn a) s n (one (stops_at p o) below here at a s n) (λ r e. e) (λ e. e.0)
+    (IsNoReturn a) (IsNoReturnAtAll a) s n (one (stops_at p o) below here at a s n) (λ r e. e) (λ e. e.0)
     (law (stops_at p o) below here at a d s n g.fields q w h z.right.holds z.state.0)
 
 call_changes : {W : Type 0} (p : Code) (o : Observer W) (below : Option (Below W)) → CallsChange (stops_at p o) below
     → (here : Where) (at : Spot) (a : Action) (d : Context) (s : State) (n : Notes W) → is_calling a ≡ true
     → Judges p here.method at a here.context d → Stands p here s
-    → RunChanges here.context (statement_uses p here.method a here.context) (NoReturn a) s n
+    → RunChanges here.context (statement_uses p here.method a here.context) (IsNoReturnAtAll a) s n
     (one (stops_at p o) below here at a s n)
 call_changes p o below calls here at a d s n q h z =
     run_more here.context (statement_uses p here.method a here.context) (statement_uses p here.method a here.context)
-    (Unit {0}) (NoReturn a) s n (one (stops_at p o) below here at a s n) (λ r e. e) (λ e. tt)
+    (Unit {0}) (IsNoReturnAtAll a) s n (one (stops_at p o) below here at a s n) (λ r e. e) (λ e. tt)
     (calls here at a d s n q h z.right.holds z.state)
 
 -- a block that is judged in this context, and left, as part of a statement
@@ -178,7 +173,7 @@ mutual
       → Lower p o below → (here : Where) (at : Spot) (a : Action) (d : Context) (s : State)
       (n : Notes W) → InText p (Itself a) → InText p (Inside a) → Judges p here.method at a here.context d
       → Stands p here s
-      → RunChanges here.context (statement_uses p here.method a here.context) (NoReturn a) s n
+      → RunChanges here.context (statement_uses p here.method a here.context) (IsNoReturnAtAll a) s n
       (one (stops_at p o) below here at a s n)
   one_changes p o g law below k here at (Declares ty x (Returned i)) d s n w b h z =
       (call_changes) p o below k.calls here at (Declares ty x (Returned i)) d s n refl h z
@@ -212,7 +207,7 @@ mutual
       let q = first_holds (judge_lines p here.method x c >>= end_block p c x) (λ y. branches_meet p c at y c) d a.2 in
       let r = block_judged p here.method x c c q.0 q.1 in
       let u : Uses = value_uses p c e ∪ block_outside p here x in
-      let still : Type 0 = NoReturn (Chooses e i x) in
+      let still : Type 0 = IsNoReturnAtAll (Chooses e i x) in
       rw (one-Chooses (stops_at p o) below here at e i x s n)
       (outcome_changes c u still s n n (truth_of p s e) at _ (λ y. refl)
       (λ test _. chosen_changes c u still s n test _ _
@@ -229,7 +224,7 @@ mutual
       let r' = block_judged p here.method y c c q'.0 q'.1 in
       let both : Uses = block_outside p here x ∪ block_outside p here y in
       let u : Uses = value_uses p c e ∪ both in
-      let still : Type 0 = NoReturn (ChoosesElse e i x j y) in
+      let still : Type 0 = IsNoReturnAtAll (ChoosesElse e i x j y) in
       rw (one-ChoosesElse (stops_at p o) below here at e i x j y s n)
       (outcome_changes c u still s n n (truth_of p s e) at _ (λ y. refl)
       (λ test _. chosen_changes c u still s n test _ _
@@ -247,7 +242,7 @@ mutual
       let same : here.context ≡ d = (loop_judged p here.method at e i x here.context d h).same in
       rw (one-Repeats (stops_at p o) below here at e i x s n)
       (run_more here.context (value_uses p here.context e ∪ block_outside p here x)
-      (value_uses p here.context e ∪ block_outside p here x) (NoReturns x) (NoReturn (Repeats e i x)) s n
+      (value_uses p here.context e ∪ block_outside p here x) (NoReturns x) (IsNoReturnAtAll (Repeats e i x)) s n
       (again (stops_at p o) below here 0 at e x s n) (λ r v. v) (λ v. v.1)
       (again_changes p o g below k.keeps k.changes here 0 at e i x s n b
       (subst (λ (y : Context). Judges p here.method at (Repeats e i x) here.context y) (sym same) h) z))
@@ -291,10 +286,10 @@ mutual
       (subst (λ (v : Verdict Context). RunChanges c (first ∪ of_judged v (lines_use p here.method b))
       (NoReturns (Next at a b)) s n (and_then (one m below there at a s marks)
       (many m below (knowing (after p here.method at a c) here) all (suc j) b []))) (sym r.1)
-      (run_more c (first ∪ rest) (first ∪ rest) (NoReturn a × NoReturns b) (NoReturns (Next at a b)) s n _
+      (run_more c (first ∪ rest) (first ∪ rest) (IsNoReturnAtAll a × NoReturns b) (NoReturns (Next at a b)) s n _
       (λ y v. v) (λ v. ((v.0, v.1), v.2))
-      (same_log c (first ∪ rest) (NoReturn a × NoReturns b) s n marks _ refl
-      (runs_then (Follows p here.method (is_return a) r.0 s) c r.0 first rest (NoReturn a) (NoReturns b) s marks
+      (same_log c (first ∪ rest) (IsNoReturnAtAll a × NoReturns b) s n marks _ refl
+      (runs_then (Follows p here.method (is_return a) r.0 s) c r.0 first rest (IsNoReturnAtAll a) (NoReturns b) s marks
       (one m below there at a s marks) (many m below (knowing (after p here.method at a c) here) all (suc j) b [])
       (g.keeps p here.method at a c r.0 r.1)
       (one_follows p o g below k.keeps k.follow there at a r.0 s marks (w.0.0, w.1.0, w.2.0) (w.0.1, w.1.1, w.2.1) r.1

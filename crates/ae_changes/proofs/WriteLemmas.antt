@@ -1,5 +1,5 @@
 -- Small changes of a state change only what is written.
-use Rattle.std.proofs.Common.{◌≡◌, ◌≢◌, refl, sym, ap, ◌∙◌, subst, ℕ, nat_eq, Bool, true, false, if◌then◌else◌}
+use Rattle.std.proofs.Common.{◌≡◌, refl, sym, ap, ◌∙◌, subst, ℕ, nat_eq, Bool, true, false, if◌then◌else◌}
 use Rattle.std.proofs.Common.{Option, None, Some, List, [], ◌∷◌, ◌⊎◌, inl, inr}
 use Rattle.std.specs.Prelude.{is_some, slice_get}
 use Rattle.std.specs.Prelude as prelude
@@ -10,7 +10,7 @@ use Rattle.ae_rules.specs.Edges.{Uses}
 use Rattle.ae_rules.specs.Context.{Context}
 use Rattle.ae_semantics.specs.Contexts.{shuts_out}
 use Rattle.ae_semantics.specs.Values.{Val, OfInt, OfBool, Null, Owned, Member, Store}
-use Rattle.ae_semantics.specs.Places.{Outcome, Fine, ◌>>=◌, there, Group, Here, Away, As, Bound, State, other_name}
+use Rattle.ae_semantics.specs.Places.{Fine, there, Group, Here, Away, As, Bound, State, other_name}
 use Rattle.ae_semantics.specs.Places.{name_of, with_bound, with_store, store_of, Base, InLocal, InGroup, low, bind}
 use Rattle.ae_semantics.specs.Places.{with_member, rewrite_member, write_in}
 use Rattle.ae_semantics.specs.Calls.{without_moved}
@@ -26,10 +26,6 @@ pub before_itself : {A : Type 0} (b : Bool) (o : Option A) → IsAsBefore b o o
 before_itself true o = refl
 before_itself false o = inl refl
 
--- What is as before after what is as before is so.
-pub before_then : {A : Type 0} (b : Bool) (o q r : Option A) → IsAsBefore b o q → r ≡ q → IsAsBefore b o r
-before_then b o q r h e = subst (IsAsBefore b o) (sym e) h
-
 -- Where nothing is changed only what is written is.
 pub changes_nothing : (c : Context) (u : Uses) (s : State) → ChangesAsUsed c u s s
 changes_nothing c u s = record {
@@ -38,8 +34,8 @@ changes_nothing c u s = record {
   name = λ g r e. e;
 }
 
--- what is written is not left alone
-written_not : {A : Type 0} (b : Bool) → b ≡ true → b ≡ false → A
+-- What is written is not left alone.
+pub written_not : {A : Type 0} (b : Bool) → b ≡ true → b ≡ false → A
 written_not true h k = absurd (cc k)
 written_not false h k = absurd (cc h)
 

@@ -1,5 +1,5 @@
 -- What calls and whole bodies change, where bodies below change only what their methods need.
-use Rattle.std.specs.Prelude.{◌≡◌, ℕ, Bool, true, List, Option, None, Some, ⊤}
+use Rattle.std.specs.Prelude.{◌≡◌, ℕ, true, List, Option, None, Some, ⊤}
 use Rattle.ae_text.specs.declared.refusal.Spot.{Spot}
 use Rattle.ae_tree.specs.declared.tree.Need.{Need}
 use Rattle.ae_tree.specs.declared.tree.Need.TheVariants as need_of
@@ -38,8 +38,8 @@ abbrev pub needs_use : Definition → Uses
 needs_use m (resource.Local x) = Some mode.Write
 needs_use m (resource.Group g) = given (need_for m.needs g) None (λ (n : GroupNeed). Some (need_mode n.need))
 
--- with less fuel each method's body, from a state that stands where it begins, changes of its caller's groups only those
--- that it needs for itself, and prints only where it needs `io` so
+-- with less fuel each method's body, from a state that stands where it begins, changes of its caller's groups only
+-- those that it needs for itself, and prints only where it needs `io` so
 abbrev pub BodiesChange : {W : Type 0} → Code → Option (Below W) → Type 0
 BodiesChange p None = Unit {0}
 BodiesChange p (Some run) = (number : ℕ) (m : Definition) → method_at p number ≡ Some m → (here : Where)

@@ -3,7 +3,7 @@ use Rattle.std.specs.Prelude.{◌≡◌, ◌⊎◌, ℕ, Bool, true, false, List
 use Rattle.ae_text.specs.declared.refusal.Spot.{Spot}
 use Rattle.ae_tree.specs.Names.{io}
 use Rattle.ae_tree.specs.Plain.{Action}
-use Rattle.ae_tree.specs.WellShaped.{InBlocks, HasField, IsNoReturn}
+use Rattle.ae_tree.specs.WellShaped.{HasField, IsNoReturn}
 use Rattle.ae_rules.specs.declared.uses.Resource.TheVariants as resource
 use Rattle.ae_rules.specs.Edges.{Uses}
 use Rattle.ae_rules.specs.Context.{Context}

@@ -1,3 +1,5 @@
 pub mod Changes
 pub mod Bodies
 pub mod Whole
+pub mod Apart
+pub mod Stays

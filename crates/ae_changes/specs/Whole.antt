@@ -1,5 +1,5 @@
 -- What statements and bodies of a whole program change, where no group is split.
-use Rattle.std.specs.Prelude.{◌≡◌, ℕ, List, length, Option, Some, ⊤}
+use Rattle.std.specs.Prelude.{◌≡◌, ℕ, List, length, Some, ⊤}
 use Rattle.ae_text.specs.declared.refusal.Spot.{Spot}
 use Rattle.ae_tree.specs.Plain.{Action, Definition, Code}
 use Rattle.ae_tree.specs.WellShaped.{InBlocks, HasField, ActionNamed, IsNoReturn, WellShaped}
@@ -20,8 +20,8 @@ use Rattle.ae_changes.specs.Bodies.{needs_use}
 
 -- ---- statements
 
--- The statement, and each in its blocks, is as in the text of a well-shaped program in which nothing is split: it splits
--- nothing, what it takes or writes is a field, and its names are the program's.
+-- The statement, and each in its blocks, is as in the text of a well-shaped program in which nothing is split: it
+-- splits nothing, what it takes or writes is a field, and its names are the program's.
 pub record IsOfText (p : Code) (a : Action) : Type 0 where
   pub unsplit : SplitsNothing a × InBlocks SplitsNothing a
   pub fields : HasField a × InBlocks HasField a

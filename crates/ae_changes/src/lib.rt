@@ -4,5 +4,7 @@
 mod laws;
 
 pub use laws::{
-    acts_change_as_used, bodies_change_as_used, calls_change_as_used, statements_change_as_used,
+    acts_change_as_used, beginnings_are_apart, bodies_change_as_used, calls_begin_apart,
+    calls_change_as_used, names_stay_apart, statements_change_as_used, staying_parameters_stay,
+    unwritten_groups_stay,
 };

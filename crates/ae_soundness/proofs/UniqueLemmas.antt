@@ -81,7 +81,7 @@ opened_so p k a t o e =
     (sym (ap (λ (z : OpenedObject). z.at) same), sym (ap (λ (z : OpenedObject). z.kind) same))
 
 -- what is no member is opened where it is
-pub opened_at : (p : Code) (s : State) (q : Perm) (k : Kind) (a : Address) (v : Val) (o : OpenedObject)
+opened_at : (p : Code) (s : State) (q : Perm) (k : Kind) (a : Address) (v : Val) (o : OpenedObject)
     → FitsPermission q held.Unique → open_value p s q k a v ≡ Fine o → (o.at ≡ a) × (o.kind ≡ k)
 opened_at p s (perm.Shared g) k a v o h e = absurd (cc h)
 opened_at p s perm.Unique k a (OfInt n) o h e = absurd (cc e)
