@@ -18,7 +18,7 @@ mod Growing
 mod Exactly
 mod Flowing
 mod Reading
-mod Walked
+pub mod Walked
 mod FixedLemmas
 mod FreshRows
 mod LockNumbers

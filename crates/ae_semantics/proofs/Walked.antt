@@ -105,7 +105,7 @@ store_kind p k g n (Some st) o e = member_kind k (slice_get st n) o (is_of_kind 
     (record { base = InGroup g n; fields = [] }) e
 
 -- an opened object has the fields of the form of its place
-open_kind : (p : Code) (s : State) (at : Address) (k : Form) (v : Val) (o : OpenedObject)
+pub open_kind : (p : Code) (s : State) (at : Address) (k : Form) (v : Val) (o : OpenedObject)
     → open_form p s at k v ≡ Fine o → (n : ℕ) → field_of p k n ≡ field_of_kind p o.kind n
 open_kind p s at f.Int v o e n = absurd (cc e)
 open_kind p s at f.Bool v o e n = absurd (cc e)
@@ -184,20 +184,20 @@ stepped None a h r at y e = absurd (cc e)
 stepped (Some k) (rules.Holds v) h r at y e = (k, refl, holds_same (record { form = k; held = held_in_field h k }) y e)
 stepped (Some k) (rules.Broken q expression_spot) h r at y e = absurd (cc e)
 
-bind_same : {A B : Type 0} (r : Outcome A) (g h : A → Outcome B) → ((z : A) → r ≡ Fine z → g z ≡ h z)
+pub bind_same : {A B : Type 0} (r : Outcome A) (g h : A → Outcome B) → ((z : A) → r ≡ Fine z → g z ≡ h z)
     → (r >>= g) ≡ (r >>= h)
 bind_same (Fine z) g h e = e z refl
 bind_same (Traps code) g h e = refl
 bind_same Lacks g h e = refl
 
-bind_fine : {A B : Type 0} (P : Type 0) (r : Outcome A) (g : A → Outcome B) (z : B) → (r >>= g) ≡ Fine z
+pub bind_fine : {A B : Type 0} (P : Type 0) (r : Outcome A) (g : A → Outcome B) (z : B) → (r >>= g) ≡ Fine z
     → ((y : A) → r ≡ Fine y → g y ≡ Fine z → P) → P
 bind_fine P (Fine y) g z e k = k y refl e
 bind_fine P (Traps code) g z e k = absurd (cc e)
 bind_fine P Lacks g z e k = absurd (cc e)
 
 module _ (p : Code) (c : Context) (at : Spot) where
-  fit_step : (s : State) (n : NameAt) (x : PlaceFound) (y y' : walks.Place) → Fit p x.form y
+  pub fit_step : (s : State) (n : NameAt) (x : PlaceFound) (y y' : walks.Place) → Fit p x.form y
       → walks.step p c at n y ≡ rules.Holds y' → (z : PlaceFound) → step_to p s n x ≡ Fine z → Fit p z.form y'
   fit_step s n x y y' h e z d = bind_fine (Fit p z.form y') (open_place p s x) (λ o. into_field p o n.name) z d
       (λ o i j.
@@ -289,7 +289,7 @@ by_either : (a b : Option Mode) (P : Type 0) → is_some (stronger a b) ≡ true
 by_either None b P e g h = h e
 by_either (Some m) b P e g h = g refl
 
-on_both : (u v : Uses) (s t : State) → SameOn u s t → SameOn v s t → SameOn (u ∪ v) s t
+pub on_both : (u v : Uses) (s t : State) → SameOn u s t → SameOn v s t → SameOn (u ∪ v) s t
 on_both u v s t h i = record {
   locals = λ y e. by_either (u (resource.Local y)) (v (resource.Local y)) _ e (h.locals y) (i.locals y);
   groups = λ g e. by_either (u (resource.Group g)) (v (resource.Group g)) _ e (h.groups g) (i.groups g);

@@ -45,14 +45,14 @@ use Rattle.ae_soundness.proofs.from_rules.HeldLemmas.{named_method}
 -- ---- blocks and loops with any fuel
 
 -- A judged block is left with a state that follows.
-block_keeps : {W : Type 0} (p : Code) (o : Observer W) → Ground W p → (less : Option (Below W)) → BelowKeeps p less
+pub block_keeps : {W : Type 0} (p : Code) (o : Observer W) → Ground W p → (less : Option (Below W)) → BelowKeeps p less
     → CallsFollow (stops_at p o) less → BlocksKeep p (block (stops_at p o) less)
 block_keeps p o g less k calls here b d s n w h z = block_follows p g here b d s _ h z.state
     (many_follow p o g less k calls here _ 0 b d s n w h z)
 
 -- ---- bodies
 
-judged_body : (p : Code) (n : ℕ) (m : Definition) → Accepts p → method_at p n ≡ Some m
+pub judged_body : (p : Code) (n : ℕ) (m : Definition) → Accepts p → method_at p n ≡ Some m
     → (c : Context) × (judge_lines p m m.body (start p m) ≡ Holds c)
     × (end_block p (start p m) m.body c ≡ Holds (closed (start p m) c))
     × (end_method p m (closed (start p m) c) ≡ fine)
@@ -65,7 +65,7 @@ judged_body p n m a e =
     let same : closed (start p m) r.0 ≡ q.0 = cc (v.2) in
     (r.0, r.1, q.1 ∙ ap Holds (sym same), ap (end_method p m) same ∙ q.2)
 
-text_of_body : (p : Code) (n : ℕ) (m : Definition) → WellShaped p → IsUnsplit p → method_at p n ≡ Some m
+pub text_of_body : (p : Code) (n : ℕ) (m : Definition) → WellShaped p → IsUnsplit p → method_at p n ≡ Some m
     → InText p (Throughout m.body)
 text_of_body p n m w u e = (
   found_has (λ (d : Definition). EachStatement SplitsNothing d.body) p.methods n m u e,
@@ -117,7 +117,7 @@ each_body p act k w a u law number m e here i c s x z =
     (subst (λ (y : Definition). StandsAt p (start p y) s) (sym i) z))
 
 -- Where judged blocks keep standing, each body is left as it is judged to end.
-bodies_keep : {W : Type 0} (p : Code) (less : Option (Below W)) → WellShaped p → Accepts p → IsUnsplit p
+pub bodies_keep : {W : Type 0} (p : Code) (less : Option (Below W)) → WellShaped p → Accepts p → IsUnsplit p
     → JudgingKeepsRight → BelowKeeps p less → BodiesKeep p less
 bodies_keep p None w a u law k = tt
 bodies_keep p (Some inner) w a u law k = each_body p inner.block k.0 w a u law
@@ -125,23 +125,23 @@ bodies_keep p (Some inner) w a u law k = each_body p inner.block k.0 w a u law
 -- ---- with any fuel
 
 -- what a program and the laws give
-record Whole (W : Type 0) (p : Code) : Type 0 where
-  shape : WellShaped p
-  free : ThisIsFree p
-  accepted : Accepts p
-  table : TableHolds p
-  unsplit : IsUnsplit p
-  right : JudgingKeepsRight
-  ground : Ground W p
-  calls : CallsKeepBy W
+pub record Whole (W : Type 0) (p : Code) : Type 0 where
+  pub shape : WellShaped p
+  pub free : ThisIsFree p
+  pub accepted : Accepts p
+  pub table : TableHolds p
+  pub unsplit : IsUnsplit p
+  pub right : JudgingKeepsRight
+  pub ground : Ground W p
+  pub calls : CallsKeepBy W
 
-calls_with : {W : Type 0} (p : Code) (o : Observer W) → Whole W p → (less : Option (Below W)) → BelowKeeps p less
+pub calls_with : {W : Type 0} (p : Code) (o : Observer W) → Whole W p → (less : Option (Below W)) → BelowKeeps p less
     → CallsFollow (stops_at p o) less
 calls_with p o g less k = calls_follow (stops_at p o) less (g.calls (stops_at p o) g.shape g.free g.table less
     (bodies_keep p less g.shape g.accepted g.unsplit g.right k))
 
 -- with any fuel judged blocks and loops keep standing
-below_keeps : {W : Type 0} (p : Code) (o : Observer W) → Whole W p → (fuel : ℕ)
+pub below_keeps : {W : Type 0} (p : Code) (o : Observer W) → Whole W p → (fuel : ℕ)
     → BelowKeeps p (below (stops_at p o) fuel)
 below_keeps p o g zero = subst (BelowKeeps p) (sym (below-zero (stops_at p o))) tt
 below_keeps p o g (suc fuel) =
@@ -212,7 +212,7 @@ pub record LawsOfRuns : Type 0 where
   pub right : JudgingKeepsRight
   pub begins : BeginningsFit
 
-runs_lack_nothing : (W : Type 0) → LawsOfRuns → StatementsFitBy W → ReturnsGiveBy W → CallsKeepBy W
+pub runs_lack_nothing : (W : Type 0) → LawsOfRuns → StatementsFitBy W → ReturnsGiveBy W → CallsKeepBy W
     → RunsLackNothingBy W
 runs_lack_nothing W l simple gives calls o p w v a u ints fuel y =
     let t = first_holds (table_verdict p) _ tt a in

@@ -60,7 +60,7 @@ use Rattle.ae_soundness.proofs.ArgumentLemmas.{given_value, place_comes, argumen
 -- ---- the method that is called
 
 -- the receiver of a judged call has a value
-receiver_value : (p : Code) (c : Context) (new : ℕ → ℕ) (m : Definition) (me : Option Me) (ts : List ParamSlot)
+pub receiver_value : (p : Code) (c : Context) (new : ℕ → ℕ) (m : Definition) (me : Option Me) (ts : List ParamSlot)
     (path : Path) (es : List Expression) (before after : Roots) (w : Place) → is_some me ≡ true
     → in_turn (to_slot p c) (zip (if_some (option_map (me_slot p new m) me) ts) (Read path ∷ es)) before ≡ Holds after
     → walk p c path ≡ Holds w → has_value w ≡ true
@@ -79,7 +79,7 @@ receiver_value p c new m (Some me) ts path es before after w i h e =
     same_place : (u v : Place) → Holds u ≡ Holds v → u ≡ v
     same_place u v k = cc k
 
-same_callee : (p : Code) (x : ℕ) (t now : Form) → SameButPermission t now → callee_of p now x ≡ callee_of p t x
+pub same_callee : (p : Code) (x : ℕ) (t now : Form) → SameButPermission t now → callee_of p now x ≡ callee_of p t x
 same_callee p x f.Int f.Int h = refl
 same_callee p x f.Int f.Bool h = absurd h
 same_callee p x f.Int (f.Object q k) h = absurd h
@@ -214,8 +214,8 @@ entered_so p k Lacks h = h
 -- what is judged of a call's groups, arguments and needs
 pub record JudgedCall (p : Code) (c : Context) (i : Invocation) (k : Callee) : Type 0 where
   pub groups : list_all has_members (bare_names i.groups) ≡ true
-  roots : Roots
-  arguments : in_turn (to_slot p c) (zip (slots p (group_in k i.groups) k.method) (givens i)) no_roots ≡ Holds roots
+  pub roots : Roots
+  pub arguments : in_turn (to_slot p c) (zip (slots p (group_in k i.groups) k.method) (givens i)) no_roots ≡ Holds roots
   pub unit : ⊤
   pub needs : each (need_met c.group i.method.at) (map (wanted_need (group_in k i.groups)) k.method.needs) ≡ Holds unit
 

@@ -53,7 +53,7 @@ use Rattle.ae_soundness.proofs.from_rules.SeenLemmas.{found_is}
 
 -- ---- no group is away
 
-needed_not_away : (to : ℕ → ℕ) (s : State) (ns : List GroupNeed) (g : ℕ) (cell : CellName) → NoneAway s
+pub needed_not_away : (to : ℕ → ℕ) (s : State) (ns : List GroupNeed) (g : ℕ) (cell : CellName) → NoneAway s
     → groups_needed to s ns g ≢ Some (Away cell)
 needed_not_away to s [] g cell z e = cc e
 needed_not_away to s (n ∷ ns) g cell z e = by_tests (nat_eq n.group.name g) (nat_eq (to n.group.name) (to g))
@@ -181,12 +181,12 @@ call_runs {W} laws m below c s here at i k d n Q go j bodies next =
 -- ---- what is done with the result
 
 -- the judged call behind a right side
-record CallJudged (p : Code) (c : Context) (i : Invocation) (d : Called) : Type 0 where
-  callee : Callee
-  found : judge_callee p c i.on i.method ≡ Holds callee
-  judged : judge_callee_with p c i callee ≡ Holds d
+pub record CallJudged (p : Code) (c : Context) (i : Invocation) (d : Called) : Type 0 where
+  pub callee : Callee
+  pub found : judge_callee p c i.on i.method ≡ Holds callee
+  pub judged : judge_callee_with p c i callee ≡ Holds d
 
-call_judged : (p : Code) (c : Context) (i : Invocation) (d : Called) → judge_call p c i ≡ Holds d
+pub call_judged : (p : Code) (c : Context) (i : Invocation) (d : Called) → judge_call p c i ≡ Holds d
     → CallJudged p c i d
 call_judged p c i d h =
     let a = first_holds (judge_callee p c i.on i.method) (judge_callee_with p c i) d h in
@@ -215,14 +215,14 @@ result_runs p d e at x t r s n h k z =
     (assigned_lasts NoneAway none_away_lasts at x t h.0 s n z.1) (λ u i j. (i, j)))
 
 -- the judged right side that calls
-record RightCalls (p : Code) (c : Context) (t : Form) (i : Invocation) (d : Context) : Type 0 where
-  called : Called
-  judged : CallJudged p c i called
-  unit : ⊤
-  into : result_into called.result t i.method.at ≡ Holds unit
-  after : called.after ≡ d
+pub record RightCalls (p : Code) (c : Context) (t : Form) (i : Invocation) (d : Context) : Type 0 where
+  pub called : Called
+  pub judged : CallJudged p c i called
+  pub unit : ⊤
+  pub into : result_into called.result t i.method.at ≡ Holds unit
+  pub after : called.after ≡ d
 
-right_calls : (p : Code) (c : Context) (t : Form) (i : Invocation) (d : Context)
+pub right_calls : (p : Code) (c : Context) (t : Form) (i : Invocation) (d : Context)
     → judge_right p c t (Returned i) ≡ Holds d → RightCalls p c t i d
 right_calls p c t i d h =
     let a = first_holds (judge_call p c i) _ d h in

@@ -57,12 +57,12 @@ comes_so p d (Traps code) h = tt
 comes_so p d Lacks h = h
 
 -- the place that an argument was read from
-record WasRead (p : Code) (s : State) (e : Expression) (at : Address) : Type 0 where
-  path : Path
-  is : e ≡ Read path
-  place : PlaceFound
-  found : walk_to p s path ≡ Fine place
-  there : place.at ≡ at
+pub record WasRead (p : Code) (s : State) (e : Expression) (at : Address) : Type 0 where
+  pub path : Path
+  pub is : e ≡ Read path
+  pub place : PlaceFound
+  pub found : walk_to p s path ≡ Fine place
+  pub there : place.at ≡ at
 
 same_argument : (x y : Argument) → Fine x ≡ Fine y → x ≡ y
 same_argument x y e = cc e
@@ -74,7 +74,7 @@ no_place p s e x at h i =
     let same : record { value = a.0; from = None } ≡ x = same_argument _ x a.2 in
     let none : None ≡ Some at = ap (λ (y : Argument). y.from) same ∙ i in absurd (cc none)
 
-was_read : (p : Code) (s : State) (e : Expression) (x : Argument) (at : Address) → argument p s e ≡ Fine x
+pub was_read : (p : Code) (s : State) (e : Expression) (x : Argument) (at : Address) → argument p s e ≡ Fine x
     → x.from ≡ Some at → WasRead p s e at
 was_read p s (Read path) x at h i =
     let a = fine_first (walk_to p s path) (λ y. Fine (record { value = y.value; from = Some y.at })) x h in

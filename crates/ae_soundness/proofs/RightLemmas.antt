@@ -232,12 +232,12 @@ moved_first : (o : Option ℕ) (xs : List ℕ) (s : State)
 moved_first None xs s = refl
 moved_first (Some x) xs s = refl
 
-record FilledWith (p : Code) (c : Context) (x : Filling) (before after : Filled) : Type 0 where
-  name : Option ℕ
-  goes : into p c x.0 x.1 ≡ Holds name
-  leads : with_name_moved name before.after ≡ after.after
+pub record FilledWith (p : Code) (c : Context) (x : Filling) (before after : Filled) : Type 0 where
+  pub name : Option ℕ
+  pub goes : into p c x.0 x.1 ≡ Holds name
+  pub leads : with_name_moved name before.after ≡ after.after
 
-filled_one : (p : Code) (c : Context) (x : Filling) (before after : Filled) → fills p c x before ≡ Holds after
+pub filled_one : (p : Code) (c : Context) (x : Filling) (before after : Filled) → fills p c x before ≡ Holds after
     → FilledWith p c x before after
 filled_one p c x before after h =
     let a = first_holds (apart x.0 x.1 before.roots) _ after h in

@@ -190,7 +190,7 @@ follows_itself : (p : Code) (m : Definition) (d : Context) (s : State) → Stand
 follows_itself p m d s z = record { stands = z; names = λ g h e. e; result = λ e. absurd (cc e) }
 
 -- what follows where more was judged to be last follows where less is known
-follows_known : (p : Code) (m : Definition) (last : Bool) (c d : Context) (s t : State) → c ≡ d
+pub follows_known : (p : Code) (m : Definition) (last : Bool) (c d : Context) (s t : State) → c ≡ d
     → Follows p m last c s t → Follows p m false d s t
 follows_known p m last c d s t e f = record {
   stands = subst (λ (x : Context). StandsAt p x t) e f.stands;
@@ -209,7 +209,7 @@ block_follows p g here b d s r h z k = block_left p here.method (returns b) here
 -- ---- loops
 
 -- a judged loop: its test, its block, and what is known after it
-record LoopJudged (p : Code) (m : Definition) (e : Expression) (b : Lines) (c d : Context) : Type 0 where
+pub record LoopJudged (p : Code) (m : Definition) (e : Expression) (b : Lines) (c d : Context) : Type 0 where
   pub unit : ⊤
   pub test : is_value p c f.Bool e ≡ Holds unit
   pub inside : Context
@@ -217,7 +217,7 @@ record LoopJudged (p : Code) (m : Definition) (e : Expression) (b : Lines) (c d 
   pub alike : hold_alike p c (closed c inside) c ≡ true
   pub same : c ≡ d
 
-loop_judged : (p : Code) (m : Definition) (at : Spot) (e : Expression) (i : ℕ) (b : Lines) (c d : Context)
+pub loop_judged : (p : Code) (m : Definition) (at : Spot) (e : Expression) (i : ℕ) (b : Lines) (c d : Context)
     → Judges p m at (Repeats e i b) c d → LoopJudged p m e b c d
 loop_judged p m at e i b c d h =
     let a = first_holds (is_value p c f.Bool e) _ d h in
@@ -235,7 +235,7 @@ loop_judged p m at e i b c d h =
     }
 
 -- What is known after a block that leaves all as it was is what was known before.
-same_after : {W : Type 0} (p : Code) → Ground W p → (m : Definition) (b : Lines) (c d : Context) → IsRight p c
+pub same_after : {W : Type 0} (p : Code) → Ground W p → (m : Definition) (b : Lines) (c d : Context) → IsRight p c
     → judge_lines p m b c ≡ Holds d → hold_alike p c (closed c d) c ≡ true → closed c d ≡ c
 same_after p g m b c d i h e = alike_is_same g.alike p c (closed c d) c i.visible
     (closed_like c d (lines_keep g.keeps p m b c d h)) (like_itself c) e
@@ -280,7 +280,7 @@ again_follows {W} p o g below k here t at e i b s n w h z =
 -- ---- lines
 
 -- what follows the rest of a block's statements follows the block, which may end with a `return`
-last_follows : {W : Type 0} (p : Code) (o : Observer W) (below : Option (Below W)) (here : Where) (all : Scene) (j : ℕ)
+pub last_follows : {W : Type 0} (p : Code) (o : Observer W) (below : Option (Below W)) (here : Where) (all : Scene) (j : ℕ)
     (at : Spot) (a : Action) (b : Lines) (d : Context) (s t : State) (n : Notes W)
     → judge_lines p here.method b here.context ≡ Holds d → Follows p here.method (is_return a) here.context s t
     → RunsTo (Follows p here.method (returns b) d t) (many (stops_at p o) below here all j b [] t n)
@@ -299,7 +299,7 @@ last_follows p o below here all j at a (Next at' a' rest) d s t n h f k =
 
 mutual
   -- A judged statement goes on to a state that follows.
-  one_follows : {W : Type 0} (p : Code) (o : Observer W) → Ground W p → (below : Option (Below W)) → BelowKeeps p below
+  pub one_follows : {W : Type 0} (p : Code) (o : Observer W) → Ground W p → (below : Option (Below W)) → BelowKeeps p below
       → CallsFollow (stops_at p o) below → (here : Where) (at : Spot) (a : Action) (d : Context) (s : State)
       (n : Notes W) → InText p (Itself a) → InText p (Inside a) → Judges p here.method at a here.context d
       → Stands p here s → RunsTo (Follows p here.method (is_return a) d s) (one (stops_at p o) below here at a s n)
