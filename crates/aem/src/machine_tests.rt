@@ -271,7 +271,13 @@ fn fuel_and_integers(rt: HostRuntime) -> Result<(), Fail> {
     for case in &CASES {
         let code = sound_of(alloc, case.source.as_bytes())?;
         let text = text_of_run(alloc, &code, case.ints, case.fuel)?;
-        assert_eq!(rt; text.as_slice(), case.text.as_bytes(), "{} with {}", case.source, case.fuel);
+        assert_eq!(rt;
+            text.as_slice(),
+            case.text.as_bytes(),
+            "{} with {}",
+            case.source,
+            case.fuel
+        );
     }
     Ok(())
 }
