@@ -24,8 +24,8 @@ use std::test::Fail;
 
 const MOST: usize = 1_048_576;
 
-// The program that a text is.
-fn program_of(alloc: Global, text: &[u8]) -> Result<Program, Deny>
+/// The program that a text is.
+pub fn program_of(alloc: Global, text: &[u8]) -> Result<Program, Deny>
     ensures { IfOk result (λ p. HasSource (plain p)) }
 {
     if text.len() > MOST {

@@ -4,9 +4,9 @@ ghost use Rattle.ae_tree.specs.Shown.{code as plain};
 ghost use Rattle.ae_levels.specs.Going.{IsSound};
 
 use crate::answer::{Report, What};
+use crate::calls_tests::program_of;
 use crate::modes::judge;
 use crate::texts::text_of;
-use crate::top::read_program;
 use ae_bodies::tabled_of;
 use ae_code::Checked;
 use ae_machine::{Task, evaluate};
@@ -16,18 +16,13 @@ use ae_unsplit::{is_unsplit, texts_have_this_free};
 use std::alloc::Global;
 use std::test::Fail;
 
-const MOST: usize = 1_048_576;
-
 // The accepted program that a text is, in which nothing is split.
 fn sound_of(alloc: Global, text: &[u8]) -> Result<Checked, Deny>
     ensures { IfOk result (λ k. IsSound (plain k.program)) }
 {
     derived_programs_are_well_shaped();
     texts_have_this_free();
-    if text.len() > MOST {
-        return Err(Deny::Memory);
-    }
-    let program = match read_program(alloc, text) {
+    let program = match program_of(alloc, text) {
         Ok(program) => program,
         Err(deny) => return Err(deny),
     };
