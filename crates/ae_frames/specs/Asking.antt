@@ -56,8 +56,8 @@ is_name x o = given o false (nat_eq x)
 
 -- Where a value comes back to a local, or the local is given away, it stands there; and only then.
 abbrev pub is_spared : Bool → Option ℕ → Asked → Bool
-is_spared comes gone (asked.Read a) = not (comes && given a.from false (λ from. is_in_local (base_of from.base)))
-is_spared comes gone (asked.Stands x) = comes || is_name x.name gone
+is_spared comes moved (asked.Read a) = not (comes && given a.from false (λ from. is_in_local (base_of from.base)))
+is_spared comes moved (asked.Stands x) = comes || is_name x.name moved
 
 -- the same of each argument, where these are the parameters and what they are given
 abbrev pub AreSpared : List Taker → List Expression → List Asked → Type 0
