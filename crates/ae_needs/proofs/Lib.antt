@@ -12,3 +12,7 @@ mod RightLemmas
 mod NewLemmas
 mod SetLemmas
 mod ActLemmas
+mod ArgumentLemmas
+mod EnterLemmas
+mod LeaveLemmas
+mod CallLemmas
