@@ -236,7 +236,8 @@ acts_read laws W m below here at (Groups g) d o h on s t n k y z i a =
     (group_is_new c d g h) a in
     rw (one-Groups m below here at g s n, one-Groups m below here at g t k) (
       members_keep (with_used (whole_group g.name) on) s t g.name []
-          (or_right (on (resource.Group g.name)) _ (in_group (λ r. is_some (whole_group g.name r)) mode.GroupWhole g.name
+          (or_right (on (resource.Group g.name)) _ (in_group (λ r. is_some (whole_group g.name r)) mode.GroupWhole
+          g.name
           (λ r e. e))) u,
       prints_nothing n.log k.log,
     )

@@ -24,12 +24,14 @@ use Rattle.ae_needs.proofs.from_semantics.Walked.{SameOn}
 abbrev pub AllIn : (Resource → Bool) → Uses → Type 0
 AllIn on u = (r : Resource) → is_some (u r) ≡ true → on r ≡ true
 
-stronger_left : (o q : Option Mode) → is_some o ≡ true → is_some (stronger o q) ≡ true
+-- What is used first is used by both.
+pub stronger_left : (o q : Option Mode) → is_some o ≡ true → is_some (stronger o q) ≡ true
 stronger_left None q e = absurd (cc e)
 stronger_left (Some m) None e = refl
 stronger_left (Some m) (Some n) e = refl
 
-stronger_right : (o q : Option Mode) → is_some q ≡ true → is_some (stronger o q) ≡ true
+-- What is used second is used by both.
+pub stronger_right : (o q : Option Mode) → is_some q ≡ true → is_some (stronger o q) ≡ true
 stronger_right None q e = e
 stronger_right (Some m) None e = refl
 stronger_right (Some m) (Some n) e = refl

@@ -146,7 +146,8 @@ form_argument : (on : Resource → Bool) (p : Code) (c : Context) (s t : State) 
     (away : Bool) (e : Expression) (before after : Roots) → to_form p c w away e before ≡ Holds after
     → AllIn on (argument_uses p c w e) → ArgumentAlike on p s t e
 form_argument on p c s t k f.Int away e before after h i =
-    let a = first_holds (is_value p c f.Int e) (λ _. Holds before) after h in plain_argument on p c s t k f.Int e a.0 a.1 i
+    let a = first_holds (is_value p c f.Int e) (λ _. Holds before) after h in plain_argument on p c s t k f.Int e
+    a.0 a.1 i
 form_argument on p c s t k f.Bool away e before after h i =
     let a = first_holds (is_value p c f.Bool e) (λ _. Holds before) after h in
     plain_argument on p c s t k f.Bool e a.0 a.1 i

@@ -173,13 +173,17 @@ calls_read laws calls m below w table bodies here at (Calls i) d o h on s t n l 
     (record { calls = calls; shaped = w; table = table; bodies = bodies; first = y; agree = a })
     (call_judged p c i b.0 b.1) all (λ r u v x y k. (k, prints_nothing x.log y.log))))
 calls_read laws calls m below w table bodies here at (Declares ty x (Value e)) d o h on s t n l q r u a = absurd (cc o)
-calls_read laws calls m below w table bodies here at (Declares ty x (Taken path y)) d o h on s t n l q r u a = absurd (cc o)
-calls_read laws calls m below w table bodies here at (Declares ty x (Zeros e y)) d o h on s t n l q r u a = absurd (cc o)
-calls_read laws calls m below w table bodies here at (Declares ty x (Made y gs es z)) d o h on s t n l q r u a = absurd (cc o)
+calls_read laws calls m below w table bodies here at (Declares ty x (Taken path y)) d o h on s t n l q r u a =
+    absurd (cc o)
+calls_read laws calls m below w table bodies here at (Declares ty x (Zeros e y)) d o h on s t n l q r u a = absurd
+    (cc o)
+calls_read laws calls m below w table bodies here at (Declares ty x (Made y gs es z)) d o h on s t n l q r u a =
+    absurd (cc o)
 calls_read laws calls m below w table bodies here at (Assigns x (Value e)) d o h on s t n l q r u a = absurd (cc o)
 calls_read laws calls m below w table bodies here at (Assigns x (Taken path y)) d o h on s t n l q r u a = absurd (cc o)
 calls_read laws calls m below w table bodies here at (Assigns x (Zeros e y)) d o h on s t n l q r u a = absurd (cc o)
-calls_read laws calls m below w table bodies here at (Assigns x (Made y gs es z)) d o h on s t n l q r u a = absurd (cc o)
+calls_read laws calls m below w table bodies here at (Assigns x (Made y gs es z)) d o h on s t n l q r u a = absurd
+    (cc o)
 calls_read laws calls m below w table bodies here at (Stores path e) d o h on s t n l q r u a = absurd (cc o)
 calls_read laws calls m below w table bodies here at (StoresAt path i e) d o h on s t n l q r u a = absurd (cc o)
 calls_read laws calls m below w table bodies here at (Chooses e j x) d o h on s t n l q r u a = absurd (cc o)

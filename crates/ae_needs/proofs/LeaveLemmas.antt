@@ -1,5 +1,6 @@
 -- From states that agree on what a judged call uses it is left alike.
-use Rattle.std.proofs.Common.{◌≡◌, refl, sym, ap, ◌∙◌, subst, ℕ, nat_eq, Bool, true, false, if◌then◌else◌, List, [], ◌∷◌}
+use Rattle.std.proofs.Common.{◌≡◌, refl, sym, ap, ◌∙◌, subst, ℕ, nat_eq, Bool, true, false, if◌then◌else◌, List, []}
+use Rattle.std.proofs.Common.{◌∷◌}
 use Rattle.std.proofs.Common.{zip, Option, None, Some}
 use Rattle.std.specs.Prelude.{filter_map}
 use Rattle.ae_tree.specs.declared.tree.GroupNeed.{GroupNeed}
@@ -10,7 +11,8 @@ use Rattle.ae_rules.specs.Calls.{Callee, group_in, givens}
 use Rattle.ae_semantics.specs.Places.{Outcome, Fine, ◌>>=◌, there, Group, Here, Away, As, Bound, State, with_bound}
 use Rattle.ae_semantics.specs.Places.{other_name, name_of, Address, write}
 use Rattle.ae_semantics.specs.Runs.{Where}
-use Rattle.ae_semantics.specs.Calls.{Argument, Taker, takers, frame, group_given, without_moved, group_back, groups_back}
+use Rattle.ae_semantics.specs.Calls.{Argument, Taker, takers, frame, group_given, without_moved, group_back}
+use Rattle.ae_semantics.specs.Calls.{groups_back}
 use Rattle.ae_semantics.specs.Calls.{value_comes_back, put_back, values_back, given_away, leave}
 use Rattle.ae_needs.specs.Agree.{Agree}
 use Rattle.ae_needs.proofs.AgreeLemmas.{moved_keeps, store_keeps}

@@ -16,3 +16,8 @@ mod ArgumentLemmas
 mod EnterLemmas
 mod LeaveLemmas
 mod CallLemmas
+mod BlockLemmas
+mod StateLemmas
+mod LineLemmas
+mod WholeLemmas
+mod BodyLemmas

@@ -1,6 +1,6 @@
 -- A judged local gets what stands right of a = alike, and a declared group was not known.
-use Rattle.std.proofs.Common.{◌≡◌, inl, inr, refl, subst, ℕ, Bool, true, false, not}
-use Rattle.std.proofs.Common.{Option, None, Some}
+use Rattle.std.proofs.Common.{◌≡◌, inl, inr, subst, ℕ, Bool, false, not}
+use Rattle.std.proofs.Common.{Option, Some}
 use Rattle.std.specs.Prelude.{is_some}
 use Rattle.std.proofs.lemmas.Bool.{not-true}
 use Rattle.ae_text.specs.declared.refusal.Spot.{Spot}
@@ -11,7 +11,6 @@ use Rattle.ae_tree.specs.declared.form.Form.{Form}
 use Rattle.ae_tree.specs.Form.{form}
 use Rattle.ae_tree.specs.Plain.{Code, RightSide, Declares}
 use Rattle.ae_rules.specs.declared.uses.Resource.{Resource}
-use Rattle.ae_rules.specs.declared.uses.Mode.{Mode}
 use Rattle.ae_rules.specs.declared.held.GroupPerm.TheVariants as group
 use Rattle.ae_rules.specs.Verdict.{Holds, require, found}
 use Rattle.ae_rules.specs.Types.{forms_type}
@@ -20,13 +19,13 @@ use Rattle.ae_rules.specs.Context.{Local, Context, held_of, is_visible, with_loc
 use Rattle.ae_rules.specs.Statements.{judge_right, judge_assign, judge_group}
 use Rattle.ae_rules.specs.Judges.{Judges}
 use Rattle.ae_rules.specs.Edges.{Uses}
-use Rattle.ae_rules.specs.Uses.{stronger, of_found, write_use, right_uses, assign_uses, statement_uses}
+use Rattle.ae_rules.specs.Uses.{of_found, write_use, right_uses, assign_uses, statement_uses}
 use Rattle.ae_semantics.specs.Places.{there, State}
 use Rattle.ae_semantics.specs.Observations.{Notes}
 use Rattle.ae_semantics.specs.Runs.{Where, Machine, Below}
 use Rattle.ae_semantics.specs.Meaning.{sets, assigns}
 use Rattle.ae_needs.specs.Agree.{Agree, Covers, with_used, GoAlike}
-use Rattle.ae_needs.proofs.AgreeLemmas.{AllIn, in_right, in_there, covered}
+use Rattle.ae_needs.proofs.AgreeLemmas.{AllIn, stronger_right, in_right, in_there, covered}
 use Rattle.ae_needs.proofs.AlikeLemmas.{from_outcome}
 use Rattle.ae_needs.proofs.RightLemmas.{IsMore}
 use Rattle.ae_needs.proofs.NewLemmas.{UseLaws, allowed_seen, used_mode, in_or_used, let_used}
@@ -37,11 +36,6 @@ use Rattle.ae_needs.proofs.from_text.Basics.{option_holds_one}
 use Rattle.ae_needs.proofs.from_soundness.StandLemmas.{there_is}
 
 -- ---- a local that is set
-
-used_second : (o q : Option Mode) → is_some q ≡ true → is_some (stronger o q) ≡ true
-used_second None q e = e
-used_second (Some m) None e = refl
-used_second (Some m) (Some n) e = refl
 
 -- A group that is declared was not known.
 pub group_is_new : (c d : Context) (g : NameAt) → judge_group c g ≡ Holds d → known c.group g.name ≡ false
@@ -79,7 +73,7 @@ declared_alike laws on m below here d at ty x e s t n k h i set =
     (covered on c (right_uses p c w e)
     (λ y j. let l = used_mode (right_uses p c w e y) j in
     allowed_seen c y l.0 ((visible.in_right p c w e).value r.0 r.1 y l.0 l.1))
-    (λ y j l. i y j (used_second (write_use x.name y) (right_uses p c w e y) l)))
+    (λ y j l. i y j (stronger_right (write_use x.name y) (right_uses p c w e y) l)))
     (with_used uses on)
     (λ y j. elim (in_or_used on uses y j) [
       | inl l ↦ inl l

@@ -1,21 +1,24 @@
 -- Laws: from two states that agree on what a statement uses it goes alike, and leaves states that agree again.
-use Rattle.std.specs.Prelude.{◌≡◌, ℕ, Bool, true, List, Option, None, Some, ⊤}
+use Rattle.std.specs.Prelude.{◌≡◌, ℕ, Bool, true, List, length, Option, None, Some, ⊤}
 use Rattle.ae_text.specs.declared.refusal.Spot.{Spot}
-use Rattle.ae_tree.specs.WellShaped.{WellShaped}
+use Rattle.ae_tree.specs.FreeThis.{ThisIsFree}
+use Rattle.ae_tree.specs.WellShaped.{InBlocks, HasField, ActionNamed, WellShaped}
 use Rattle.ae_rules.specs.declared.uses.Resource.{Resource}
 use Rattle.ae_tree.specs.Plain.{Action, Definition, Code}
 use Rattle.ae_rules.specs.Context.{Context}
 use Rattle.ae_rules.specs.Lookups.{method_at}
 use Rattle.ae_rules.specs.Table.{TableHolds}
 use Rattle.ae_rules.specs.Uses.{statement_uses}
-use Rattle.ae_rules.specs.Judges.{Judges, start}
+use Rattle.ae_rules.specs.Judges.{Judges, Accepts, start}
+use Rattle.ae_rules.specs.BlockLaws.{IsRight}
 use Rattle.ae_semantics.specs.Places.{State}
-use Rattle.ae_semantics.specs.Observations.{Seen, Notes}
+use Rattle.ae_semantics.specs.Observations.{Seen, Notes, Observer}
 use Rattle.ae_semantics.specs.Runs.{Where, Machine, Below}
-use Rattle.ae_semantics.specs.Meaning.{one}
+use Rattle.ae_semantics.specs.Meaning.{one, below}
+use Rattle.ae_semantics.specs.Means.{stops_at}
 use Rattle.ae_soundness.specs.Fits.{FitsContext}
 use Rattle.ae_soundness.specs.Laws.{is_without_calls}
-use Rattle.ae_soundness.specs.Whole.{StandsAt, is_calling}
+use Rattle.ae_soundness.specs.Whole.{StandsAt, is_calling, SplitsNothing, IsUnsplit}
 use Rattle.ae_needs.specs.Agree.{Agree, Covers, with_used, GoAlike}
 
 -- With this fuel a statement goes alike from two states that stand so and agree on all that it uses of what is visible.
@@ -61,3 +64,27 @@ CallsReadBy W = (m : Machine W) → WellShaped m.code → TableHolds m.code → 
 -- so it is with machines that note nothing more, and with those that list what they were answered
 abbrev pub CallsReadWhatTheyUse : Type 0
 CallsReadWhatTheyUse = CallsReadBy ⊤ × CallsReadBy (List Seen)
+
+-- ---- every statement
+
+-- A statement of a method of the program, where only names of the program are visible and of each local is held what
+-- may be. It splits nothing, what it takes or writes is a field, and its names are the program's; so it is inside it.
+pub record IsOfText (p : Code) (here : Where) (a : Action) : Type 0 where
+  pub number : ℕ
+  pub method : method_at p number ≡ Some here.method
+  pub right : IsRight p here.context
+  pub unsplit : SplitsNothing a × InBlocks SplitsNothing a
+  pub fields : HasField a × InBlocks HasField a
+  pub named : ActionNamed (length p.names) a × InBlocks (ActionNamed (length p.names)) a
+
+-- With each observer of this kind, and each fuel, each judged statement of an accepted and well-shaped program, in
+-- which nothing is split and nothing is declared under the name `this`, reads what it uses.
+abbrev pub StatementsReadBy : Type 0 → Type 0
+StatementsReadBy W = (o : Observer W) (p : Code) → WellShaped p → ThisIsFree p → Accepts p → IsUnsplit p → (fuel : ℕ)
+    (here : Where) (at : Spot) (a : Action) (d : Context) → IsOfText p here a
+    → Judges p here.method at a here.context d
+    → ReadsItsUses StandsAt (stops_at p o) (below (stops_at p o) fuel) here at a
+
+-- so it is with observers that note nothing more, and with those that list what they answered
+abbrev pub StatementsReadWhatTheyUse : Type 0
+StatementsReadWhatTheyUse = StatementsReadBy ⊤ × StatementsReadBy (List Seen)
