@@ -49,7 +49,7 @@ use Rattle.ae_needs.proofs.AlikeLemmas.{from_outcomes, does_alike}
 use Rattle.ae_needs.proofs.WalkLemmas.{ReachesAlike, written_alike, slot_same, slot_on}
 use Rattle.ae_needs.proofs.ValueLemmas.{Known, value_alike, form_alike, into_alike}
 use Rattle.ae_needs.proofs.WriteLemmas.{store_same, write_alike}
-use Rattle.ae_needs.proofs.RightLemmas.{owner_alike}
+use Rattle.ae_needs.proofs.RightLemmas.{owner_alike, set_alike}
 use Rattle.ae_needs.proofs.SetLemmas.{group_is_new, declared_alike, assigned_so}
 use Rattle.ae_needs.proofs.NewLemmas.{UseLaws, plain_in, used_in}
 use Rattle.ae_needs.proofs.NewLemmas.{unknown_agrees}
@@ -185,25 +185,30 @@ asserted_alike on p at e s t n k h a = from_outcomes (Agree on) (truth_of p s e)
 
 -- ---- statements
 
-plainly : {W : Type 0} (on : Resource → Bool) (u : Uses) (n k : Notes W) (r q : Run W) → AllIn on u
+-- A statement whose uses are in the set leaves states that agree on them too.
+pub plainly : {W : Type 0} (on : Resource → Bool) (u : Uses) (n k : Notes W) (r q : Run W) → AllIn on u
     → GoAlike (Agree on) n k r q → GoAlike (Agree (with_used u on)) n k r q
 plainly on u n k r q i h = alike_so (Agree on) (Agree (with_used u on)) n k r q h
     (λ s t a. agree_on on (with_used u on) s t (used_in on u i) a)
 
 -- With each machine a judged statement that has no block and calls no method goes alike.
 pub acts_read : UseLaws → (W : Type 0) → ActsReadBy W
-acts_read laws W m below here at (Declares ty x e) d on s t n k o h y z i a =
+acts_read laws W m below here at (Declares ty x e) d o h on s t n k y z i a =
     rw (one-Declares m below here at ty x e s n, one-Declares m below here at ty x e t k)
-    (declared_alike laws on m below here here.context d at ty x e s t n k (record { fits = y; agree = a }) o h i)
-acts_read laws W m below here at (Assigns x e) d on s t n k o h y z i a =
+    (declared_alike laws on m below here d at ty x e s t n k h i
+    (λ r j l more v. set_alike on more m below here here.context r at x.name (form ty) e s t n k
+    (record { fits = y; agree = a }) o j l v))
+acts_read laws W m below here at (Assigns x e) d o h on s t n k y z i a =
     let p : Code = m.code in
     let c : Context = here.context in
-    let l : AllIn on (statement_uses p here.method (Assigns x e) c) = plain_in laws on p here.method at (Assigns x e) c d
-    (record { locals = λ b x. refl; groups = refl }) h i in
+    let l : AllIn on (statement_uses p here.method (Assigns x e) c) = plain_in laws on p here.method at (Assigns x e)
+    c d (record { locals = λ b x. refl; groups = refl }) h i in
     rw (one-Assigns m below here at x e s n, one-Assigns m below here at x e t k)
     (plainly on (statement_uses p here.method (Assigns x e) c) n k _ _ l
-    (assigned_so on m below here d at x e s t n k (record { fits = y; agree = a }) o h l))
-acts_read laws W m below here at (Stores path e) d on s t n k o h y z i a =
+    (assigned_so on m below here d at x e s t n k h l
+    (λ w r j u more v. set_alike on more m below here c r at x.name w e s t n k (record { fits = y; agree = a }) o j u
+    v)))
+acts_read laws W m below here at (Stores path e) d o h on s t n k y z i a =
     let p : Code = m.code in
     let c : Context = here.context in
     let l : AllIn on (statement_uses p here.method (Stores path e) c) = plain_in laws on p here.method at
@@ -212,7 +217,7 @@ acts_read laws W m below here at (Stores path e) d on s t n k o h y z i a =
     (plainly on (statement_uses p here.method (Stores path e) c) n k _ _ l
     (does_alike (Agree on) (stored p path e s) (stored p path e t) at n k
     (stored_alike on p c d s t (record { fits = y; agree = a }) path e h l)))
-acts_read laws W m below here at (StoresAt path j e) d on s t n k o h y z i a =
+acts_read laws W m below here at (StoresAt path j e) d o h on s t n k y z i a =
     let p : Code = m.code in
     let c : Context = here.context in
     let l : AllIn on (statement_uses p here.method (StoresAt path j e) c) = plain_in laws on p here.method at
@@ -221,23 +226,24 @@ acts_read laws W m below here at (StoresAt path j e) d on s t n k o h y z i a =
     (plainly on (statement_uses p here.method (StoresAt path j e) c) n k _ _ l
     (does_alike (Agree on) (stored_at p path j e s) (stored_at p path j e t) at n k
     (stored_at_alike on p c d s t (record { fits = y; agree = a }) path j e h l)))
-acts_read laws W m below here at (Calls j) d on s t n k o h y z i a = absurd (cc o)
-acts_read laws W m below here at (Chooses e j b) d on s t n k o h y z i a = absurd (cc o)
-acts_read laws W m below here at (ChoosesElse e j b l b') d on s t n k o h y z i a = absurd (cc o)
-acts_read laws W m below here at (Repeats e j b) d on s t n k o h y z i a = absurd (cc o)
-acts_read laws W m below here at (Groups g) d on s t n k o h y z i a =
+acts_read laws W m below here at (Calls j) d o h on s t n k y z i a = absurd (cc o)
+acts_read laws W m below here at (Chooses e j b) d o h on s t n k y z i a = absurd (cc o)
+acts_read laws W m below here at (ChoosesElse e j b l b') d o h on s t n k y z i a = absurd (cc o)
+acts_read laws W m below here at (Repeats e j b) d o h on s t n k y z i a = absurd (cc o)
+acts_read laws W m below here at (Groups g) d o h on s t n k y z i a =
     let c : Context = here.context in
     let u : Agree (with_used (whole_group g.name) on) s t = unknown_agrees on m.code c s t g.name y z
     (group_is_new c d g h) a in
     rw (one-Groups m below here at g s n, one-Groups m below here at g t k) (
       members_keep (with_used (whole_group g.name) on) s t g.name []
-          (or_right (on (resource.Group g.name)) _ (in_group (λ r. is_some (whole_group g.name r)) mode.GroupWhole g.name
+          (or_right (on (resource.Group g.name)) _ (in_group (λ r. is_some (whole_group g.name r)) mode.GroupWhole
+          g.name
           (λ r e. e))) u,
       prints_nothing n.log k.log,
     )
-acts_read laws W m below here at (Splits gs j b) d on s t n k o h y z i a = absurd (cc o)
-acts_read laws W m below here at (Locks g j b) d on s t n k o h y z i a = absurd (cc o)
-acts_read laws W m below here at (Freezes x) d on s t n k o h y z i a =
+acts_read laws W m below here at (Splits gs j b) d o h on s t n k y z i a = absurd (cc o)
+acts_read laws W m below here at (Locks g j b) d o h on s t n k y z i a = absurd (cc o)
+acts_read laws W m below here at (Freezes x) d o h on s t n k y z i a =
     let p : Code = m.code in
     let c : Context = here.context in
     let l : AllIn on (statement_uses p here.method (Freezes x) c) = plain_in laws on p here.method at
@@ -246,7 +252,7 @@ acts_read laws W m below here at (Freezes x) d on s t n k o h y z i a =
     (plainly on (statement_uses p here.method (Freezes x) c) n k _ _ l
     (does_alike (Agree on) (frozen x.name s) (frozen x.name t) at n k
     (frozen_alike on s t x.name (in_local on mode.Write x.name l) a)))
-acts_read laws W m below here at (Shares x g) d on s t n k o h y z i a =
+acts_read laws W m below here at (Shares x g) d o h on s t n k y z i a =
     let p : Code = m.code in
     let c : Context = here.context in
     let l : AllIn on (statement_uses p here.method (Shares x g) c) = plain_in laws on p here.method at
@@ -257,7 +263,7 @@ acts_read laws W m below here at (Shares x g) d on s t n k o h y z i a =
     (shared_alike on s t x.name g.name
     (in_local on mode.Write x.name (in_left on (write_use x.name) (whole_group g.name) l))
     (in_group on mode.GroupWhole g.name (in_right on (write_use x.name) (whole_group g.name) l)) a)))
-acts_read laws W m below here at (Prints e) d on s t n k o h y z i a =
+acts_read laws W m below here at (Prints e) d o h on s t n k y z i a =
     let p : Code = m.code in
     let c : Context = here.context in
     let l : AllIn on (statement_uses p here.method (Prints e) c) = plain_in laws on p here.method at
@@ -268,7 +274,7 @@ acts_read laws W m below here at (Prints e) d on s t n k o h y z i a =
     (printed_alike on p here at e s t n k
     (value_alike on p c s t (record { fits = y; agree = a }) e b.0 b.1
     (in_left on (value_uses p c e) (whole_group io) l)) a))
-acts_read laws W m below here at (PrintsText text) d on s t n k o h y z i a =
+acts_read laws W m below here at (PrintsText text) d o h on s t n k y z i a =
     let p : Code = m.code in
     let c : Context = here.context in
     let l : AllIn on (statement_uses p here.method (PrintsText text) c) = plain_in laws on p here.method at
@@ -277,7 +283,7 @@ acts_read laws W m below here at (PrintsText text) d on s t n k o h y z i a =
       agree_on on (with_used (whole_group io) on) s t (used_in on (whole_group io) l) a,
       record { pieces = record { path = here.path; bytes = text } ∷ []; first = refl; second = refl },
     )
-acts_read laws W m below here at (Asserts e) d on s t n k o h y z i a =
+acts_read laws W m below here at (Asserts e) d o h on s t n k y z i a =
     let p : Code = m.code in
     let c : Context = here.context in
     let l : AllIn on (statement_uses p here.method (Asserts e) c) = plain_in laws on p here.method at
@@ -287,7 +293,7 @@ acts_read laws W m below here at (Asserts e) d on s t n k o h y z i a =
     (plainly on (statement_uses p here.method (Asserts e) c) n k _ _ l
     (asserted_alike on p at e s t n k
     (form_alike on p c s t (record { fits = y; agree = a }) e f.Bool b.0 b.1 l) a))
-acts_read laws W m below here at (Returns e) d on s t n k o h y z i a =
+acts_read laws W m below here at (Returns e) d o h on s t n k y z i a =
     let p : Code = m.code in
     let c : Context = here.context in
     let l : AllIn on (statement_uses p here.method (Returns e) c) = plain_in laws on p here.method at

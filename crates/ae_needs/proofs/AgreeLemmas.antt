@@ -24,12 +24,14 @@ use Rattle.ae_needs.proofs.from_semantics.Walked.{SameOn}
 abbrev pub AllIn : (Resource → Bool) → Uses → Type 0
 AllIn on u = (r : Resource) → is_some (u r) ≡ true → on r ≡ true
 
-stronger_left : (o q : Option Mode) → is_some o ≡ true → is_some (stronger o q) ≡ true
+-- What is used first is used by both.
+pub stronger_left : (o q : Option Mode) → is_some o ≡ true → is_some (stronger o q) ≡ true
 stronger_left None q e = absurd (cc e)
 stronger_left (Some m) None e = refl
 stronger_left (Some m) (Some n) e = refl
 
-stronger_right : (o q : Option Mode) → is_some q ≡ true → is_some (stronger o q) ≡ true
+-- What is used second is used by both.
+pub stronger_right : (o q : Option Mode) → is_some q ≡ true → is_some (stronger o q) ≡ true
 stronger_right None q e = e
 stronger_right (Some m) None e = refl
 stronger_right (Some m) (Some n) e = refl
@@ -165,22 +167,23 @@ found_same n c s t h true e own names groups = at_self s ∙ sym (at_self t)
 found_same n c s t h false e own names groups = ap (λ (k : ℕ). if nat_eq n k then c else group_of s h) names
     ∙ ap (λ (o : Option Group). if nat_eq n (name_of t h) then c else o) groups
 
--- Where what there is of a group they agree on is another in both, and no other name, they agree as before.
-pub store_keeps : (on : Resource → Bool) (s t : State) (g : ℕ) (c : Option Group) → on (resource.Group g) ≡ true
+-- Where what there is of a group of one name is another in both, and no other name, they agree as before.
+pub store_keeps : (on : Resource → Bool) (s t : State) (g : ℕ) (c : Option Group) → name_of s g ≡ name_of t g
     → ((h : ℕ) → other_name h c ≡ h) → Agree on s t → Agree on (with_store g c s) (with_store g c t)
 store_keeps on s t g c i own a = record {
   locals = a.locals;
   names = λ h e. name_put (name_of s g) c h (s.groups h) (t.groups h) (a.names h e)
-      ∙ ap (λ (n : ℕ). other_name h (if nat_eq n h then c else t.groups h)) (a.names g i);
-  groups = λ h e. found_same (name_of s g) c s t h (nat_eq (name_of s g) h) refl (own h) (a.names h e) (a.groups h e)
-      ∙ ap (λ (n : ℕ). found_after n c t h (nat_eq n h)) (a.names g i);
+      ∙ ap (λ (n : ℕ). other_name h (if nat_eq n h then c else t.groups h)) i;
+  groups = λ h e.
+      found_same (name_of s g) c s t h (nat_eq (name_of s g) h) refl (own h) (a.names h e) (a.groups h e)
+      ∙ ap (λ (n : ℕ). found_after n c t h (nat_eq n h)) i;
   result = a.result;
 }
 
 -- Where a group they agree on has these members in both, they agree as before.
 pub members_keep : (on : Resource → Bool) (s t : State) (g : ℕ) (st : Store) → on (resource.Group g) ≡ true
     → Agree on s t → Agree on (with_store g (Some (Here st)) s) (with_store g (Some (Here st)) t)
-members_keep on s t g st i a = store_keeps on s t g (Some (Here st)) i (λ h. refl) a
+members_keep on s t g st i a = store_keeps on s t g (Some (Here st)) (a.names g i) (λ h. refl) a
 
 -- Where the same was returned in both, they agree as before.
 pub result_keeps : (on : Resource → Bool) (s t : State) (v : Option Val) → Agree on s t

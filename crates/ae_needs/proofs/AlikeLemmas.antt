@@ -6,7 +6,7 @@ use Rattle.ae_semantics.specs.Places.{Outcome, Fine, Traps, Lacks, ◌>>=◌, St
 use Rattle.ae_semantics.specs.declared.report.Ending.TheVariants.{Trap}
 use Rattle.ae_semantics.specs.declared.report.Piece.{Piece}
 use Rattle.ae_semantics.specs.Observations.{Notes}
-use Rattle.ae_semantics.specs.Runs.{Run, Went, Ends, Stops, outcome_given}
+use Rattle.ae_semantics.specs.Runs.{Run, Went, Ends, Stops, Act, and_then, outcome_given}
 use Rattle.ae_semantics.specs.Meaning.{does}
 use Rattle.ae_needs.specs.Agree.{PrintAlike, GoAlike}
 
@@ -121,3 +121,30 @@ pub does_alike : {W : Type 0} (S : State → State → Type 0) (o q : Outcome St
     → Alike S o q → GoAlike S n k (does at n o) (does at k q)
 does_alike S o q at n k h = outcome_alike S S o q at n k (λ s. Went s n) (λ s. Went s k) h
     (λ s t i. (i, prints_nothing n.log k.log))
+
+-- What goes alike after the same was printed goes alike.
+pub after_prints : {W : Type 0} (S : State → State → Type 0) (n k x y : Notes W) (r q : Run W)
+    → PrintAlike n.log x.log k.log y.log → GoAlike S x y r q → GoAlike S n k r q
+after_prints S n k x y (Went s u) (Went t v) h i = (i.0, prints_then n.log x.log u.log k.log y.log v.log h i.1)
+after_prints S n k x y (Went s u) (Ends e v) h i = absurd i
+after_prints S n k x y (Went s u) (Stops v) h i = absurd i
+after_prints S n k x y (Ends e u) (Went t v) h i = absurd i
+after_prints S n k x y (Ends e u) (Ends f v) h i = (i.0, prints_then n.log x.log u.log k.log y.log v.log h i.1)
+after_prints S n k x y (Ends e u) (Stops v) h i = absurd i
+after_prints S n k x y (Stops u) (Went t v) h i = absurd i
+after_prints S n k x y (Stops u) (Ends e v) h i = absurd i
+after_prints S n k x y (Stops u) (Stops v) h i = prints_then n.log x.log u.log k.log y.log v.log h i
+
+-- First they go alike, and then what follows does.
+pub runs_then : {W : Type 0} (R S : State → State → Type 0) (n k : Notes W) (r q : Run W) (go other : Act W)
+    → GoAlike R n k r q → ((s t : State) (x y : Notes W) → R s t → GoAlike S x y (go s x) (other t y))
+    → GoAlike S n k (and_then r go) (and_then q other)
+runs_then R S n k (Went s x) (Went t y) go other h f = after_prints S n k x y (go s x) (other t y) h.1 (f s t x y h.0)
+runs_then R S n k (Went s x) (Ends e y) go other h f = absurd h
+runs_then R S n k (Went s x) (Stops y) go other h f = absurd h
+runs_then R S n k (Ends e x) (Went t y) go other h f = absurd h
+runs_then R S n k (Ends e x) (Ends g y) go other h f = h
+runs_then R S n k (Ends e x) (Stops y) go other h f = absurd h
+runs_then R S n k (Stops x) (Went t y) go other h f = absurd h
+runs_then R S n k (Stops x) (Ends e y) go other h f = absurd h
+runs_then R S n k (Stops x) (Stops y) go other h f = h

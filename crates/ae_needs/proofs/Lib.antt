@@ -12,3 +12,12 @@ mod RightLemmas
 mod NewLemmas
 mod SetLemmas
 mod ActLemmas
+mod ArgumentLemmas
+mod EnterLemmas
+mod LeaveLemmas
+mod CallLemmas
+mod BlockLemmas
+mod StateLemmas
+mod LineLemmas
+mod WholeLemmas
+mod BodyLemmas

@@ -161,7 +161,8 @@ unknown_agrees on p c s t g y z n a = record {
   ];
   groups = λ h e. elim (in_or_used on (whole_group g) (resource.Group h) e) [
     | inl i ↦ a.groups h i
-    | inr i ↦ subst (λ r. group_of s (named r) ≡ group_of t (named r)) (sym (group_alone g (resource.Group h) i)) one_group
+    | inr i ↦ subst (λ r. group_of s (named r) ≡ group_of t (named r)) (sym (group_alone g
+        (resource.Group h) i)) one_group
   ];
   result = a.result;
 }

@@ -3,4 +3,4 @@
 
 mod laws;
 
-pub use laws::acts_read_what_they_use;
+pub use laws::{acts_read_what_they_use, calls_read_what_they_use, statements_read_what_they_use};
