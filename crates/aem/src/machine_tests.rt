@@ -156,22 +156,22 @@ const CASES: [Case; 32] = [
         text: "== fuel at 5:1\n",
     },
     Case {
-        source: "method int f(int n) {\nif n < 1 { return 0; }\nlet int r = f(n - 1);\nreturn r + 1;\n}\nmethod void main() with exclusive io {\nlet int r = f(3);\nprint r;\n}\n",
+        source: "method int f(int n) {\nlet int r = n;\nif n > 0 {\nlet int a = f(n - 1);\nr = a + 1;\n}\nreturn r;\n}\nmethod void main() with exclusive io {\nlet int r = f(3);\nprint r;\n}\n",
         ints: &[],
         fuel: 4,
         text: "3\n== done\n",
     },
     Case {
-        source: "method int f(int n) {\nif n < 1 { return 0; }\nlet int r = f(n - 1);\nreturn r + 1;\n}\nmethod void main() with exclusive io {\nlet int r = f(3);\nprint r;\n}\n",
+        source: "method int f(int n) {\nlet int r = n;\nif n > 0 {\nlet int a = f(n - 1);\nr = a + 1;\n}\nreturn r;\n}\nmethod void main() with exclusive io {\nlet int r = f(3);\nprint r;\n}\n",
         ints: &[],
         fuel: 3,
-        text: "== fuel at 3:1\n",
+        text: "== fuel at 4:1\n",
     },
     Case {
-        source: "method int f(int n) {\nif n < 1 { return 0; }\nlet int r = f(n - 1);\nreturn r + 1;\n}\nmethod void main() with exclusive io {\nlet int r = f(3);\nprint r;\n}\n",
+        source: "method int f(int n) {\nlet int r = n;\nif n > 0 {\nlet int a = f(n - 1);\nr = a + 1;\n}\nreturn r;\n}\nmethod void main() with exclusive io {\nlet int r = f(3);\nprint r;\n}\n",
         ints: &[],
         fuel: 0,
-        text: "== fuel at 7:1\n",
+        text: "== fuel at 10:1\n",
     },
     Case {
         source: "method void f(int n) { }\nmethod void main() {\nf(1 / 0);\n}\n",
